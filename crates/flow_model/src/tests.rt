@@ -11,7 +11,7 @@ fn finds_the_errors_of_a_source(rt: HostRuntime) -> Result<(), Fail> {
     let fault = errs.faults.get(0).ok_or("a fault")?;
     assert_eq!(rt; fault.span, Span { start: 25, end: 28 });
     assert_eq!(rt; fault.code.name(), "incompatible-type");
-    assert_eq!(rt; fault.details.as_bytes(), b"\"a\" number");
+    assert_eq!(rt; fault.details.as_bytes(), b"\"a\" number".as_slice());
     Ok(())
 }
 
