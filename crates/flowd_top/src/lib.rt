@@ -1,0 +1,17 @@
+//! The program's top call.
+#![tactic(auto)]
+
+mod loading;
+mod printing;
+mod sinks;
+mod status;
+mod top;
+mod words;
+
+pub use loading::{Loaded, load};
+pub use status::Status;
+pub use top::flowd;
+pub use words::root_word;
+
+#[cfg(test)]
+mod tests;
