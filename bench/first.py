@@ -4,14 +4,13 @@
     bench/first.py [MODULES ..]        (512 and 4096 where no number is given)
 
 It writes a folder of that many modules with 250 lines each, about 10 kilobytes a module, spread over sub-folders of
-64, reads all once so that the cache is warm, and then runs `cat` and `flowd` in turn, eleven times each. It prints the
-median times, modules and megabytes a second, the ratio of the two times, and the peak of memory; with two numbers
-or more also how the time for each module grows from the first number to the last.
+64, reads all once so that the cache is warm, and then runs `cat` and `flowd` in turn, fifteen times each. It prints
+the shortest times, modules and megabytes a second, the ratio of the two times, and the peak of memory; with two
+numbers or more also how the time for each module grows from the first number to the last.
 """
 
 import os
 import shutil
-import statistics
 import subprocess
 import sys
 import tempfile
@@ -20,27 +19,26 @@ import time
 TOP = os.path.dirname(os.path.dirname(os.path.abspath(__file__)))
 LINES = 250
 FOLDER = 64
-RUNS = 11
-VALUES = (("number", "123456789012345"), ("string", '"some text"'), ("boolean", "false"))
+RUNS = 15
+VALUES = (("number", "12345"), ("string", "\"text\""), ("boolean", "false"))
 
 
-def module(number):
+def module():
     """The text of a module without errors."""
     lines = []
     for line in range(LINES):
         kind, value = VALUES[line % len(VALUES)]
-        lines.append(f"export const {kind}_{number}_{line}: {kind} = {value};\n")
+        lines.append(f"export const {kind}{line}: {kind} = {value};\n")
     return "".join(lines)
 
 
 def write(root, count):
     """Writes a folder of so many modules, and returns their files and the number of their bytes."""
-    files, size = [], 0
+    files, size, text = [], 0, module()
     for number in range(count):
         folder = f"{root}/part{number // FOLDER}"
         os.makedirs(folder, exist_ok=True)
         files.append(f"{folder}/module{number}.js")
-        text = module(number)
         size += len(text)
         with open(files[-1], "w", encoding="ascii") as file:
             file.write(text)
@@ -72,7 +70,7 @@ def measure(program, count, room):
             seconds, memory, _ = run([program, root], sink)
             flowds.append(seconds)
             peak = max(peak, memory)
-    cat, flowd = statistics.median(cats), statistics.median(flowds)
+    cat, flowd = min(cats), min(flowds)
     print(f"{count} modules of {LINES} lines, {size / 1e6:.1f} MB")
     print(f"  cat    {cat * 1000:8.1f} ms")
     print(f"  flowd  {flowd * 1000:8.1f} ms   {count / flowd:8.0f} modules/s   {size / 1e6 / flowd:6.1f} MB/s")
@@ -83,7 +81,8 @@ def measure(program, count, room):
 
 def main():
     counts = [int(word) for word in sys.argv[1:]] or [512, 4096]
-    if subprocess.run([f"{TOP}/flowd", "--build"]).returncode:
+    # Where the program isn't built, this builds it: without words it ends with status 64.
+    if subprocess.run([f"{TOP}/flowd"], stdin=subprocess.DEVNULL, stdout=subprocess.DEVNULL).returncode != 64:
         sys.exit("the program was not built")
     program = f"{TOP}/crates/flowd/out/flowd"
     room = tempfile.mkdtemp(prefix="flowd-bench-")
