@@ -98,7 +98,7 @@ impl<R: Read + Drop> Source for StdinSource<R> {
 #[cfg(test)]
 mod tests {
     use super::*;
-    use core::fmt::Display;
+    use std::fmt::Display;
     use std::test::Fail;
 
     // An output that takes nothing: it answers 0, or fails where it is broken.
