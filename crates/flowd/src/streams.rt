@@ -14,7 +14,9 @@ pub struct StdoutSink<'a, P: Print> {
 
 impl<'a, P: Print> StdoutSink<'a, P> {
     /// The standard output of this runtime.
-    pub fn new(rt: &'a P) -> StdoutSink<'a, P> {
+    pub fn new(rt: &'a P) -> StdoutSink<'a, P>
+        ensures { result.faults ≡ 0 }
+    {
         StdoutSink { rt, faults: 0 }
     }
 }
@@ -60,7 +62,9 @@ pub struct StdinSource<R: Read + Drop> {
 
 impl<R: Read + Drop> StdinSource<R> {
     /// The bytes of this reader.
-    pub fn new(inner: R) -> StdinSource<R> {
+    pub fn new(inner: R) -> StdinSource<R>
+        ensures { result.faults ≡ 0 }
+    {
         StdinSource { inner, faults: 0 }
     }
 }
