@@ -1,11 +1,10 @@
 -- Lines that are read in parts.
-use Rattle.std.proofs.Common.{◌≡◌, ℕ, ◌==◌, ◌<◌, ◌≤◌, List, [], ◌∷◌, ◌++◌, length, Option, Some, None, refl, sym, ap, ◌∙◌, inl, inr, subst, ◌+◌, ◌*◌, ◌-◌, append_assoc, arith, length-append, Bool, true, false, All, if◌then◌else◌}
+use Rattle.std.proofs.Common.{◌≡◌, ℕ, ◌==◌, ◌<◌, ◌≤◌, List, [], ◌∷◌, ◌++◌, length, Option, Some, None, refl, sym, ap, ◌∙◌, subst, ◌+◌, ◌*◌, ◌-◌, append_assoc, arith, length-append, Bool, true, false, if◌then◌else◌}
 use Rattle.std.specs.Option.{option_map}
 use Rattle.std.specs.List.{onto_first}
 use Rattle.std.proofs.lemmas.List.{append-nil}
 use Rattle.std.proofs.lemmas.List.Elements.{All-head, All-tail}
 use Rattle.flow_base.specs.Program.{Bytes}
-use Rattle.flow_base.specs.Outside.{WhereTold}
 use Rattle.script_reader.specs.declared.reader.Step.{Step}
 use Rattle.script_reader.specs.declared.reader.Step.TheVariants.{More, Line, End}
 use Rattle.script_reader.specs.Steps.{Steps, Reads}

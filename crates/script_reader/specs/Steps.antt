@@ -1,6 +1,5 @@
 -- What a step of reading a line does: the bytes of the line so far, and the lines that are left.
-use Rattle.std.specs.Prelude.{◌≡◌, ◌<◌, ℕ, List, ◌∷◌, ◌++◌, length, Option}
-use Rattle.std.specs.Option.{option_map}
+use Rattle.std.specs.Prelude.{◌≡◌, ◌<◌, List, ◌++◌, length, Option}
 use Rattle.flow_base.specs.Program.{Bytes}
 use Rattle.script_reader.specs.declared.reader.Step.{Step}
 use Rattle.script_reader.specs.declared.reader.Step.TheVariants.{More, Line, End}

@@ -1,5 +1,5 @@
 -- What is taken from the bytes that were read ahead.
-use Rattle.std.specs.Prelude.{◌≡◌, List, [], ◌∷◌, ◌++◌, Bool, true, false}
+use Rattle.std.specs.Prelude.{◌≡◌, [], ◌∷◌, ◌++◌, Bool, true, false}
 use Rattle.flow_base.specs.Program.{Bytes}
 use Rattle.script_reader.specs.Lines.{FEED, HasNoFeed}
 
