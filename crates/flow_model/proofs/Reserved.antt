@@ -180,7 +180,7 @@ reserved_of_10 name is =
     let no_7 : is_among name RESERVED_7 ≡ false = none_of_7 name (ap (λ n. n == 7) is) in
     let no_8 : is_among name RESERVED_8 ≡ false = none_of_8 name (ap (λ n. n == 8) is) in
     let no_9 : is_among name RESERVED_9 ≡ false = none_of_9 name (ap (λ n. n == 9) is) in
-    among_parts name ∙ simp (no_2, no_3, no_4, no_5, no_6, no_7, no_8, no_9, or_false) refl
+    among_parts name ∙ simp (no_2, no_3, no_4, no_5, no_6, no_7, no_8, no_9) refl
 
 pub reserved_of_none : (name : Bytes) → length name ≢ 2 → length name ≢ 3 → length name ≢ 4 → length name ≢ 5 → length name ≢ 6 → length name ≢ 7 → length name ≢ 8 → length name ≢ 9 → length name ≢ 10 → is_among name RESERVED ≡ false
 reserved_of_none name not_2 not_3 not_4 not_5 not_6 not_7 not_8 not_9 not_10 =

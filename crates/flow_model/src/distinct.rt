@@ -2,13 +2,13 @@ ghost use Rattle.std.specs.Prelude.{◌≡◌, map, IfOk};
 ghost use Rattle.flow_model.specs.FirstForm.{are_distinct};
 ghost use Rattle.flow_model.specs.Reading.{declared};
 
-use crate::Line;
+use crate::lines::Line;
 use flow_values::NoMemory;
 use std::alloc::Global;
 use std::collections::BTreeSet;
 
-/// Whether each line's name differs from those of the others, in about as many steps as there are
-/// names and comparisons in a search tree of them.
+// Whether each line's name differs from those of the others. The names so far are kept in order, so
+// that no name is compared with all of them.
 pub fn are_distinct(alloc: Global, lines: &[Line<'_>]) -> Result<bool, NoMemory>
     ensures { IfOk result (λ distinct. distinct ≡ are_distinct (map (λ d. d.name) (map declared lines.now))) }
 {

@@ -5,8 +5,8 @@ ghost use Rattle.flow_model.specs.Reading.{source_lines, rows_of, declared};
 ghost use Rattle.flow_model.specs.Errors.{fault_of, faults_from, errors1, AreErrors, NOT_BUILT};
 
 use crate::distinct::are_distinct;
-use crate::lines::line_of;
-use crate::{Code, Errs, Fault, Line};
+use crate::lines::{Line, line_of};
+use crate::{Code, Errs, Fault};
 use flow_values::{List, NoMemory, Span, Text};
 use std::alloc::Global;
 

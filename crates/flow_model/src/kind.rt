@@ -1,7 +1,7 @@
 ghost use Rattle.std.specs.Prelude.{◌≡◌};
 ghost use Rattle.flow_model.specs.FirstForm.{kind_word, same_kind};
 
-/// The types of the first form.
+// The types of the first form.
 #[derive(Clone, Copy, Debug, PartialEq, Eq)]
 pub enum Kind {
     Number,
@@ -10,7 +10,7 @@ pub enum Kind {
 }
 
 impl Kind {
-    /// The word of the type in a source: `number`, `string` or `boolean`.
+    // The word of the type in a source: `number`, `string` or `boolean`.
     pub fn word(self) -> &'static [u8]
         ensures { result.now ≡ kind_word self }
     {
@@ -21,7 +21,7 @@ impl Kind {
         }
     }
 
-    /// Whether both are one type.
+    // Whether both are one type.
     pub fn is_same(self, other: Kind) -> bool
         ensures { result ≡ same_kind self other }
     {

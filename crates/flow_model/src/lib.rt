@@ -11,9 +11,7 @@ mod names;
 
 pub use errors::check1;
 pub use fault::{Code, Errs, Fault};
-pub use kind::Kind;
 pub use laws::{one_answer, one_reading};
-pub use lines::{Line, line_of};
 
 #[cfg(test)]
 mod tests;

@@ -4,11 +4,11 @@ ghost use Rattle.std.specs.Option.{option_map};
 ghost use Rattle.flow_model.specs.FirstForm.{is_digit, is_plain, is_number};
 ghost use Rattle.flow_model.specs.Reading.{closes_string, is_string, literal_kind, after, before_mark, kind_at, with_literal, after_kind, after_name, line_of, declared};
 
-use crate::Kind;
+use crate::kind::Kind;
 use crate::names::{is_digit, is_name, name_len, same_bytes};
 
-/// A line of a source of the first form, `export const NAME: TYPE = LITERAL;`: its name, its type,
-/// its literal, and the type that the literal is of.
+// A line of a source of the first form, `export const NAME: TYPE = LITERAL;`: its name, its type,
+// its literal, and the type that the literal is of.
 #[derive(Clone, Copy, Debug)]
 pub struct Line<'a> {
     pub name: &'a [u8],
@@ -20,7 +20,7 @@ pub struct Line<'a> {
 fn is_plain(b: u8) -> bool
     ensures { result ≡ is_plain b }
 {
-    b >= 32 && b <= 126 && !(b == 34) && !(b == 92)
+    matches!(b, b' '..=b'~') && b != b'"' && b != b'\\'
 }
 
 fn all_digits(bytes: &[u8]) -> bool
@@ -46,7 +46,7 @@ fn closes_string(bytes: &[u8]) -> bool
     let mut rest = bytes;
     while let [first, more @ ..] = rest {
         if more.is_empty() {
-            return *first == 34;
+            return *first == b'"';
         }
         if !is_plain(*first) {
             return false;
@@ -61,7 +61,7 @@ fn is_string(bytes: &[u8]) -> bool
 {
     match bytes {
         [] => false,
-        [first, more @ ..] => *first == 34 && closes_string(more),
+        [first, more @ ..] => *first == b'"' && closes_string(more),
     }
 }
 
@@ -84,21 +84,13 @@ fn literal_kind(bytes: &[u8]) -> Option<Kind>
 fn after<'a>(prefix: &[u8], bytes: &'a [u8]) -> Option<&'a [u8]>
     ensures { option_map (λ rest. rest.now) result ≡ after prefix.now bytes.now }
 {
-    if bytes.starts_with(prefix) {
-        Some(&bytes[prefix.len()..])
-    } else {
-        None
-    }
+    bytes.strip_prefix(prefix)
 }
 
 fn before_mark(bytes: &[u8]) -> Option<&[u8]>
     ensures { option_map (λ rest. rest.now) result ≡ before_mark bytes.now }
 {
-    if bytes.ends_with(b";") {
-        Some(&bytes[..bytes.len() - 1])
-    } else {
-        None
-    }
+    bytes.strip_suffix(b";")
 }
 
 fn kind_at(bytes: &[u8]) -> Option<(Kind, &[u8])>
@@ -156,7 +148,7 @@ fn after_name<'a>(name: &'a [u8], rest: &'a [u8]) -> Option<Line<'a>>
     }
 }
 
-/// What a line declares, which is given without its LF, or `None` where it is no declaration.
+// What a line declares, which is given without its LF, or `None` where it is no declaration.
 pub fn line_of(line: &[u8]) -> Option<Line<'_>>
     ensures { option_map declared result ≡ line_of line.now }
 {

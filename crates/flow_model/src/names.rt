@@ -11,13 +11,13 @@ pub fn same_bytes(a: &[u8], b: &[u8]) -> bool
 pub fn is_digit(b: u8) -> bool
     ensures { result ≡ is_digit b }
 {
-    b >= 48 && b <= 57
+    matches!(b, b'0'..=b'9')
 }
 
 fn starts_name(b: u8) -> bool
     ensures { result ≡ starts_name b }
 {
-    b >= 65 && b <= 90 || b >= 97 && b <= 122 || b == 95 || b == 36
+    matches!(b, b'A'..=b'Z' | b'a'..=b'z' | b'_' | b'$')
 }
 
 fn goes_on_name(b: u8) -> bool

@@ -8,7 +8,6 @@ mod status;
 mod top;
 mod words;
 
-pub use loading::{Loaded, load};
 pub use status::Status;
 pub use top::flowd;
 pub use words::root_word;

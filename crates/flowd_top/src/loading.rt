@@ -1,27 +1,22 @@
 ghost use Rattle.std.specs.Prelude.{◌≡◌, ◌≤◌, ◌+◌, IfOk, IsErrOf};
 ghost use Rattle.flow_base.specs.Causes.{Rose};
-ghost use Rattle.flow_base.specs.Program.{IsRising};
 ghost use Rattle.flowd_top.specs.Load.{IsLoad, HasRead, modules_of, errors_of};
 
 use flow_base::{Folder, FolderFault, NoMemory, Path, Text};
 use flow_model::check1;
 use std::alloc::Global;
 
-/// What the load of a folder found.
+// What the load of a folder found.
 #[derive(Clone, Copy, Debug, PartialEq, Eq)]
 pub struct Loaded {
-    /// The number of modules.
+    // The number of modules.
     pub modules: u64,
-    /// The number of errors of all modules.
+    // The number of errors of all modules.
     pub errors: u64,
 }
 
-/// Reads each module of the folder, in the order of their paths, and checks it. A path that the
-/// folder lacks at its reading is no module. No text is kept.
-///
-/// # Errors
-///
-/// `Failed` where the folder failed, `NoMemory` where memory is refused.
+// Reads each module of the folder, in the order of their paths, and checks it. A path that the folder
+// lacks at its reading is no module. No text is kept.
 #[tactic(auto, using(crate::proofs::Reading::is_load))]
 pub fn load<F: Folder>(alloc: Global, folder: &mut F) -> Result<Loaded, FolderFault>
     ensures load { IfOk result (λ loaded. IsLoad (F.told folder.old) loaded.modules loaded.errors) }

@@ -2,7 +2,7 @@ ghost use Rattle.std.specs.Prelude.{◌≡◌, string_bytes, IfOk};
 ghost use Rattle.flowd_top.specs.Words.{usage_line};
 ghost use Rattle.flowd_top.specs.Run.{done_line};
 
-use crate::Loaded;
+use crate::loading::Loaded;
 use flow_base::NoMemory;
 use std::alloc::Global;
 
