@@ -1,0 +1,5 @@
+pub mod Characters
+pub mod Numbers
+pub mod Strings
+pub mod Pieces
+pub mod Reading

@@ -1,0 +1,5 @@
+//! The pieces of a source: blanks, words, numbers, strings and marks, each read where it begins.
+#![tactic(auto)]
+
+mod characters;
+mod numbers;
