@@ -1,4 +1,5 @@
 pub mod Characters
+pub mod Marks
 pub mod Numbers
 pub mod Strings
 pub mod Pieces

@@ -3,8 +3,6 @@ use Rattle.std.specs.Prelude.{ℕ, ◌+◌, ◌<◌, Bool, true, false, ◌&&◌
 use Rattle.std.specs.List.{list_all, prefix_len}
 use Rattle.std.specs.Option.{option_map, option_or}
 use Rattle.std.specs.Char.{is_ascii_digit, is_digit, IsScalar}
-use Rattle.js_token.specs.declared.punct.Punct.{Punct}
-use Rattle.js_token.specs.declared.punct.Punct.TheVariants.{OpenBrace, CloseBrace, OpenParen, CloseParen, OpenBracket, CloseBracket, Dot, Ellipsis, Comma, Semicolon, Colon, Question, QuestionQuestion, Arrow, Assign, StrictEqual, StrictNotEqual, LooseEqual, LooseNotEqual, LessThan, GreaterThan, LessOrEqual, GreaterOrEqual, Plus, PlusPlus, Minus, MinusMinus, Star, Slash, Percent, Bang, AndAnd, OrOr, Bar}
 use Rattle.lex_pieces.specs.Characters.{continues_word, goes_on, ends_line, LF}
 use Rattle.lex_pieces.specs.Numbers.{is_exponent_mark, base_of}
 use Rattle.lex_pieces.specs.Strings.{hex_value, named_escape, starts_with_digit}

@@ -2,4 +2,5 @@
 #![tactic(auto)]
 
 mod characters;
+mod marks;
 mod numbers;
