@@ -1,5 +1,6 @@
 -- The longest mark at the front of a text.
 use Rattle.std.specs.Prelude.{ℕ, Bool, true, false, ◌&&◌, ◌==◌, List, [], ◌∷◌, Option, Some, None, if◌then◌else◌}
+use Rattle.std.specs.Option.{option_or}
 use Rattle.js_token.specs.declared.punct.Punct.{Punct}
 use Rattle.js_token.specs.declared.punct.Punct.TheVariants.{OpenBrace, CloseBrace, OpenParen, CloseParen, OpenBracket, CloseBracket, Dot, Ellipsis, Comma, Semicolon, Colon, Question, QuestionQuestion, Arrow, Assign, StrictEqual, StrictNotEqual, LooseEqual, LooseNotEqual, LessThan, GreaterThan, LessOrEqual, GreaterOrEqual, Plus, PlusPlus, Minus, MinusMinus, Star, Slash, Percent, Bang, AndAnd, OrOr, Bar}
 
@@ -46,3 +47,22 @@ mark_of_three a b c =
     if (a == 46) && (b == 46) && (c == 46) then Some Ellipsis else
     if (a == 61) && (b == 61) && (c == 61) then Some StrictEqual else
     if (a == 33) && (b == 61) && (c == 61) then Some StrictNotEqual else None
+
+-- a value and how many characters are written for it
+abbrev pub with_len : {A : Type 0} → ℕ → Option A → Option (A × ℕ)
+with_len len None = None
+with_len len (Some a) = Some (a, len)
+
+-- the longest mark that begins with these characters, and its length
+unfoldable pub longest_of_two : ℕ → ℕ → Option (Punct × ℕ)
+longest_of_two a b = option_or (with_len 2 (mark_of_two a b)) (with_len 1 (mark_of_one a))
+
+unfoldable pub longest_of_three : ℕ → ℕ → ℕ → Option (Punct × ℕ)
+longest_of_three a b c = option_or (with_len 3 (mark_of_three a b c)) (longest_of_two a b)
+
+-- the longest mark at the front of a text
+abbrev pub mark_at : List ℕ → Option (Punct × ℕ)
+mark_at [] = None
+mark_at (a ∷ []) = with_len 1 (mark_of_one a)
+mark_at (a ∷ b ∷ []) = longest_of_two a b
+mark_at (a ∷ b ∷ c ∷ cs) = longest_of_three a b c

@@ -33,7 +33,7 @@ IsWord text = (c : ℕ) × (cs : List ℕ) × (text ≡ c ∷ cs) × IsTrue (sta
 abbrev pub IsToken : TokenKind → List ℕ → List ℕ → Type 0
 IsToken (Name name) text rest = IsWord text × (name ≡ encode_utf8_all text)
 IsToken (Number number) text rest = IsNumber text rest × (number ≡ encode_utf8_all text)
-IsToken (Str value) text rest = (decoded : List ℕ) × IsString text decoded × (value ≡ encode_utf8_all decoded)
+IsToken (Str value) text rest = (decoded : List ℕ) × IsString text decoded rest × (value ≡ encode_utf8_all decoded)
 IsToken (Punct mark) text rest = text ≡ spelling mark
 
 -- a piece is a blank, or a token of this kind

@@ -1,6 +1,6 @@
 -- The spelling of strings, and what they decode to.
 use Rattle.std.specs.Prelude.{◌≡◌, ◌≢◌, ℕ, ◌+◌, ◌*◌, ◌<◌, Bool, true, false, ◌||◌, ◌==◌, not, ◌⊎◌, List, [], ◌∷◌, ◌++◌, Option, Some, None, IsTrue, codes, length, map, if◌then◌else◌}
-use Rattle.std.specs.List.{list_all, flat_map}
+use Rattle.std.specs.List.{list_all, flat_map, fold}
 use Rattle.std.specs.Char.{is_ascii_digit, is_digit, digit_value, IsScalar}
 use Rattle.lex_pieces.specs.Characters.{ends_line, is_quote}
 
@@ -9,13 +9,9 @@ pub record Part : Type 0 where
   pub written : List ℕ
   pub value : ℕ
 
--- the number that hexadecimal digits spell, behind those that spell `high`
-abbrev pub hex_value_from : ℕ → List ℕ → ℕ
-hex_value_from high [] = high
-hex_value_from high (d ∷ ds) = hex_value_from (high * 16 + digit_value d) ds
-
+-- the number that hexadecimal digits spell
 abbrev pub hex_value : List ℕ → ℕ
-hex_value ds = hex_value_from 0 ds
+hex_value ds = fold (λ high d. high * 16 + digit_value d) 0 ds
 
 -- hexadecimal digits that spell the code of a character, which no surrogate is
 abbrev pub AreHexOf : List ℕ → ℕ → Type 0
@@ -61,6 +57,6 @@ AreParts quote [] rest = Unit {0}
 AreParts quote (part ∷ parts) rest = IsPart quote part (written parts ++ rest) × AreParts quote parts rest
 
 -- a string is a quote, the parts of these characters, and the quote again
-abbrev pub IsString : List ℕ → List ℕ → Type 0
-IsString text value = (quote : ℕ) × (parts : List Part) × IsTrue (is_quote quote) × AreParts quote parts (quote ∷ [])
+abbrev pub IsString : List ℕ → List ℕ → List ℕ → Type 0
+IsString text value rest = (quote : ℕ) × (parts : List Part) × IsTrue (is_quote quote) × AreParts quote parts (quote ∷ rest)
     × (text ≡ quote ∷ written parts ++ quote ∷ []) × (value ≡ map (λ part. part.value) parts)

@@ -2,5 +2,6 @@
 #![tactic(auto)]
 
 mod characters;
+mod escapes;
 mod marks;
 mod numbers;

@@ -1,7 +1,40 @@
 ghost use Rattle.std.specs.Prelude.{◌≡◌};
-ghost use Rattle.lex_pieces.specs.Marks.{mark_of_one, mark_of_two, mark_of_three};
+ghost use Rattle.lex_pieces.specs.Marks.{mark_of_one, mark_of_two, mark_of_three, mark_at, longest_of_two, longest_of_three, with_len};
 
 use js_token::Punct;
+
+/// The longest mark at the front of a text, and its length.
+pub fn mark_at(text: &[char]) -> Option<(Punct, usize)>
+    ensures { result ≡ mark_at text.now }
+{
+    match text {
+        [] => None,
+        [a] => with_len(1, mark_of_one(*a)),
+        [a, b] => longest_of_two(*a, *b),
+        [a, b, c, ..] => longest_of_three(*a, *b, *c),
+    }
+}
+
+#[tactic(auto, unfolding(crate::specs::Marks::longest_of_three))]
+fn longest_of_three(a: char, b: char, c: char) -> Option<(Punct, usize)>
+    ensures { result ≡ longest_of_three a b c }
+{
+    with_len(3, mark_of_three(a, b, c)).or(longest_of_two(a, b))
+}
+
+#[tactic(auto, unfolding(crate::specs::Marks::longest_of_two))]
+fn longest_of_two(a: char, b: char) -> Option<(Punct, usize)>
+    ensures { result ≡ longest_of_two a b }
+{
+    with_len(2, mark_of_two(a, b)).or(with_len(1, mark_of_one(a)))
+}
+
+// A mark with its length.
+fn with_len(len: usize, mark: Option<Punct>) -> Option<(Punct, usize)>
+    ensures { result ≡ with_len len mark }
+{
+    Some((mark?, len))
+}
 
 fn mark_of_one(a: char) -> Option<Punct>
     ensures { result ≡ mark_of_one a }
