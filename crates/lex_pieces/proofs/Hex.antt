@@ -34,9 +34,9 @@ none_past code ds h = rw (past (fold step code ds) (omega (arith, grows code ds)
 
 held : (code : ℕ) (ds : List ℕ) → behind (min code 1114112) ds ≡ behind code ds
 held code ds =
-    elim (cases_lt code 1114112)
-    [ inl h ↦ ap (λ n. behind n ds) (omega arith)
-    | inr h ↦ none_past (min code 1114112) ds (omega arith) ∙ sym (none_past code ds h)
+    elim (cases_lt code 1114112) [
+      | inl h ↦ ap (λ n. behind n ds) (omega arith)
+      | inr h ↦ none_past (min code 1114112) ds (omega arith) ∙ sym (none_past code ds h)
     ]
 
 pub more : (code i : ℕ) (ds : List ℕ) → i < length ds → digit_value (get_or ds i 0) < 16 →

@@ -1,2 +1,4 @@
 pub mod Ascii
+pub mod Closing
+pub mod Encoding
 pub mod Hex

@@ -1,4 +1,4 @@
--- How far each kind of piece reaches from the front of a text. A length of 0 says that there is none.
+-- How far a number reaches from the front of a text. A length of 0 says that there is none.
 use Rattle.std.specs.Prelude.{ℕ, ◌+◌, ◌<◌, Bool, true, false, ◌&&◌, ◌||◌, ◌==◌, not, List, [], ◌∷◌, Option, Some, None, length, take, drop, if◌then◌else◌, nat_lt}
 use Rattle.std.specs.List.{list_all, prefix_len}
 use Rattle.std.specs.Option.{option_map, option_or}

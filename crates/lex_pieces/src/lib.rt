@@ -2,6 +2,10 @@
 #![tactic(auto)]
 
 mod characters;
+mod comments;
 mod escapes;
 mod marks;
 mod numbers;
+mod piece;
+mod start;
+mod words;
