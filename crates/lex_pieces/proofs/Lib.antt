@@ -3,5 +3,8 @@ pub mod Closing
 pub mod Encoding
 pub mod Hex
 pub mod MarkLemmas
+pub mod NumberLemmas
+pub mod PartLemmas
 pub mod Runs
 pub mod Starting
+pub mod StringReads

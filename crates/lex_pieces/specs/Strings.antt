@@ -1,7 +1,8 @@
 -- The spelling of strings, and what they decode to.
-use Rattle.std.specs.Prelude.{◌≡◌, ◌≢◌, ℕ, ◌+◌, ◌*◌, ◌<◌, Bool, true, false, ◌||◌, ◌==◌, not, ◌⊎◌, List, [], ◌∷◌, ◌++◌, Option, Some, None, IsTrue, codes, length, map, if◌then◌else◌}
+use Rattle.std.specs.Prelude.{◌≡◌, ◌≢◌, ℕ, ◌+◌, ◌*◌, ◌<◌, Bool, true, false, ◌||◌, ◌==◌, not, ◌⊎◌, List, [], ◌∷◌, ◌++◌, Option, Some, None, IsTrue, codes, length, map, take, drop, ◌≤◌, if◌then◌else◌}
 use Rattle.std.specs.List.{list_all, flat_map, fold}
 use Rattle.std.specs.Char.{is_ascii_digit, is_digit, digit_value, IsScalar}
+use Rattle.std.specs.Str.{encode_utf8_all}
 use Rattle.lex_pieces.specs.Characters.{ends_line, is_quote}
 
 -- One character of a string: what is written for it, and the character.
@@ -60,3 +61,14 @@ AreParts quote (part ∷ parts) rest = IsPart quote part (written parts ++ rest)
 abbrev pub IsString : List ℕ → List ℕ → List ℕ → Type 0
 IsString text value rest = (quote : ℕ) × (parts : List Part) × IsTrue (is_quote quote) × AreParts quote parts (quote ∷ rest)
     × (text ≡ quote ∷ written parts ++ quote ∷ []) × (value ≡ map (λ part. part.value) parts)
+
+-- from the quote at the front of the text to the place `at` stand the parts of characters with this UTF-8
+abbrev pub ReadsParts : ℕ → List ℕ → ℕ → List ℕ → Type 0
+ReadsParts quote text at value = (parts : List Part) × (text ≡ quote ∷ written parts ++ drop at text)
+    × AreParts quote parts (drop at text) × (value ≡ encode_utf8_all (map (λ part. part.value) parts))
+
+-- the string at the front of a text, by its UTF-8 and its length, or None where none begins there
+abbrev pub IsStringRead : List ℕ → Option (List ℕ × ℕ) → Type 0
+IsStringRead text None = (t v r : List ℕ) → text ≡ t ++ r → IsString t v r → ⊥
+IsStringRead text (Some found) = (0 < found.1) × (found.1 ≤ length text)
+    × ((value : List ℕ) × IsString (take found.1 text) value (drop found.1 text) × (found.0 ≡ encode_utf8_all value))

@@ -6,6 +6,7 @@ mod comments;
 mod escapes;
 mod marks;
 mod numbers;
-mod piece;
+
 mod start;
+
 mod words;
