@@ -1,5 +1,6 @@
 pub mod Ascii
 pub mod Closing
+pub mod CommentLemmas
 pub mod Encoding
 pub mod Hex
 pub mod MarkLemmas

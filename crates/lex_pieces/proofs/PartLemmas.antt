@@ -201,7 +201,7 @@ four_sound cs v n h =
     }
 
 -- the rest of a text that begins with a character
-begun : (c : ℕ) (cs : List ℕ) → begins_with c cs ≡ true → cs ≡ c ∷ drop 1 cs
+pub begun : (c : ℕ) (cs : List ℕ) → begins_with c cs ≡ true → cs ≡ c ∷ drop 1 cs
 begun c [] h = absurd (true≢false (sym h))
 begun c (x ∷ xs) h = ap (λ (k : ℕ). k ∷ xs) (eqb-true x c h)
 

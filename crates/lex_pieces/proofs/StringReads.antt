@@ -1,5 +1,5 @@
 -- What is read behind a quote is a string's parts, and no other string begins there.
-use Rattle.std.proofs.Common.{◌≡◌, ◌≢◌, ℕ, suc, ◌+◌, ◌<◌, ◌≤◌, Bool, true, false, eqb, List, [], ◌∷◌, ◌++◌, map, Option, Some, None, length, take, drop, refl, sym, ap, ◌∙◌, subst, inl, inr, ◌⊎◌, append_assoc, length-append, arith}
+use Rattle.std.proofs.Common.{◌≡◌, ◌≢◌, ℕ, suc, ◌+◌, ◌<◌, ◌≤◌, Bool, true, false, eqb, List, [], ◌∷◌, ◌++◌, map, Option, Some, None, length, take, drop, refl, sym, ap, ◌∙◌, subst, inl, inr, ◌⊎◌, append_assoc, length-append, length-drop, arith}
 use Rattle.std.specs.List.{flat_map}
 use Rattle.std.specs.Char.{encode_utf8}
 use Rattle.std.specs.Str.{encode_utf8_all}
@@ -11,7 +11,7 @@ use Rattle.lex_pieces.specs.Starts.{Starts}
 use Rattle.lex_pieces.specs.Strings.{Part, written, IsPart, AreParts, IsString, ReadsParts, IsStringRead}
 use Rattle.lex_pieces.specs.Escapes.{begins_with, part_at}
 use Rattle.lex_pieces.proofs.Encoding.{encoded_push}
-use Rattle.lex_pieces.proofs.PartLemmas.{part_exact, part_sound, SoundPart}
+use Rattle.lex_pieces.proofs.PartLemmas.{part_exact, part_sound, SoundPart, begun}
 
 written_more : (ps : List Part) (p : Part) (rest : List ℕ) → written (ps ++ p ∷ []) ++ rest ≡ written ps ++ (p.written ++ rest)
 written_more [] p rest = ap (λ l. l ++ rest) (append-nil p.written)
@@ -109,7 +109,20 @@ string_same t v r t' v' r' (quote, parts, is, all, text, value) (quote', parts',
 -- where the parts end at the quote, a string is read
 pub string_read : (quote : ℕ) (text : List ℕ) (at : ℕ) (value : List ℕ) → is_quote quote ≡ true → ReadsParts quote text at value → at ≤ length text →
     begins_with quote (drop at text) ≡ true → IsStringRead text (Some (value, at + 1))
-string_read quote text at value is read within ends = ?
+string_read quote text at value is read within ends =
+    let front : List ℕ = quote ∷ written read.0 in
+    let more : List ℕ = drop (at + 1) text in
+    let split : text ≡ front ++ drop at text = read.1 in
+    let rest : drop at text ≡ quote ∷ more = begun quote (drop at text) ends ∙ ap (λ (l : List ℕ). quote ∷ l) (drop-drop 1 at text) in
+    let size : at ≡ length front = omega (arith, ap length split, length-append front (drop at text), length-drop at text) in
+    let whole : text ≡ (quote ∷ written read.0 ++ quote ∷ []) ++ more =
+        split ∙ (ap (λ l. front ++ l) rest ∙ sym (behind quote (written read.0) more)) in
+    let count : length (quote ∷ written read.0 ++ quote ∷ []) ≡ at + 1 = omega (arith, length-append (written read.0) (quote ∷ []), size) in
+    let enough : at + 1 ≤ length text = omega (arith, ap length rest, length-drop at text, within) in
+    (omega arith, enough, (map (λ (part : Part). part.value) read.0
+    , (quote, read.0, is, subst (λ l. AreParts quote read.0 l) rest read.2
+        , ap (take (at + 1)) whole ∙ take_at (quote ∷ written read.0 ++ quote ∷ []) more (at + 1) count, refl)
+    , read.3))
 
 -- where they end elsewhere, none begins
 pub string_none : (quote : ℕ) (text : List ℕ) (at : ℕ) (value : List ℕ) → is_quote quote ≡ true → ReadsParts quote text at value → at ≤ length text →
