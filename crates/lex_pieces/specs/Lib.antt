@@ -4,6 +4,7 @@ pub mod Escapes
 pub mod Marks
 pub mod Numbers
 pub mod Pieces
+pub mod Read
 pub mod Reading
 pub mod Starts
 pub mod Strings

@@ -6,7 +6,9 @@ mod comments;
 mod escapes;
 mod marks;
 mod numbers;
-
+mod piece;
 mod start;
-
+mod strings;
 mod words;
+
+pub use piece::{Piece, read_piece};
