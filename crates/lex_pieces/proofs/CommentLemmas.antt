@@ -1,9 +1,9 @@
 -- The comment that is read is one, and each comment is read.
-use Rattle.std.proofs.Common.{◌≡◌, ◌≢◌, ℕ, suc, ◌+◌, ◌<◌, ◌≤◌, Bool, true, false, cond, not, ◌&&◌, eqb, List, [], ◌∷◌, ◌++◌, Option, Some, None, length, take, drop, refl, sym, ap, ◌∙◌, subst, inl, inr, ◌⊎◌, append_assoc, length-append, add-one, arith}
+use Rattle.std.proofs.Common.{◌≡◌, ℕ, ◌+◌, ◌<◌, ◌≤◌, Bool, true, false, not, eqb, List, [], ◌∷◌, ◌++◌, Option, Some, None, length, take, drop, refl, sym, ap, ◌∙◌, subst, inl, inr, ◌⊎◌, append_assoc, length-append, arith}
 use Rattle.std.specs.Option.{option_map}
-use Rattle.std.specs.List.{list_all, prefix_len}
+use Rattle.std.specs.List.{prefix_len}
 use Rattle.std.proofs.lemmas.Bool.{and_parts, and_from, cases_Bool, eqb-true, eq-eqb, not-false, true≢false, false_from_ne_true}
-use Rattle.std.proofs.lemmas.List.{take-append-drop, take_at, drop_at, drop-drop, length-take-le, nil_from_length}
+use Rattle.std.proofs.lemmas.List.{take-append-drop, take_at, drop_at, length-take-le, nil_from_length}
 use Rattle.std.proofs.lemmas.List.Sums.{prefix_len-le-length}
 use Rattle.lex_pieces.specs.Characters.{LF}
 use Rattle.lex_pieces.specs.Escapes.{begins_with}
@@ -50,22 +50,22 @@ pub closed_sound : (cs : List ℕ) (n : ℕ) → closed_len cs ≡ Some n → Cl
 unfolding closed_len
 closed_sound [] n h = absurd (cc)
 closed_sound (c ∷ cs) n h =
-    elim (cases_Bool (closes (c ∷ cs)))
-    [ inl t ↦
-        let front = closes_front c cs t in
-        let same : Some 2 ≡ Some n = rw t at h in
-        let size : 2 ≡ n = cc in
-        record { body = []; rest = drop 1 cs; split = ap (λ (k : ℕ). k ∷ cs) front.0 ∙ ap (λ (l : List ℕ). 42 ∷ l) front.1; len = omega arith; first = alone; }
-    | inr f ↦
-        let step = mapped (closed_len cs) n (rw f at h) in
-        let found = closed_sound cs step.0 step.1 in
-        record {
-          body = c ∷ found.body;
-          rest = found.rest;
-          split = ap (λ (l : List ℕ). c ∷ l) found.split;
-          len = omega (arith, found.len, step.2);
-          first = later found.body found.rest found.split found.first f;
-        }
+    elim (cases_Bool (closes (c ∷ cs))) [
+      | inl t ↦
+          let front = closes_front c cs t in
+          let same : Some 2 ≡ Some n = rw t at h in
+          let size : 2 ≡ n = cc in
+          record { body = []; rest = drop 1 cs; split = ap (λ (k : ℕ). k ∷ cs) front.0 ∙ ap (λ (l : List ℕ). 42 ∷ l) front.1; len = omega arith; first = alone }
+      | inr f ↦
+          let step = mapped (closed_len cs) n (rw f at h) in
+          let found = closed_sound cs step.0 step.1 in
+          record {
+            body = c ∷ found.body;
+            rest = found.rest;
+            split = ap (λ (l : List ℕ). c ∷ l) found.split;
+            len = omega (arith, found.len, step.2);
+            first = later found.body found.rest found.split found.first f;
+          }
     ]
   where
     later : (body rest : List ℕ) → cs ≡ body ++ (42 ∷ 47 ∷ rest) → ClosesAtEnd (body ++ 42 ∷ 47 ∷ []) → closes (c ∷ cs) ≡ false → ClosesAtEnd (c ∷ body ++ 42 ∷ 47 ∷ [])
@@ -88,6 +88,7 @@ closed_exact (c ∷ body) rest first =
     early (x ∷ b) is slash star =
         let none = first [] (b ++ 42 ∷ 47 ∷ []) (ap (λ l. c ∷ l ++ 42 ∷ 47 ∷ []) (sym is) ∙ (ap (λ (k : ℕ). k ∷ x ∷ (b ++ 42 ∷ 47 ∷ [])) star ∙ ap (λ (k : ℕ). 42 ∷ k ∷ (b ++ 42 ∷ 47 ∷ [])) (cc))) in
         omega (arith, ap length none, length-append b (42 ∷ 47 ∷ []))
+
     not_yet : closes (c ∷ (body ++ (42 ∷ 47 ∷ rest))) ≡ false
     not_yet = false_from_ne_true _ (λ t. let front = closes_front c (body ++ (42 ∷ 47 ∷ rest)) t in early body refl front.1 front.0)
 
@@ -124,16 +125,16 @@ line_sound line =
     let n : ℕ = prefix_len not_lf line in
     let size : length (take n line) ≡ n = length-take-le n line (prefix_len-le-length not_lf line) in
     front_comment (47 ∷ 47 ∷ line) (47 ∷ 47 ∷ take n line) (drop n line) (n + 2)
-        (ap (λ (l : List ℕ). 47 ∷ 47 ∷ l) (sym (take-append-drop n line))) (omega (arith, size)) (omega arith)
-        (inr (inl (take n line, refl, run_passes not_lf line, line_ends (drop n line) (run_stops not_lf line))))
+    (ap (λ (l : List ℕ). 47 ∷ 47 ∷ l) (sym (take-append-drop n line))) (omega (arith, size)) (omega arith)
+    (inr (inl (take n line, refl, run_passes not_lf line, line_ends (drop n line) (run_stops not_lf line))))
 
 block_sound : (block : List ℕ) (n : ℕ) → closed_len block ≡ Some n → SoundComment (47 ∷ 42 ∷ block) (n + 2)
 block_sound block n h =
     let found = closed_sound block n h in
     front_comment (47 ∷ 42 ∷ block) (47 ∷ 42 ∷ found.body ++ 42 ∷ 47 ∷ []) found.rest (n + 2)
-        (ap (λ (l : List ℕ). 47 ∷ 42 ∷ l) (found.split ∙ sym (append_assoc found.body (42 ∷ 47 ∷ []) found.rest)))
-        (omega (arith, found.len, length-append found.body (42 ∷ 47 ∷ []))) (omega arith)
-        (inr (inr (found.body, refl, found.first)))
+    (ap (λ (l : List ℕ). 47 ∷ 42 ∷ l) (found.split ∙ sym (append_assoc found.body (42 ∷ 47 ∷ []) found.rest)))
+    (omega (arith, found.len, length-append found.body (42 ∷ 47 ∷ []))) (omega arith)
+    (inr (inr (found.body, refl, found.first)))
 
 plus_two : (o : Option ℕ) (n : ℕ) → option_map (λ k. k + 2) o ≡ Some n → (m : ℕ) × (o ≡ Some m) × (n ≡ m + 2)
 plus_two None n h = absurd (cc)
@@ -142,15 +143,15 @@ plus_two (Some m) n h = (m, refl, let same : m + 2 ≡ n = cc in sym same)
 pub comment_sound : (cs : List ℕ) (n : ℕ) → comment_len (47 ∷ cs) ≡ Some n → SoundComment (47 ∷ cs) n
 unfolding comment_len
 comment_sound cs n h =
-    elim (cases_Bool (begins_with 47 cs))
-    [ inl line ↦
-        let same : Some (line_len (drop 1 cs) + 2) ≡ Some n = rw line at h in
-        let size : line_len (drop 1 cs) + 2 ≡ n = cc in
-        subst (λ (k : ℕ). SoundComment (47 ∷ cs) k) size (subst (λ (l : List ℕ). SoundComment (47 ∷ l) (line_len (drop 1 cs) + 2)) (sym (begun 47 cs line)) (line_sound (drop 1 cs)))
-    | inr line ↦ elim (cases_Bool (begins_with 42 cs))
-        [ inl block ↦
+    elim (cases_Bool (begins_with 47 cs)) [
+      | inl line ↦
+          let same : Some (line_len (drop 1 cs) + 2) ≡ Some n = rw line at h in
+          let size : line_len (drop 1 cs) + 2 ≡ n = cc in
+          subst (λ (k : ℕ). SoundComment (47 ∷ cs) k) size (subst (λ (l : List ℕ). SoundComment (47 ∷ l) (line_len (drop 1 cs) + 2)) (sym (begun 47 cs line)) (line_sound (drop 1 cs)))
+      | inr line ↦ elim (cases_Bool (begins_with 42 cs)) [
+        | inl block ↦
             let step = plus_two (closed_len (drop 1 cs)) n (rw (line, block) at h) in
             subst (λ (k : ℕ). SoundComment (47 ∷ cs) k) (sym step.2) (subst (λ (l : List ℕ). SoundComment (47 ∷ l) (step.0 + 2)) (sym (begun 42 cs block)) (block_sound (drop 1 cs) step.0 step.1))
         | inr block ↦ absurd (let none : None ≡ Some n = rw (line, block) at h in cc)
-        ]
+      ]
     ]

@@ -1,5 +1,5 @@
 -- What begins a piece of each kind, and so what can begin where a character stands.
-use Rattle.std.proofs.Common.{◌≡◌, ◌≢◌, ℕ, ◌+◌, ◌<◌, ◌≤◌, Bool, true, false, cond, ◌&&◌, eqb, leb, List, [], ◌∷◌, ◌++◌, Option, Some, None, length, refl, sym, ap, ◌∙◌, subst, inl, inr, ◌⊎◌, arith}
+use Rattle.std.proofs.Common.{◌≡◌, ℕ, true, eqb, List, [], ◌∷◌, ◌++◌, Option, Some, None, refl, sym, ap, ◌∙◌, subst, inl, inr, ◌⊎◌}
 use Rattle.std.specs.List.{list_all}
 use Rattle.std.specs.Char.{is_ascii_digit}
 use Rattle.std.proofs.lemmas.Bool.{and_parts, or_cases, cases_Bool, eqb-true, true≢false}
@@ -12,8 +12,8 @@ use Rattle.js_token.specs.Words.{is_whole}
 use Rattle.lex_pieces.specs.declared.start.Start.{Start}
 use Rattle.lex_pieces.specs.declared.start.Start.TheVariants.{Blank, Word, Digit, Quote, Dot, Slash, Mark}
 use Rattle.lex_pieces.specs.Characters.{is_quote}
-use Rattle.lex_pieces.specs.Numbers.{IsNumber, IsMantissa, AreDigits}
-use Rattle.lex_pieces.specs.Pieces.{IsPiece, IsBlank, IsToken, IsWord}
+use Rattle.lex_pieces.specs.Numbers.{IsNumber, IsMantissa}
+use Rattle.lex_pieces.specs.Pieces.{IsPiece, IsBlank, IsWord}
 use Rattle.lex_pieces.specs.Starts.{start_of, Starts}
 use Rattle.lex_pieces.proofs.Starting.{blank_starts, word_starts, digit_starts, starts_at_39, starts_at_34, starts_at_33, starts_at_37, starts_at_38, starts_at_40, starts_at_41, starts_at_42, starts_at_43, starts_at_44, starts_at_45, starts_at_46, starts_at_47, starts_at_58, starts_at_59, starts_at_60, starts_at_61, starts_at_62, starts_at_63, starts_at_91, starts_at_93, starts_at_123, starts_at_124, starts_at_125}
 
@@ -117,11 +117,11 @@ NumberBegins text = (c : ℕ) × (cs : List ℕ) × (text ≡ c ∷ cs) × ((sta
 whole_first : (w : List ℕ) → is_whole w ≡ true → (c : ℕ) × (cs : List ℕ) × (w ≡ c ∷ cs) × (is_ascii_digit c ≡ true)
 whole_first [] h = absurd (true≢false (sym h))
 whole_first (d ∷ ds) h =
-    elim (cases_Bool (eqb d 48))
-    [ inl e ↦ (d, ds, refl, subst (λ (k : ℕ). is_ascii_digit k ≡ true) (sym (eqb-true d 48 e)) refl)
-    | inr e ↦
-        let all : list_all is_ascii_digit (d ∷ ds) ≡ true = rw e at h in
-        (d, ds, refl, (and_parts (is_ascii_digit d) (list_all is_ascii_digit ds) all).0)
+    elim (cases_Bool (eqb d 48)) [
+      | inl e ↦ (d, ds, refl, subst (λ (k : ℕ). is_ascii_digit k ≡ true) (sym (eqb-true d 48 e)) refl)
+      | inr e ↦
+          let all : list_all is_ascii_digit (d ∷ ds) ≡ true = rw e at h in
+          (d, ds, refl, (and_parts (is_ascii_digit d) (list_all is_ascii_digit ds) all).0)
     ]
 
 mantissa_first : (m : List ℕ) → IsMantissa m → NumberBegins m
@@ -140,9 +140,9 @@ number_first text rest (inr (letter, base, ds, letters, all, some, whole), stops
 
 quote_first : (c : ℕ) → is_quote c ≡ true → start_of c ≡ Quote
 quote_first c h =
-    elim (or_cases (eqb c 39) (eqb c 34) h)
-    [ inl e ↦ ap start_of (eqb-true c 39 e) ∙ starts_at_39
-    | inr e ↦ ap start_of (eqb-true c 34 e) ∙ starts_at_34
+    elim (or_cases (eqb c 39) (eqb c 34) h) [
+      | inl e ↦ ap start_of (eqb-true c 39 e) ∙ starts_at_39
+      | inr e ↦ ap start_of (eqb-true c 34 e) ∙ starts_at_34
     ]
 
 pub first_of : (k : Option TokenKind) (text rest : List ℕ) → IsPiece k text rest → Begins k text

@@ -1,9 +1,8 @@
 -- What is read at the front of a text is the longest piece there.
-use Rattle.std.proofs.Common.{◌≡◌, ◌≢◌, ℕ, suc, ◌+◌, ◌<◌, ◌≤◌, Bool, true, false, cond, ◌||◌, eqb, List, [], ◌∷◌, ◌++◌, Option, Some, None, length, take, drop, refl, sym, ap, ◌∙◌, subst, inl, inr, ◌⊎◌, ⊎_elim, length-append, arith}
+use Rattle.std.proofs.Common.{◌≡◌, ℕ, suc, ◌<◌, ◌≤◌, Bool, true, false, cond, ◌||◌, eqb, List, [], ◌∷◌, ◌++◌, Option, Some, None, length, get_or, take, drop, refl, sym, ap, ◌∙◌, subst, inl, inr, ◌⊎◌, ⊎_elim, length-append, arith}
 use Rattle.std.specs.List.{list_all, prefix_len}
 use Rattle.std.specs.Option.{option_map}
-use Rattle.std.specs.Str.{encode_utf8_all}
-use Rattle.std.proofs.lemmas.Bool.{and_from, cases_Bool, or_cases, eqb-true, true≢false, or_left, or_right}
+use Rattle.std.proofs.lemmas.Bool.{and_from, cases_Bool, or_cases, eqb-true, eq-eqb, or_left, or_right}
 use Rattle.std.proofs.lemmas.List.{take-append-drop, take_at, length-take-le}
 use Rattle.std.proofs.lemmas.List.Sums.{prefix_len-le-length}
 use Rattle.unicode_ident.specs.Ident.{is_xid_start}
@@ -19,10 +18,11 @@ use Rattle.lex_pieces.specs.declared.start.Start.{Start}
 use Rattle.lex_pieces.specs.declared.start.Start.TheVariants.{Blank, Word, Digit, Quote, Dot, Slash, Mark}
 use Rattle.lex_pieces.specs.Characters.{is_blank_char, starts_word, continues_word, is_quote, goes_on}
 use Rattle.lex_pieces.specs.Starts.{start_of, Starts}
-use Rattle.lex_pieces.specs.Pieces.{IsPiece, IsBlank, IsWord, IsLongest, BeginsNoPiece}
+use Rattle.lex_pieces.specs.Pieces.{IsPiece, IsBlank, BeginsNoPiece}
 use Rattle.lex_pieces.specs.Strings.{IsStringRead}
 use Rattle.lex_pieces.specs.Marks.{mark_at}
 use Rattle.lex_pieces.specs.Comments.{comment_len}
+use Rattle.lex_pieces.specs.Escapes.{begins_with}
 use Rattle.lex_pieces.specs.Reading.{number_len, based_len, plain_len, decimal_len, mantissa_len, whole_len, digits_len}
 use Rattle.lex_pieces.specs.Read.{IsRead, blank_piece, word_piece, number_piece, mark_piece}
 use Rattle.lex_pieces.proofs.Runs.{run_least, run_passes, run_front}
@@ -93,13 +93,16 @@ slash_char c h = eqb-true c 47 (slash_in _ _ _ _ _ _ h)
 longest_from : (text : List ℕ) (piece : Piece) → 0 < piece.len → piece.len ≤ length text →
     IsPiece piece.kind (take piece.len text) (drop piece.len text) →
     ((k : Option TokenKind) (t r : List ℕ) → text ≡ t ++ r → IsPiece k t r → length t ≤ piece.len) → IsRead text (Some piece)
-longest_from text piece some fits is bound =
-    (some, fits, record {
-      piece = is;
-      longest = λ k t r e p.
-          let below = bound k t r (sym (take-append-drop piece.len text) ∙ e) p in
-          omega (arith, below, length-take-le piece.len text fits);
-    })
+longest_from text piece some fits is bound = (
+  some,
+  fits,
+  record {
+    piece = is;
+    longest = λ k t r e p.
+        let below = bound k t r (sym (take-append-drop piece.len text) ∙ e) p in
+        omega (arith, below, length-take-le piece.len text fits);
+  },
+)
 
 not_empty : (k : Option TokenKind) (t r : List ℕ) → IsPiece k t r → 0 < length t
 not_empty k t r p = let first = first_of k t r p in omega (arith, ap length first.2)
@@ -146,9 +149,9 @@ blank_read (c ∷ cs) starts =
 
 goes_from_start : (c : ℕ) → starts_word c ≡ true → continues_word c ≡ true
 goes_from_start c h =
-    elim (or_cases (eqb c 36 || eqb c 95) (is_xid_start c) h)
-    [ inl e ↦ or_left _ _ e
-    | inr e ↦ or_right _ _ (is_xid_start-is_xid_continue c e)
+    elim (or_cases (eqb c 36 || eqb c 95) (is_xid_start c) h) [
+      | inl e ↦ or_left _ _ e
+      | inr e ↦ or_right _ _ (is_xid_start-is_xid_continue c e)
     ]
 
 word_bound : (k : Option TokenKind) (t r : List ℕ) → CanStart k Word → IsPiece k t r → length t ≤ prefix_len continues_word (t ++ r)
@@ -167,8 +170,8 @@ word_read (c ∷ cs) n starts e =
     longest_from (c ∷ cs) (word_piece (c ∷ cs) n) (omega arith) (omega (arith, prefix_len-le-length continues_word (c ∷ cs)))
     ((c, take (prefix_len continues_word cs) cs, ap (λ k. take k (c ∷ cs)) front, is, run_passes continues_word cs), refl)
     (λ k t r whole p.
-        let below = word_bound k t r (at_start Word (c ∷ cs) starts k t r whole p) p in
-        omega (arith, below, e, ap (prefix_len continues_word) whole))
+    let below = word_bound k t r (at_start Word (c ∷ cs) starts k t r whole p) p in
+    omega (arith, below, e, ap (prefix_len continues_word) whole))
 
 -- NUMBERS
 digit_bound : (k : Option TokenKind) (t r : List ℕ) → CanStart k Digit → IsPiece k t r → length t ≤ number_len (t ++ r)
@@ -199,6 +202,7 @@ only_marks text only = at (mark_at text) refl
         let which = only k t r whole p in
         let same : t ≡ spelling which.0 = subst (λ x. IsPiece x t r) which.1 p in
         subst (λ l. Finds (mark_at text) (length l)) (sym same) (subst (λ l. Finds (mark_at l) (length (spelling which.0))) (sym (whole ∙ ap (λ l. l ++ r) same)) (mark_found which.0 r))
+
     at : (o : Option (MarkType × ℕ)) → mark_at text ≡ o → IsRead text (mark_of o)
     at None is = λ k t r whole p. let f = found k t r whole p in absurd (let clash : None ≡ Some (f.0, f.1) = sym is ∙ f.2 in cc)
     at (Some mark) is =
@@ -208,10 +212,10 @@ only_marks text only = at (mark_at text) refl
         (omega (arith, ap length sound.0, length-append (spelling mark.0) (drop mark.1 text), size))
         (ap (take mark.1) sound.0 ∙ take_at (spelling mark.0) (drop mark.1 text) mark.1 (sym size))
         (λ k t r whole p.
-            let f = found k t r whole p in
-            let both : Some (f.0, f.1) ≡ Some mark = sym f.2 ∙ is in
-            let pair : ◌≡◌ {A = MarkType × ℕ} (f.0, f.1) mark = cc in
-            omega (arith, f.3, ap (λ (z : MarkType × ℕ). z.1) pair))
+        let f = found k t r whole p in
+        let both : Some (f.0, f.1) ≡ Some mark = sym f.2 ∙ is in
+        let pair : ◌≡◌ {A = MarkType × ℕ} (f.0, f.1) mark = cc in
+        omega (arith, f.3, ap (λ (z : MarkType × ℕ). z.1) pair))
 
 mark_only : (k : Option TokenKind) (t r : List ℕ) → CanStart k Mark → IsPiece k t r → (mark : MarkType) × (k ≡ Some (Punct mark))
 mark_only None t r can p = absurd (⊎_elim (λ h. cc) (λ h. cc) can)
@@ -238,9 +242,9 @@ dot_mark text starts none = only_marks text (λ k t r whole p. dot_only text non
 two_dots : (r : List ℕ) → number_len (46 ∷ 46 ∷ r) ≡ 0
 unfolding number_len based_len plain_len decimal_len mantissa_len whole_len digits_len
 two_dots r =
-    elim (cases_Bool (goes_on (46 ∷ 46 ∷ r)))
-    [ inl e ↦ rw e refl
-    | inr e ↦ rw e refl
+    elim (cases_Bool (goes_on (46 ∷ 46 ∷ r))) [
+      | inl e ↦ rw e refl
+      | inr e ↦ rw e refl
     ]
 
 dot_marks : (mark : MarkType) (r : List ℕ) → Dot ≡ mark_start mark → (number_len (spelling mark ++ r) ≡ 0 → ⊥) → length (spelling mark) ≤ 1
@@ -337,8 +341,25 @@ quote_none text starts is k t r whole p = quote_never text is k t r whole (at_st
 pub none_at_end : BeginsNoPiece []
 none_at_end k t r whole p = omega (arith, not_empty k t r p, ap length whole, length-append t r)
 
+-- the quote at the front of a text
+pub front_quote : (text : List ℕ) (q : ℕ) → 0 < length text → q ≡ get_or text 0 q → begins_with q text ≡ true
+front_quote [] q some e = absurd (omega arith)
+front_quote (c ∷ cs) q some e = eq-eqb c q (sym e)
+
+pub quote_front : (text : List ℕ) (q : ℕ) → Starts Quote text → q ≡ get_or text 0 q → is_quote q ≡ true
+quote_front [] q starts e = absurd starts
+quote_front (c ∷ cs) q starts e = quote_char q (ap start_of e ∙ starts)
+
+pub quote_somewhere : (text : List ℕ) → Starts Quote text → length text ≡ 0 → ⊥
+quote_somewhere [] starts none = starts
+quote_somewhere (c ∷ cs) starts none = omega arith
+
 pub ruleset digit_read = (digit_some, digit_none)
+
 pub ruleset dot_read = (dot_some, dot_mark)
+
 pub ruleset slash_read = (slash_comment, slash_mark)
+
 pub ruleset quote_read = (quote_some, quote_none)
+
 pub ruleset at_front = (none_at_end)

@@ -1,12 +1,12 @@
 -- The number that hexadecimal digits spell, held back at the first number past all characters.
-use Rattle.std.proofs.Common.{◌≡◌, ℕ, ◌+◌, ◌*◌, ◌<◌, ◌≤◌, min, Bool, true, false, cond, ltb, List, [], ◌∷◌, Option, Some, None, length, get_or, drop, refl, sym, ap, ◌∙◌, subst, inl, inr, arith}
+use Rattle.std.proofs.Common.{◌≡◌, ℕ, ◌+◌, ◌*◌, ◌<◌, ◌≤◌, min, Bool, true, false, cond, List, [], ◌∷◌, Option, Some, None, length, get_or, drop, refl, sym, ap, ◌∙◌, inl, inr, arith}
 use Rattle.std.specs.List.{list_all, fold}
 use Rattle.std.specs.Option.{SomeIff}
 use Rattle.std.specs.Char.{digit_value, IsScalar}
 use lib.Utf8.{scalar, scalar_cases}
 use Rattle.std.proofs.lemmas.Bool.{cases_lt, false_from_ne_true, lt-ltb, le-ltb}
 use Rattle.std.proofs.lemmas.List.{at_drop_more, at_drop_all}
-use Rattle.lex_pieces.specs.Escapes.{is_hex, character, hex_character}
+use Rattle.lex_pieces.specs.Escapes.{is_hex, character}
 
 abbrev pub step : ℕ → ℕ → ℕ
 step high d = high * 16 + digit_value d

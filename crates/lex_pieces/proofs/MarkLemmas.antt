@@ -1,7 +1,7 @@
 -- The longest mark at the front of a text is one, and no longer mark begins there.
-use Rattle.std.proofs.Common.{◌≡◌, ℕ, suc, ◌+◌, ◌<◌, ◌≤◌, Bool, true, false, cond, ◌&&◌, eqb, List, [], ◌∷◌, ◌++◌, Option, Some, None, length, drop, refl, sym, ap, ◌∙◌, subst, inl, inr, ◌⊎◌, arith}
+use Rattle.std.proofs.Common.{◌≡◌, ℕ, ◌≤◌, Bool, true, false, cond, ◌&&◌, eqb, List, [], ◌∷◌, ◌++◌, Option, Some, None, length, drop, refl, sym, ap, ◌∙◌, subst, inl, inr, ◌⊎◌, arith}
 use Rattle.std.specs.Option.{option_or}
-use Rattle.std.proofs.lemmas.Bool.{and_parts, cases_Bool, eqb-true}
+use Rattle.std.proofs.lemmas.Bool.{and_parts, eqb-true}
 use Rattle.js_token.specs.declared.punct.Punct.{Punct}
 use Rattle.js_token.specs.declared.punct.Punct.TheVariants.{OpenBrace, CloseBrace, OpenParen, CloseParen, OpenBracket, CloseBracket, Dot, Ellipsis, Comma, Semicolon, Colon, Question, QuestionQuestion, Arrow, Assign, StrictEqual, StrictNotEqual, LooseEqual, LooseNotEqual, LessThan, GreaterThan, LessOrEqual, GreaterOrEqual, Plus, PlusPlus, Minus, MinusMinus, Star, Slash, Percent, Bang, AndAnd, OrOr, Bar}
 use Rattle.js_token.specs.Marks.{spelling}
@@ -96,23 +96,23 @@ sound_one a cs q n h =
 sound_two : (a b : ℕ) (cs : List ℕ) (q : Punct) (n : ℕ) → longest_of_two a b ≡ Some (q, n) → Spells (a ∷ b ∷ cs) q n
 unfolding longest_of_two
 sound_two a b cs q n h =
-    elim (or_some (with_len 2 (mark_of_two a b)) (with_len 1 (mark_of_one a)) (q, n) h)
-    [ inl h2 ↦
-        let parts = with_some 2 (mark_of_two a b) q n h2 in
-        let text = two a b q parts.0 in
-        (subst (λ (k : ℕ). a ∷ b ∷ cs ≡ spelling q ++ drop k (a ∷ b ∷ cs)) (sym parts.1) (ap (λ s. s ++ cs) text), parts.1 ∙ ap length text)
-    | inr h1 ↦ sound_one a (b ∷ cs) q n h1
+    elim (or_some (with_len 2 (mark_of_two a b)) (with_len 1 (mark_of_one a)) (q, n) h) [
+      | inl h2 ↦
+          let parts = with_some 2 (mark_of_two a b) q n h2 in
+          let text = two a b q parts.0 in
+          (subst (λ (k : ℕ). a ∷ b ∷ cs ≡ spelling q ++ drop k (a ∷ b ∷ cs)) (sym parts.1) (ap (λ s. s ++ cs) text), parts.1 ∙ ap length text)
+      | inr h1 ↦ sound_one a (b ∷ cs) q n h1
     ]
 
 sound_three : (a b c : ℕ) (cs : List ℕ) (q : Punct) (n : ℕ) → longest_of_three a b c ≡ Some (q, n) → Spells (a ∷ b ∷ c ∷ cs) q n
 unfolding longest_of_three
 sound_three a b c cs q n h =
-    elim (or_some (with_len 3 (mark_of_three a b c)) (longest_of_two a b) (q, n) h)
-    [ inl h3 ↦
-        let parts = with_some 3 (mark_of_three a b c) q n h3 in
-        let text = three a b c q parts.0 in
-        (subst (λ (k : ℕ). a ∷ b ∷ c ∷ cs ≡ spelling q ++ drop k (a ∷ b ∷ c ∷ cs)) (sym parts.1) (ap (λ s. s ++ cs) text), parts.1 ∙ ap length text)
-    | inr h2 ↦ sound_two a b (c ∷ cs) q n h2
+    elim (or_some (with_len 3 (mark_of_three a b c)) (longest_of_two a b) (q, n) h) [
+      | inl h3 ↦
+          let parts = with_some 3 (mark_of_three a b c) q n h3 in
+          let text = three a b c q parts.0 in
+          (subst (λ (k : ℕ). a ∷ b ∷ c ∷ cs ≡ spelling q ++ drop k (a ∷ b ∷ c ∷ cs)) (sym parts.1) (ap (λ s. s ++ cs) text), parts.1 ∙ ap length text)
+      | inr h2 ↦ sound_two a b (c ∷ cs) q n h2
     ]
 
 pub mark_sound : (cs : List ℕ) (q : Punct) (n : ℕ) → mark_at cs ≡ Some (q, n) → Spells cs q n

@@ -1,16 +1,16 @@
 -- A character of a string is read as it is written.
-use Rattle.std.proofs.Common.{◌≡◌, ◌≢◌, ℕ, suc, ◌+◌, ◌<◌, ◌≤◌, Bool, true, false, cond, not, ◌&&◌, ◌||◌, eqb, ltb, List, [], ◌∷◌, ◌++◌, Option, Some, None, length, take, drop, refl, sym, ap, ◌∙◌, subst, inl, inr, ◌⊎◌, append_assoc, length-append, arith}
-use Rattle.std.specs.Option.{IfSome, option_or}
+use Rattle.std.proofs.Common.{◌≡◌, ◌≢◌, ℕ, ◌+◌, ◌<◌, ◌≤◌, Bool, true, false, cond, not, ◌&&◌, ◌||◌, eqb, List, [], ◌∷◌, ◌++◌, Option, Some, None, length, take, drop, refl, sym, ap, ◌∙◌, subst, inl, inr, append_assoc, length-append, length-drop, arith}
+use Rattle.std.specs.Option.{IfSome}
 use Rattle.std.specs.List.{list_all, prefix_len}
-use Rattle.std.specs.Char.{digit_value, is_ascii_digit, IsScalar}
+use Rattle.std.specs.Char.{is_ascii_digit}
 use lib.Utf8.{scalar}
-use Rattle.std.proofs.lemmas.Bool.{and_parts, and_from, or_parts, or_from, or_cases, cases_Bool, eqb-true, eqb-false, eq-eqb, ne_eqb, not-true, true≢false}
+use Rattle.std.proofs.lemmas.Bool.{and_parts, or_parts, cases_Bool, eqb-true, eqb-false, eq-eqb, ne_eqb, not-true, true≢false}
 use Rattle.std.proofs.lemmas.List.{take-append-drop, take_at, drop_at, length-take-le}
 use Rattle.std.proofs.lemmas.List.Sums.{prefix_len-le-length}
 use Rattle.lex_pieces.specs.Marks.{with_len}
 use Rattle.lex_pieces.specs.Strings.{Part, AreHexOf, hex_value, named_escape, escapes_itself, starts_with_digit, IsPart, plain, named, null, two, four, braced, itself}
 use Rattle.lex_pieces.specs.Escapes.{begins_with, is_hex, character, hex_character, fixed_at, braced_at, unicode_at, simple_escape, escape_at, part_at}
-use Rattle.lex_pieces.proofs.Runs.{run, run_passes}
+use Rattle.lex_pieces.proofs.Runs.{run}
 
 -- EXACT
 hex_exact : (ds : List ℕ) (v : ℕ) → AreHexOf ds v → hex_character ds ≡ Some v
@@ -226,29 +226,30 @@ braces_sound cs v n h =
 unicode_sound : (cs : List ℕ) (v n : ℕ) → unicode_at cs ≡ Some (v, n) → SoundEscape (117 ∷ cs) v n
 unfolding unicode_at
 unicode_sound cs v n h =
-    elim (cases_Bool (begins_with 123 cs))
-    [ inl e ↦
-        let here : braced_at (drop 1 cs) ≡ Some (v, n) = rw e at h in
-        subst (λ l. SoundEscape (117 ∷ l) v n) (sym (begun 123 cs e)) (braces_sound (drop 1 cs) v n here)
-    | inr e ↦ four_sound cs v n (rw e at h)
+    elim (cases_Bool (begins_with 123 cs)) [
+      | inl e ↦
+          let here : braced_at (drop 1 cs) ≡ Some (v, n) = rw e at h in
+          subst (λ l. SoundEscape (117 ∷ l) v n) (sym (begun 123 cs e)) (braces_sound (drop 1 cs) v n here)
+      | inr e ↦ four_sound cs v n (rw e at h)
     ]
 
 simple_sound : (c : ℕ) (cs : List ℕ) (v : ℕ) → simple_escape c cs ≡ Some v → (quote : ℕ) → IsPart quote (record { written = 92 ∷ c ∷ []; value = v }) cs
 unfolding simple_escape
 simple_sound c cs v h quote =
-    elim (cases_Bool (eqb c 48))
-    [ inl e ↦
-        let zero = eqb-true c 48 e in
-        let here : cond (starts_with_digit cs) None (Some 0) ≡ Some v = rw e at h in
-        zero_sound (starts_with_digit cs) refl here zero
-    | inr e ↦
-        let here : cond (escapes_itself c) (Some c) (named_escape c) ≡ Some v = rw e at h in
-        other_sound (escapes_itself c) refl here
+    elim (cases_Bool (eqb c 48)) [
+      | inl e ↦
+          let zero = eqb-true c 48 e in
+          let here : cond (starts_with_digit cs) None (Some 0) ≡ Some v = rw e at h in
+          zero_sound (starts_with_digit cs) refl here zero
+      | inr e ↦
+          let here : cond (escapes_itself c) (Some c) (named_escape c) ≡ Some v = rw e at h in
+          other_sound (escapes_itself c) refl here
     ]
   where
     zero_sound : (b : Bool) → starts_with_digit cs ≡ b → cond b None (Some 0) ≡ Some v → c ≡ 48 → IsPart quote (record { written = 92 ∷ c ∷ []; value = v }) cs
     zero_sound true is h0 zero = absurd (cc)
     zero_sound false is h0 zero = null (ap (λ (k : ℕ). 92 ∷ k ∷ []) zero) (cc) is
+
     other_sound : (b : Bool) → escapes_itself c ≡ b → cond b (Some c) (named_escape c) ≡ Some v → IsPart quote (record { written = 92 ∷ c ∷ []; value = v }) cs
     other_sound true is h0 =
         let same : c ≡ v = cc in
@@ -259,33 +260,33 @@ escape_sound : (cs : List ℕ) (v n : ℕ) → escape_at cs ≡ Some (v, n) → 
 unfolding escape_at
 escape_sound [] v n h = absurd (cc)
 escape_sound (c ∷ cs) v n h =
-    elim (cases_Bool (eqb c 120))
-    [ inl x ↦ subst (λ (k : ℕ). SoundEscape (k ∷ cs) v n) (sym (eqb-true c 120 x)) (two_sound cs v n (rw x at h))
-    | inr x ↦ elim (cases_Bool (eqb c 117))
-        [ inl u ↦ subst (λ (k : ℕ). SoundEscape (k ∷ cs) v n) (sym (eqb-true c 117 u)) (unicode_sound cs v n (rw (x, u) at h))
+    elim (cases_Bool (eqb c 120)) [
+      | inl x ↦ subst (λ (k : ℕ). SoundEscape (k ∷ cs) v n) (sym (eqb-true c 120 x)) (two_sound cs v n (rw x at h))
+      | inr x ↦ elim (cases_Bool (eqb c 117)) [
+        | inl u ↦ subst (λ (k : ℕ). SoundEscape (k ∷ cs) v n) (sym (eqb-true c 117 u)) (unicode_sound cs v n (rw (x, u) at h))
         | inr u ↦
             let here : with_len 2 (simple_escape c cs) ≡ Some (v, n) = rw (x, u) at h in
             let parts = with_some 2 (simple_escape c cs) v n here in
-            record { w = c ∷ []; rest = cs; split = refl; len = parts.1; is_part = simple_sound c cs v parts.0; }
-        ]
+            record { w = c ∷ []; rest = cs; split = refl; len = parts.1; is_part = simple_sound c cs v parts.0 }
+      ]
     ]
 
 pub part_sound : (quote : ℕ) (cs : List ℕ) (c n : ℕ) → part_at quote cs ≡ Some (c, n) → SoundPart quote cs c n
 unfolding part_at
 part_sound quote [] c n h = absurd (cc)
 part_sound quote (x ∷ cs) c n h =
-    elim (cases_Bool (eqb x 92))
-    [ inl e ↦
-        let found = escape_sound cs c n (rw e at h) in
-        record {
-          w = 92 ∷ found.w;
-          rest = found.rest;
-          split = ap (λ (k : ℕ). k ∷ cs) (eqb-true x 92 e) ∙ ap (λ (l : List ℕ). 92 ∷ l) found.split;
-          len = omega (arith, found.len);
-          some = omega (arith, found.len);
-          is_part = found.is_part quote;
-        }
-    | inr e ↦ raw (eqb x quote || eqb x 10 || eqb x 13) refl (rw e at h) (eqb-false x 92 e)
+    elim (cases_Bool (eqb x 92)) [
+      | inl e ↦
+          let found = escape_sound cs c n (rw e at h) in
+          record {
+            w = 92 ∷ found.w;
+            rest = found.rest;
+            split = ap (λ (k : ℕ). k ∷ cs) (eqb-true x 92 e) ∙ ap (λ (l : List ℕ). 92 ∷ l) found.split;
+            len = omega (arith, found.len);
+            some = omega (arith, found.len);
+            is_part = found.is_part quote;
+          }
+      | inr e ↦ raw (eqb x quote || eqb x 10 || eqb x 13) refl (rw e at h) (eqb-false x 92 e)
     ]
   where
     raw : (b : Bool) → (eqb x quote || eqb x 10 || eqb x 13) ≡ b → cond {A = Option (ℕ × ℕ)} b None (Some (x, 1)) ≡ Some (c, n) → (x ≡ 92 → ⊥) → SoundPart quote (x ∷ cs) c n
@@ -305,11 +306,10 @@ part_sound quote (x ∷ cs) c n h =
           is_part = plain (ap (λ (k : ℕ). k ∷ []) here) (λ q. eqb-false x quote first.0 (here ∙ q)) (λ q. slash (here ∙ q)) (λ q. eqb-false x 10 first.1 (here ∙ q)) (λ q. eqb-false x 13 parts.1 (here ∙ q));
         }
 
-pub part_within : (quote : ℕ) (cs : List ℕ) → IfSome (part_at quote cs) (λ part. (0 < part.1) × (part.1 ≤ length cs))
-part_within quote cs = at (part_at quote cs) refl
-  where
-    at : (o : Option (ℕ × ℕ)) → part_at quote cs ≡ o → IfSome o (λ part. (0 < part.1) × (part.1 ≤ length cs))
-    at None is = tt
-    at (Some part) is =
-        let found = part_sound quote cs part.0 part.1 is in
-        (found.some, omega (arith, found.len, ap length found.split, length-append found.w found.rest))
+-- what is read stands within the text
+pub part_within : (quote at : ℕ) (text : List ℕ) (o : Option (ℕ × ℕ)) → at ≤ length text → o ≡ part_at quote (drop at text) →
+    IfSome o (λ part. (0 < part.1) × (at + part.1 ≤ length text))
+part_within quote at text None fits is = tt
+part_within quote at text (Some part) fits is =
+    let found = part_sound quote (drop at text) part.0 part.1 (sym is) in
+    (found.some, omega (arith, found.len, ap length found.split, length-append found.w found.rest, length-drop at text))

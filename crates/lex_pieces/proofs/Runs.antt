@@ -1,5 +1,5 @@
 -- The longest front of a list whose elements pass a test.
-use Rattle.std.proofs.Common.{◌≡◌, ℕ, suc, ◌+◌, ◌≤◌, Bool, true, false, cond, ◌&&◌, List, [], ◌∷◌, ◌++◌, length, take, drop, refl, sym, ap, ◌∙◌, subst, inl, inr, arith}
+use Rattle.std.proofs.Common.{◌≡◌, ℕ, suc, ◌+◌, ◌≤◌, Bool, true, false, List, [], ◌∷◌, ◌++◌, length, take, drop, refl, inl, inr, arith}
 use Rattle.std.specs.List.{list_all, prefix_len}
 use Rattle.std.proofs.lemmas.Bool.{and_parts, and_from, cases_Bool}
 
@@ -28,17 +28,17 @@ run_least p (x ∷ xs) rest all =
 pub run_passes : (p : ℕ → Bool) (cs : List ℕ) → list_all p (take (prefix_len p cs) cs) ≡ true
 run_passes p [] = refl
 run_passes p (c ∷ cs) =
-    elim (cases_Bool (p c))
-    [ inl e ↦ rw (e, one_more (prefix_len p cs)) (and_from (p c) _ e (run_passes p cs))
-    | inr e ↦ rw e refl
+    elim (cases_Bool (p c)) [
+      | inl e ↦ rw (e, one_more (prefix_len p cs)) (and_from (p c) _ e (run_passes p cs))
+      | inr e ↦ rw e refl
     ]
 
 pub run_stops : (p : ℕ → Bool) (cs : List ℕ) → Stops p (drop (prefix_len p cs) cs)
 run_stops p [] = tt
 run_stops p (c ∷ cs) =
-    elim (cases_Bool (p c))
-    [ inl e ↦ rw (e, one_more (prefix_len p cs)) (run_stops p cs)
-    | inr e ↦ rw e e
+    elim (cases_Bool (p c)) [
+      | inl e ↦ rw (e, one_more (prefix_len p cs)) (run_stops p cs)
+      | inr e ↦ rw e e
     ]
 
 pub run_front : (p : ℕ → Bool) (c : ℕ) (cs : List ℕ) → p c ≡ true → prefix_len p (c ∷ cs) ≡ suc (prefix_len p cs)

@@ -1,13 +1,12 @@
 -- What begins each kind of piece.
-use Rattle.std.proofs.Common.{◌≡◌, ℕ, ◌<◌, ◌≤◌, Bool, true, false, cond, ◌&&◌, ◌||◌, eqb, ltb, leb, List, [], ◌∷◌, ◌++◌, Option, Some, None, length, refl, sym, ap, ◌∙◌, subst, inl, inr, ◌⊎◌, arith}
+use Rattle.std.proofs.Common.{◌≡◌, ℕ, ◌<◌, ◌≤◌, true, false, ◌||◌, eqb, leb, refl, sym, ◌∙◌, subst, inl, inr, arith}
 use Rattle.std.specs.Char.{is_ascii_digit, is_ascii_alphabetic}
 use Rattle.std.specs.Int.{is_in_range}
-use Rattle.std.proofs.lemmas.Bool.{and_parts, and_left, and_right, or_cases, or_from, cases_Bool, false_from_ne_true, eqb-true, ne_eqb, leb-true, lt-leb, true≢false}
+use Rattle.std.proofs.lemmas.Bool.{and_parts, and_left, and_right, or_cases, or_from, false_from_ne_true, eqb-true, ne_eqb, leb-true, lt-leb, true≢false}
 use Rattle.unicode_ident.proofs.Computing.{unicode_ident}
 use Rattle.unicode_ident.proofs.IdentLemmas.{is_xid_start-ascii}
-use Rattle.lex_pieces.specs.declared.start.Start.{Start}
 use Rattle.lex_pieces.specs.declared.start.Start.TheVariants.{Blank, Word, Digit, Quote, Dot, Slash, Mark}
-use Rattle.lex_pieces.specs.Characters.{is_blank_char, starts_word, is_quote}
+use Rattle.lex_pieces.specs.Characters.{is_blank_char, starts_word}
 use Rattle.lex_pieces.specs.Starts.{start_of}
 
 -- an ASCII character that is no letter, `$` or `_` begins no word
@@ -50,14 +49,17 @@ blank_no_word c h = elim (or_cases _ (eqb c 65279) h) [ inr e ↦ along c 65279 
   where
     one : is_in_range 9 13 c || eqb c 32 ≡ true → starts_word c ≡ false
     one h1 =
-        elim (or_cases (is_in_range 9 13 c) (eqb c 32) h1)
-        [ inr e ↦ let same = eqb-true c 32 e in low_no_word c (omega arith) (λ dollar. omega arith)
-        | inl range ↦ let high = leb-true c 13 (and_parts (leb 9 c) (leb c 13) range).1 in low_no_word c (omega arith) (λ dollar. omega arith)
+        elim (or_cases (is_in_range 9 13 c) (eqb c 32) h1) [
+          | inr e ↦ let same = eqb-true c 32 e in low_no_word c (omega arith) (λ dollar. omega arith)
+          | inl range ↦ let high = leb-true c 13 (and_parts (leb 9 c) (leb c 13) range).1 in low_no_word c (omega arith) (λ dollar. omega arith)
         ]
+
     two : is_in_range 9 13 c || eqb c 32 || eqb c 160 ≡ true → starts_word c ≡ false
     two h2 = elim (or_cases _ (eqb c 160) h2) [ inr e ↦ along c 160 e no_word_at_160 | inl h1 ↦ one h1 ]
+
     three : is_in_range 9 13 c || eqb c 32 || eqb c 160 || eqb c 8232 ≡ true → starts_word c ≡ false
     three h3 = elim (or_cases _ (eqb c 8232) h3) [ inr e ↦ along c 8232 e no_word_at_8232 | inl h2 ↦ two h2 ]
+
     four : is_in_range 9 13 c || eqb c 32 || eqb c 160 || eqb c 8232 || eqb c 8233 ≡ true → starts_word c ≡ false
     four h4 = elim (or_cases _ (eqb c 8233) h4) [ inr e ↦ along c 8233 e no_word_at_8233 | inl h3 ↦ three h3 ]
 

@@ -1,7 +1,7 @@
 -- How the characters of a string are read: the one at the front of a text, and how many characters are written for it.
-use Rattle.std.specs.Prelude.{ℕ, ◌+◌, ◌*◌, ◌<◌, Bool, true, false, ◌&&◌, ◌||◌, ◌==◌, not, List, [], ◌∷◌, Option, Some, None, length, take, drop, min, if◌then◌else◌}
-use Rattle.std.specs.List.{list_all, prefix_len, fold}
-use Rattle.std.specs.Char.{is_digit, digit_value}
+use Rattle.std.specs.Prelude.{ℕ, ◌+◌, Bool, false, ◌&&◌, ◌||◌, ◌==◌, not, List, [], ◌∷◌, Option, Some, None, length, take, drop, if◌then◌else◌}
+use Rattle.std.specs.List.{list_all, prefix_len}
+use Rattle.std.specs.Char.{is_digit}
 use lib.Utf8.{scalar}
 use Rattle.lex_pieces.specs.Marks.{with_len}
 use Rattle.lex_pieces.specs.Strings.{hex_value, named_escape, escapes_itself, starts_with_digit}

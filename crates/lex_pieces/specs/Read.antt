@@ -2,7 +2,6 @@
 use Rattle.std.specs.Prelude.{ℕ, ◌<◌, ◌≤◌, List, Option, Some, None, length, take, drop}
 use Rattle.std.specs.Str.{encode_utf8_all}
 use Rattle.std.specs.Option.{option_map}
-use Rattle.js_token.specs.declared.token.TokenKind.{TokenKind}
 use Rattle.js_token.specs.declared.token.TokenKind.TheVariants.{Name, Number, Punct}
 use Rattle.lex_pieces.specs.declared.piece.Piece.{Piece}
 use Rattle.lex_pieces.specs.Marks.{mark_at}

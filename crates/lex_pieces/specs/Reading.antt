@@ -1,11 +1,9 @@
 -- How far a number reaches from the front of a text. A length of 0 says that there is none.
-use Rattle.std.specs.Prelude.{ℕ, ◌+◌, ◌<◌, Bool, true, false, ◌&&◌, ◌||◌, ◌==◌, not, List, [], ◌∷◌, Option, Some, None, length, take, drop, if◌then◌else◌, nat_lt}
-use Rattle.std.specs.List.{list_all, prefix_len}
-use Rattle.std.specs.Option.{option_map, option_or}
-use Rattle.std.specs.Char.{is_ascii_digit, is_digit, IsScalar}
-use Rattle.lex_pieces.specs.Characters.{continues_word, goes_on, ends_line, LF}
+use Rattle.std.specs.Prelude.{ℕ, ◌+◌, ◌&&◌, ◌||◌, ◌==◌, not, List, [], ◌∷◌, Option, Some, None, drop, if◌then◌else◌, nat_lt}
+use Rattle.std.specs.List.{prefix_len}
+use Rattle.std.specs.Char.{is_ascii_digit, is_digit}
+use Rattle.lex_pieces.specs.Characters.{goes_on}
 use Rattle.lex_pieces.specs.Numbers.{is_exponent_mark, base_of}
-use Rattle.lex_pieces.specs.Strings.{hex_value, named_escape, starts_with_digit}
 
 -- NUMBERS
 unfoldable pub digits_len : List ℕ → ℕ

@@ -1,5 +1,5 @@
 -- The spelling of strings, and what they decode to.
-use Rattle.std.specs.Prelude.{◌≡◌, ◌≢◌, ℕ, ◌+◌, ◌*◌, ◌<◌, Bool, true, false, ◌||◌, ◌==◌, not, ◌⊎◌, List, [], ◌∷◌, ◌++◌, Option, Some, None, IsTrue, codes, length, map, take, drop, ◌≤◌, if◌then◌else◌}
+use Rattle.std.specs.Prelude.{◌≡◌, ◌≢◌, ℕ, ◌+◌, ◌*◌, ◌<◌, Bool, false, ◌||◌, ◌==◌, not, List, [], ◌∷◌, ◌++◌, Option, Some, None, IsTrue, codes, length, map, take, drop, ◌≤◌, if◌then◌else◌}
 use Rattle.std.specs.List.{list_all, flat_map, fold}
 use Rattle.std.specs.Char.{is_ascii_digit, is_digit, digit_value, IsScalar}
 use Rattle.std.specs.Str.{encode_utf8_all}

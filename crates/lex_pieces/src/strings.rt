@@ -15,7 +15,6 @@ use std::alloc::Global;
 /// # Errors
 ///
 /// `NoMemory` where memory is refused.
-#[tactic(auto, using(crate::proofs::StringReads::string_ends))]
 pub fn read_string(alloc: Global, text: &[char]) -> Result<Option<(Text, usize)>, NoMemory>
     requires { Starts Start.Quote text.now }
     ensures { IfOk result (IsStringRead text.now) }
@@ -50,7 +49,6 @@ fn read_parts(alloc: Global, quote: char, text: &[char]) -> Result<(String, usiz
     Ok((value, at))
 }
 
-#[tactic(auto, using(crate::proofs::PartLemmas::part_within))]
 fn next_part(quote: char, text: &[char], at: usize) -> Option<(char, usize)>
     requires { at ≤ length text.now }
     ensures value { result ≡ part_at quote (drop at text.now) }

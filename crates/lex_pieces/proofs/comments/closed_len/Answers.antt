@@ -8,5 +8,5 @@ pub loop-at-preserved : goal.loop-at-preserved
 loop-at-preserved c =
     let before : c.loop-at.at < length c.args.text.now = omega arith in
     let open_yet : closes (drop c.loop-at.at c.args.text.now) ≡ false =
-        sym (rw (take_rest c.args.text.now c.loop-at.at) at c.if-closes.ensures.value) in
+    sym (rw (take_rest c.args.text.now c.loop-at.at) at c.if-closes.ensures.value) in
     not_here c.loop-at.at c.args.text.now before open_yet ∙ c.loop-at.invariant
