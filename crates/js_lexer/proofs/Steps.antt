@@ -1,13 +1,13 @@
 -- One more piece in front of a cut.
-use Rattle.std.proofs.Common.{◌≡◌, ◌≢◌, ℕ, ◌+◌, ◌<◌, ◌≤◌, List, [], ◌∷◌, ◌++◌, Option, length, get_or, take, drop, refl, sym, ap, ◌∙◌, subst, append_assoc, length-append, add_assoc, arith}
+use Rattle.std.proofs.Common.{◌≡◌, ◌≢◌, ℕ, ◌+◌, ◌<◌, ◌≤◌, List, [], ◌∷◌, ◌++◌, Option, length, get_or, take, drop, refl, sym, ap, ◌∙◌, subst, append_assoc, length-append, arith}
 use Rattle.std.specs.Str.{encode_utf8_all}
 use Rattle.std.specs.Char.{encode_utf8, len_utf8}
-use Rattle.std.proofs.lemmas.Str.{encodes-append, length-encode, len_utf8_bounds}
+use Rattle.std.proofs.lemmas.Str.{encodes-append, length-encode}
 use Rattle.std.proofs.lemmas.List.{append-nil, take-append-drop, drop-drop, drop_all, take_more}
 use Rattle.js_token.specs.declared.token.TokenKind.{TokenKind}
 use Rattle.js_token.specs.declared.token.Token.{Token}
 use Rattle.lex_pieces.specs.Pieces.{IsLongest, BeginsNoPiece}
-use Rattle.js_lexer.specs.Cut.{Cut, text_of, AreLongest, byte_len, token_of, tokens_of, HasTokens, IsStuck}
+use Rattle.js_lexer.specs.Cut.{Cut, text_of, byte_len, token_of, HasTokens, IsStuck}
 
 pub byte_len-append : (xs ys : List ℕ) → byte_len (xs ++ ys) ≡ byte_len xs + byte_len ys
 byte_len-append xs ys = ap length (encodes-append xs ys) ∙ length-append (encode_utf8_all xs) (encode_utf8_all ys)

@@ -1,4 +1,4 @@
-use Rattle.std.proofs.Common.{◌+◌, drop, length-drop, arith}
+use Rattle.std.proofs.Common.{length-drop, arith}
 use Rattle.js_lexer.proofs.Steps.{step_tokens, step_stuck, step_bytes, end_tokens}
 use Rattle.js_lexer.proofs.lexing.lex_chars.Goals as goal
 
