@@ -1,0 +1,13 @@
+pub mod Ascii
+pub mod Closing
+pub mod CommentLemmas
+pub mod Encoding
+pub mod Firsts
+pub mod Hex
+pub mod MarkLemmas
+pub mod NumberLemmas
+pub mod PartLemmas
+pub mod Fronts
+pub mod Runs
+pub mod Starting
+pub mod StringReads

@@ -1,0 +1,10 @@
+pub mod Characters
+pub mod Comments
+pub mod Escapes
+pub mod Marks
+pub mod Numbers
+pub mod Pieces
+pub mod Read
+pub mod Reading
+pub mod Starts
+pub mod Strings
