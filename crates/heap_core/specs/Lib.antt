@@ -1,3 +1,6 @@
 pub mod Meaning
 pub mod Plain
 pub mod PlainLaws
+pub mod World
+pub mod Seen
+pub mod Stands

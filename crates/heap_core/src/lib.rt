@@ -2,8 +2,11 @@
 //! every heap is a picture of.
 #![tactic(auto)]
 
+pub mod laws;
 mod plain;
 mod traits;
+mod world;
 
 pub use plain::{PlainHeap, PlainReader};
 pub use traits::{HeapReader, HeapWriter, Program};
+pub use world::{Event, World};
