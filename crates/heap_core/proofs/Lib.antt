@@ -1,1 +1,4 @@
+pub mod Lists
 pub mod Overlays
+pub mod WorldLaw
+pub mod Worlds

@@ -3,6 +3,11 @@ ghost use Rattle.std.specs.Prelude.{◌≡◌, ◌≤◌, ◌^◌, length, IfOk,
 ghost use Rattle.heap_core.specs.World.{Answers, HasLengths};
 ghost use Rattle.heap_core.specs.Seen.{world_of, event_of};
 
+mod lanes;
+mod lists;
+mod looks;
+mod writes;
+
 use flow_values::{List, NoMemory};
 use std::alloc::Global;
 use std::sync::Arc;
@@ -57,7 +62,18 @@ impl<P: Drop> World<P> {
         ensures answers { IfOk result (λ yes. Answers (world_of self.old) (event_of event.now) yes (world_of self.new)) }
         ensures err { OnErr result (world_of self.new ≡ world_of self.old) }
     {
-        let _ = (alloc, event);
-        Err(NoMemory)
+        match event {
+            Event::Begin => Ok(self.begin()),
+            Event::Stage { entity, payload } => self.stage(alloc, *entity, payload),
+            Event::Fill { lane, entity } => self.fill(alloc, *lane, *entity),
+            Event::Publish { entity } => Ok(self.publish(*entity)),
+            Event::Commit => self.commit(alloc),
+            Event::RollBack { entity } => self.roll_back(alloc, *entity),
+            Event::End => Ok(self.end()),
+            Event::Pin { lane } => Ok(self.pin(*lane)),
+            Event::Read { lane, entity } => Ok(self.may_read(*lane, *entity)),
+            Event::Unpin { lane } => Ok(self.unpin(*lane)),
+            Event::Drained => Ok(self.drain()),
+        }
     }
 }

@@ -2,7 +2,8 @@ use Rattle.std.proofs.Common.{◌≡◌, ℕ, ◌<◌, ◌≤◌, arith, sym, ap
 use Rattle.std.proofs.lemmas.Option.{slice_get-get_or}
 use Rattle.heap_core.specs.Meaning.{stamped}
 use Rattle.heap_core.specs.Plain.{overlaid, staged_of, names}
-use Rattle.heap_core.proofs.Overlays.{get_index, set_same, drop_past, listed_rest, none_listed, overlaid-moved, stamped-moved, overlaid-none, stamped-none}
+use Rattle.heap_core.proofs.Lists.{get_index, set_same, drop_past}
+use Rattle.heap_core.proofs.Overlays.{listed_rest, none_listed, overlaid-moved, stamped-moved, overlaid-none, stamped-none}
 use Rattle.heap_core.proofs.plain.steps.settle.Goals as goal
 use Rattle.heap_core.proofs.plain.steps.settle.Goals.{in-Some, in_default}
 

@@ -1,6 +1,7 @@
 use Rattle.std.proofs.Common.{◌≡◌, arith, sym, ap, ◌∙◌, Some, true, false}
 use Rattle.heap_core.specs.PlainLaws.{length-values}
-use Rattle.heap_core.proofs.Overlays.{get_index, open_where_staged, staged_of-at}
+use Rattle.heap_core.proofs.Lists.{get_index}
+use Rattle.heap_core.proofs.Overlays.{open_where_staged, staged_of-at}
 use Rattle.heap_core.proofs.plain.writes.PlainHeapHeapWriter.entity_version.Goals as goal
 
 pub overflow_add-result : goal.overflow_add-result

@@ -1,6 +1,7 @@
 use Rattle.std.proofs.Common.{arith, sym, ap, ◌∙◌, Some, None}
 use Rattle.heap_core.specs.PlainLaws.{length-values}
-use Rattle.heap_core.proofs.Overlays.{get_index, get_there, overlaid-at}
+use Rattle.heap_core.proofs.Lists.{get_index, get_there}
+use Rattle.heap_core.proofs.Overlays.{overlaid-at}
 use Rattle.heap_core.proofs.plain.writes.PlainHeapHeapWriter.latest.Goals as goal
 
 pub returns-in_ok-try_clone-in-Some : goal.returns-in_ok-try_clone-in-Some

@@ -1,6 +1,7 @@
 use Rattle.std.proofs.Common.{arith, sym, ap, ◌∙◌, Some, length-set}
 use Rattle.heap_core.specs.Plain.{values}
-use Rattle.heap_core.proofs.Overlays.{get_index, overlaid-set, staged_of-set, staged_of-at, listed_more, within_more}
+use Rattle.heap_core.proofs.Lists.{get_index}
+use Rattle.heap_core.proofs.Overlays.{overlaid-set, staged_of-set, staged_of-at, listed_more, within_more}
 use Rattle.heap_core.proofs.plain.writes.PlainHeapHeapWriter.stage.Goals as goal
 
 pub invariant_of-self-2-clause-as_many : goal.invariant_of-self-2-clause-as_many
