@@ -2,3 +2,5 @@ pub mod Lists
 pub mod Overlays
 pub mod WorldLaw
 pub mod Worlds
+pub mod Numbers
+pub mod StandsLaw
