@@ -4,3 +4,4 @@ pub mod WorldLaw
 pub mod Worlds
 pub mod Numbers
 pub mod StandsLaw
+pub mod TransactionLaws

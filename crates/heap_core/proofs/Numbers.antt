@@ -116,7 +116,7 @@ pub marked_here : (ks : List ℕ) (bs : List Bool) (e : ℕ) → e < length bs �
 marked_here [] bs e here h = absurd (let z : false ≡ true = h in cc)
 marked_here (k ∷ ks) bs e here h = let n = length-set bs k true in let longer : e < length (set bs k true) = omega arith in
     dite (ℕ_discrete e k) (λ (same : e ≡ k). let lower : k < length bs = omega arith in marked_kept ks (set bs k true) e longer (ap (slice_get (set bs k true)) same ∙ put_here bs k true lower))
-      (λ (ne : e ≢ k). marked_here ks (set bs k true) e longer (names-skip k ks e ne h))
+    (λ (ne : e ≢ k). marked_here ks (set bs k true) e longer (names-skip k ks e ne h))
 
 module _ {P : Type 0} where
   -- none of these pends

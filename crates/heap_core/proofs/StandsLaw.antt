@@ -39,9 +39,9 @@ module _ {P : Type 0} (fits : ℕ → P → ℕ → P → Type 0) where
 
   pub begin_leads : (m : Meaning P) → m.is_open ≡ false → Leads fits m of_begin (opened m)
   begin_leads m closed w s = elim w.drained as (λ b. w.drained ≡ b → AllAllowed fits w (cond b (begin ∷ []) (drain ∷ begin ∷ [])) × Stands fits (opened m) (after w (cond b (begin ∷ []) (drain ∷ begin ∷ [])))) [
-      | true ↦ begins m w closed s
-      | false ↦ drains m w closed s
-    ] refl
+    | true ↦ begins m w closed s
+    | false ↦ drains m w closed s
+  ] refl
 
   -- stage
   pub stage_leads : (m : Meaning P) (e : ℕ) (x : P) → IsSound fits m → m.is_open ≡ true → e < length m.committed → Leads fits m (of_stage e x) (staging e x m)
@@ -49,16 +49,18 @@ module _ {P : Type 0} (fits : ℕ → P → ℕ → P → Type 0) where
       let n = as_many m w s in let lower : e < w.entities = omega arith in let p = s.lawful.lengths.pending in let there : e < length w.pending = omega arith in
       let many : length m.staged ≡ length m.latest = sound.as_many.2 ∙ sym sound.as_many.0 in
       let bare : length (emptied w.filled e) ≡ 0 = length-emptied w.filled e ∙ (s.lawful.lengths.filled ∙ s.lanes) in
-      let may : AllAllowed fits w (stage e x ∷ publish e ∷ []) = ((lower, s.is_open ∙ is_open), tt, ((lower, (x, put_here w.pending e (Some x) there), λ k row h. absurd (no_rows (emptied w.filled e) bare k row h)), tt, tt)) in
-      (may, record {
-        lawful = stays_lawful fits w (stage e x ∷ publish e ∷ []) s.lawful may;
-        lanes = s.lanes;
-        last = s.last;
-        version = s.version;
-        versions = s.versions;
-        is_open = s.is_open;
-        pending = ap (λ (ps : List (Option P)). set ps e (Some x)) s.pending ∙ pending_of-set m.staged m.latest e x many;
-      })
+      let may : AllAllowed fits w (stage e x ∷ publish e ∷ []) = ((lower, s.is_open ∙ is_open), tt, ((lower, (x, put_here w.pending e (Some x) there), λ k row h. absurd (no_rows (emptied w.filled e) bare k row h)), tt, tt)) in (
+        may,
+        record {
+          lawful = stays_lawful fits w (stage e x ∷ publish e ∷ []) s.lawful may;
+          lanes = s.lanes;
+          last = s.last;
+          version = s.version;
+          versions = s.versions;
+          is_open = s.is_open;
+          pending = ap (λ (ps : List (Option P)). set ps e (Some x)) s.pending ∙ pending_of-set m.staged m.latest e x many;
+        },
+      )
 
   -- many publishes
   may_publish : (w : PureWorld P) (ks : List ℕ) (es : List (PureEvent P)) → ((k : ℕ) → names ks k ≡ true → (k < w.entities) × Pends w k) → ((n : ℕ) (row : List Bool) → slice_get w.filled n ≡ Some row → ⊥)
@@ -98,16 +100,18 @@ module _ {P : Type 0} (fits : ℕ → P → ℕ → P → Type 0) where
       let may : AllAllowed fits w (map publish ks ++ commit ∷ []) = may_publish w ks (commit ∷ []) (staged_pends m w sound s) (no_lanes m w s) ((s.is_open ∙ is_open, ready), subst (AllFit fits) (sym new) fit, tt) in
       let count : length w.history ≡ m.version + 1 = (let v = s.version in let z = s.lawful.lengths.some_state in omega arith) in
       let longer = length-append w.history (replaced (last_state w.history) w.pending ∷ []) in
-      let n = as_many m w s in
-      (may, record {
-        lawful = stays_lawful fits w (map publish ks ++ commit ∷ []) s.lawful may;
-        lanes = ap (λ (v : PureWorld P). v.lanes) (after_publish w ks (commit ∷ [])) ∙ s.lanes;
-        last = ap (λ (v : PureWorld P). last_state v.history) (after_publish w ks (commit ∷ [])) ∙ (last_more w.history (replaced (last_state w.history) w.pending) ∙ new);
-        version = ap (λ (v : PureWorld P). current v) (after_publish w ks (commit ∷ [])) ∙ (let c = count in omega arith);
-        versions = ap (λ (v : PureWorld P). v.versions) (after_publish w ks (commit ∷ [])) ∙ ((λ j. renewed (count j) (s.pending j) (s.versions j)) ∙ renewed_stamped (m.version + 1) m.staged m.latest m.versions many (sound.as_many.1 ∙ sym sound.as_many.0));
-        is_open = ap (λ (v : PureWorld P). v.is_open) (after_publish w ks (commit ∷ []));
-        pending = ap (λ (v : PureWorld P). v.pending) (after_publish w ks (commit ∷ [])) ∙ (ap (λ k. replicate k None) (n ∙ sym sound.as_many.0) ∙ sym (pending_of-none m.staged m.latest many));
-      })
+      let n = as_many m w s in (
+        may,
+        record {
+          lawful = stays_lawful fits w (map publish ks ++ commit ∷ []) s.lawful may;
+          lanes = ap (λ (v : PureWorld P). v.lanes) (after_publish w ks (commit ∷ [])) ∙ s.lanes;
+          last = ap (λ (v : PureWorld P). last_state v.history) (after_publish w ks (commit ∷ [])) ∙ (last_more w.history (replaced (last_state w.history) w.pending) ∙ new);
+          version = ap (λ (v : PureWorld P). current v) (after_publish w ks (commit ∷ [])) ∙ (let c = count in omega arith);
+          versions = ap (λ (v : PureWorld P). v.versions) (after_publish w ks (commit ∷ [])) ∙ ((λ j. renewed (count j) (s.pending j) (s.versions j)) ∙ renewed_stamped (m.version + 1) m.staged m.latest m.versions many (sound.as_many.1 ∙ sym sound.as_many.0));
+          is_open = ap (λ (v : PureWorld P). v.is_open) (after_publish w ks (commit ∷ []));
+          pending = ap (λ (v : PureWorld P). v.pending) (after_publish w ks (commit ∷ [])) ∙ (ap (λ k. replicate k None) (n ∙ sym sound.as_many.0) ∙ sym (pending_of-none m.staged m.latest many));
+        },
+      )
 
   -- many roll-backs
   abbrev all_emptied : List ℕ → List (List Bool) → List (List Bool)
@@ -137,16 +141,18 @@ module _ {P : Type 0} (fits : ℕ → P → ℕ → P → Type 0) where
       let none : (e : ℕ) (x : P) → slice_get w₂.pending e ≢ Some (Some x) = none_forgotten ks w.pending (pends_staged m w s) in
       let may : AllAllowed fits w (map roll_back ks ++ end ∷ []) = may_roll w ks (end ∷ []) (numbers_apart 0 m.staged) (staged_pends m w sound s) ((s.is_open ∙ is_open, (λ e p. none e p.0 p.1)), tt, tt) in
       let n = as_many m w s in let l = length-forgotten ks w.pending in let p = s.lawful.lengths.pending in
-      let size : length (forgotten ks w.pending) ≡ length m.committed = omega arith in
-      (may, record {
-        lawful = stays_lawful fits w (map roll_back ks ++ end ∷ []) s.lawful may;
-        lanes = ap (λ (v : PureWorld P). v.lanes) (after_roll w ks (end ∷ [])) ∙ s.lanes;
-        last = ap (λ (v : PureWorld P). last_state v.history) (after_roll w ks (end ∷ [])) ∙ s.last;
-        version = ap (λ (v : PureWorld P). current v) (after_roll w ks (end ∷ [])) ∙ s.version;
-        versions = ap (λ (v : PureWorld P). v.versions) (after_roll w ks (end ∷ [])) ∙ s.versions;
-        is_open = ap (λ (v : PureWorld P). v.is_open) (after_roll w ks (end ∷ []));
-        pending = ap (λ (v : PureWorld P). v.pending) (after_roll w ks (end ∷ [])) ∙ (all_none (forgotten ks w.pending) none ∙ (ap (λ k. replicate k None) size ∙ sym (pending_of-none m.staged m.committed many)));
-      })
+      let size : length (forgotten ks w.pending) ≡ length m.committed = omega arith in (
+        may,
+        record {
+          lawful = stays_lawful fits w (map roll_back ks ++ end ∷ []) s.lawful may;
+          lanes = ap (λ (v : PureWorld P). v.lanes) (after_roll w ks (end ∷ [])) ∙ s.lanes;
+          last = ap (λ (v : PureWorld P). last_state v.history) (after_roll w ks (end ∷ [])) ∙ s.last;
+          version = ap (λ (v : PureWorld P). current v) (after_roll w ks (end ∷ [])) ∙ s.version;
+          versions = ap (λ (v : PureWorld P). v.versions) (after_roll w ks (end ∷ [])) ∙ s.versions;
+          is_open = ap (λ (v : PureWorld P). v.is_open) (after_roll w ks (end ∷ []));
+          pending = ap (λ (v : PureWorld P). v.pending) (after_roll w ks (end ∷ [])) ∙ (all_none (forgotten ks w.pending) none ∙ (ap (λ k. replicate k None) size ∙ sym (pending_of-none m.staged m.committed many)));
+        },
+      )
 
   -- a heap that has just been opened
   pub opened_stands : (xs : List P) → 0 < length xs → AllFit fits xs → Stands fits (opening xs) (first_world xs)

@@ -94,8 +94,16 @@ module _ {P : Type 0} (fits : ℕ → P → ℕ → P → Type 0) where
           ⊎_elim (λ z. absurd (let q : false ≡ true = z.1 in cc)) (λ z. pends_on k (l.filled k n r.0 r.1 z.1)) (at_put r.0 e k false true (ap (λ (y : List Bool). slice_get y k) r.2 ∙ t))
 
   law_publish : (w : PureWorld P) (e : ℕ) → IsLawful fits w → Allowed w (publish e) → IsLawful fits (applied w (publish e))
-  law_publish w e l a = record { lengths = record { some_state = l.lengths.some_state; states = l.lengths.states; versions = l.lengths.versions; pending = l.lengths.pending; published = length-set w.published e true ∙ l.lengths.published; filled = l.lengths.filled; pins = l.lengths.pins; rows = l.lengths.rows }; fit = l.fit; stable = l.stable; pins = on; drained = l.drained; pending = l.pending; filled = l.filled;
-    published = λ k h. ⊎_elim (λ t. subst (Pends w) (sym t.0) a.1) (λ t. l.published k t.1) (at_put w.published e k true true h) }
+  law_publish w e l a = record {
+    lengths = record { some_state = l.lengths.some_state; states = l.lengths.states; versions = l.lengths.versions; pending = l.lengths.pending; published = length-set w.published e true ∙ l.lengths.published; filled = l.lengths.filled; pins = l.lengths.pins; rows = l.lengths.rows };
+    fit = l.fit;
+    stable = l.stable;
+    pins = on;
+    drained = l.drained;
+    pending = l.pending;
+    filled = l.filled;
+    published = λ k h. ⊎_elim (λ t. subst (Pends w) (sym t.0) a.1) (λ t. l.published k t.1) (at_put w.published e k true true h);
+  }
     where
       on : (n : ℕ) (o : Option ℕ) → slice_get w.pins n ≡ Some o → IsPin (applied w (publish e)) o
       on n None h = tt
@@ -123,13 +131,20 @@ module _ {P : Type 0} (fits : ℕ → P → ℕ → P → Type 0) where
       filled : (k m : ℕ) (row : List Bool) → slice_get (set w.filled n (set (unwrap_or (slice_get w.filled n) []) e true)) m ≡ Some row → slice_get row k ≡ Some true → Pends w k
       filled k m row h t = ⊎_elim
           (λ z. ⊎_elim (λ y. subst (Pends w) (sym y.0) a.2) (λ y. l.filled k n (unwrap_or (slice_get w.filled n) []) mine y.1)
-            (at_put (unwrap_or (slice_get w.filled n) []) e k true true (ap (λ (r : List Bool). slice_get r k) z.1 ∙ t)))
+          (at_put (unwrap_or (slice_get w.filled n) []) e k true true (ap (λ (r : List Bool). slice_get r k) z.1 ∙ t)))
           (λ z. l.filled k m row z.1 t) (at_put w.filled n m (set (unwrap_or (slice_get w.filled n) []) e true) row h)
 
   law_roll_back : (w : PureWorld P) (e : ℕ) → IsLawful fits w → Allowed w (roll_back e) → IsLawful fits (applied w (roll_back e))
-  law_roll_back w e l a = record { lengths = record { some_state = l.lengths.some_state; states = l.lengths.states; versions = l.lengths.versions; pending = length-set w.pending e None ∙ l.lengths.pending; published = length-set w.published e false ∙ l.lengths.published; filled = length-emptied w.filled ∙ l.lengths.filled; pins = l.lengths.pins; rows = rows }; fit = l.fit; stable = l.stable; pins = on; drained = l.drained;
-    pending = λ k p. ⊎_elim (λ z. absurd (let q : None ≡ Some p.0 = z.1 in cc)) (λ z. l.pending k (p.0, z.1)) (at_put w.pending e k None (Some p.0) p.1); filled = filled;
-    published = λ k h. ⊎_elim (λ z. absurd (let q : false ≡ true = z.1 in cc)) (λ z. pends_on k z.0 (l.published k z.1)) (at_put w.published e k false true h) }
+  law_roll_back w e l a = record {
+    lengths = record { some_state = l.lengths.some_state; states = l.lengths.states; versions = l.lengths.versions; pending = length-set w.pending e None ∙ l.lengths.pending; published = length-set w.published e false ∙ l.lengths.published; filled = length-emptied w.filled ∙ l.lengths.filled; pins = l.lengths.pins; rows = rows };
+    fit = l.fit;
+    stable = l.stable;
+    pins = on;
+    drained = l.drained;
+    pending = λ k p. ⊎_elim (λ z. absurd (let q : None ≡ Some p.0 = z.1 in cc)) (λ z. l.pending k (p.0, z.1)) (at_put w.pending e k None (Some p.0) p.1);
+    filled = filled;
+    published = λ k h. ⊎_elim (λ z. absurd (let q : false ≡ true = z.1 in cc)) (λ z. pends_on k z.0 (l.published k z.1)) (at_put w.published e k false true h);
+  }
     where
       on : (n : ℕ) (o : Option ℕ) → slice_get w.pins n ≡ Some o → IsPin (applied w (roll_back e)) o
       on n None h = tt
@@ -239,11 +254,12 @@ module _ {P : Type 0} (fits : ℕ → P → ℕ → P → Type 0) where
       stable : (e n v : ℕ) (st : List P) → slice_get (renewed (length w.history) w.pending w.versions) e ≡ Some n
           → (n ≤ current (applied w commit)) × (n ≤ v → slice_get (w.history ++ replaced (last_state w.history) w.pending ∷ []) v ≡ Some st → slice_get st e ≡ slice_get (last_state (w.history ++ replaced (last_state w.history) w.pending ∷ [])) e)
       stable e n v st h = let s = renewed-at (length w.history) w.pending w.versions e n (l.lengths.pending ∙ sym l.lengths.versions) h in (
-          ⊎_elim (λ i. let m = more in omega arith) (λ t. let m = more in let o = (l.stable e n v st t.1).0 in omega arith) s,
-          λ up at. ⊎_elim
+        ⊎_elim (λ i. let m = more in omega arith) (λ t. let m = more in let o = (l.stable e n v st t.1).0 in omega arith) s,
+        λ up at. ⊎_elim
             (λ old. ⊎_elim (λ (i : n ≡ length w.history). let b = old.0 in absurd (omega arith))
-              (λ t. (l.stable e n v st t.1).1 up old.1 ∙ (sym (replaced-none (last_state w.history) w.pending e t.0) ∙ ap (λ (z : List P). slice_get z e) (sym (last_more w.history new)))) s)
-            (λ t. ap (λ (z : List P). slice_get z e) (sym t.1 ∙ sym (last_more w.history new))) (at_more w.history new st v at))
+            (λ t. (l.stable e n v st t.1).1 up old.1 ∙ (sym (replaced-none (last_state w.history) w.pending e t.0) ∙ ap (λ (z : List P). slice_get z e) (sym (last_more w.history new)))) s)
+            (λ t. ap (λ (z : List P). slice_get z e) (sym t.1 ∙ sym (last_more w.history new))) (at_more w.history new st v at),
+      )
 
   law : (w : PureWorld P) (e : PureEvent P) → IsLawful fits w → Allowed w e → Fits fits w e → IsLawful fits (applied w e)
   law w begin l a f = law_begin fits w l a

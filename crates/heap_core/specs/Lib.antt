@@ -4,3 +4,4 @@ pub mod PlainLaws
 pub mod World
 pub mod Seen
 pub mod Stands
+pub mod Transactions

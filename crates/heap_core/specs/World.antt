@@ -92,11 +92,15 @@ module _ {P : Type 0} where
   applied w (fill n e) = record w { filled = filled_at w.filled n e }
   applied w (publish e) = record w { published = slice_set w.published e true }
   applied w commit = record {
-    entities = w.entities; lanes = w.lanes;
+    entities = w.entities;
+    lanes = w.lanes;
     history = w.history ++ replaced (last_state w.history) w.pending ∷ [];
     versions = renewed (length w.history) w.pending w.versions;
-    is_open = false; drained = false;
-    pending = replicate w.entities None; filled = replicate w.lanes (replicate w.entities false); published = replicate w.entities false;
+    is_open = false;
+    drained = false;
+    pending = replicate w.entities None;
+    filled = replicate w.lanes (replicate w.entities false);
+    published = replicate w.entities false;
     pins = w.pins;
   }
   applied w (roll_back e) = record w { pending = slice_set w.pending e None; filled = emptied w.filled e; published = slice_set w.published e false }

@@ -6,6 +6,7 @@ ghost use Rattle.heap_core.specs.Meaning.{AllFit, opening};
 ghost use Rattle.heap_core.specs.World.{PureWorld, PureEvent, IsLawful, AllAllowed, after, last_state, current};
 ghost use Rattle.heap_core.specs.Stands.{Stands, Leads, of_begin, of_stage, of_commit, of_rollback, first_world};
 
+use crate::plain::{PlainHeap, PlainReader};
 use crate::traits::{HeapReader, HeapWriter, Program};
 use flow_values::NoMemory;
 use std::sync::Arc;
@@ -13,14 +14,12 @@ use std::sync::Arc;
 /// The law: from a lawful world, every list of allowed events whose commits fit leads to a lawful world.
 pub fn stays_lawful<P: Program>(_: &P)
     ensures { (w : PureWorld P) (events : List (PureEvent P)) → IsLawful P.fits w → AllAllowed P.fits w events → IsLawful P.fits (after w events) }
-{
-}
+{}
 
 /// A heap that has just been opened stands for a world.
 pub fn opened_stands<P: Program>(_: &P)
     ensures { (state : List P) → 0 < length state → AllFit P.fits state → Stands P.fits (opening state) (first_world state) }
-{
-}
+{}
 
 /// `begin` drains where that is left to do, and begins.
 pub fn begin_stands<P: Program, W: HeapWriter<P>>(writer: &mut W)
@@ -35,7 +34,11 @@ pub fn begin_stands<P: Program, W: HeapWriter<P>>(writer: &mut W)
 /// # Errors
 ///
 /// `NoMemory` where memory is refused.
-pub fn stage_stands<P: Program, W: HeapWriter<P>>(writer: &mut W, e: u32, payload: Arc<P>) -> Result<(), NoMemory>
+pub fn stage_stands<P: Program, W: HeapWriter<P>>(
+    writer: &mut W,
+    e: u32,
+    payload: Arc<P>,
+) -> Result<(), NoMemory>
     requires { ((W.meaning writer.old).is_open ≡ true) × (e < length (W.meaning writer.old).committed) }
     ensures ok { IfOk result (λ _. Leads P.fits (W.meaning writer.old) (of_stage e (arc_value payload)) (W.meaning writer.new)) }
     ensures err { OnErr result (W.meaning writer.new ≡ W.meaning writer.old) }
@@ -57,4 +60,11 @@ pub fn rollback_stands<P: Program, W: HeapWriter<P>>(writer: &mut W)
     ensures { Leads P.fits (W.meaning writer.old) (of_rollback (W.meaning writer.old)) (W.meaning writer.new) }
 {
     writer.rollback();
+}
+
+/// A reader reads the last state of each world that the heap stands for.
+pub fn reader_stands<'a, P: Program>(heap: &'a PlainHeap<P>) -> PlainReader<'a, P>
+    ensures { (w : PureWorld P) → Stands P.fits (⟦<PlainHeap<P> as HeapWriter<P>>⟧.meaning heap.now) w → (⟦<PlainReader<'a, P> as HeapReader<P>>⟧.state result ≡ last_state w.history) × (⟦<PlainReader<'a, P> as HeapReader<P>>⟧.at result ≡ current w) }
+{
+    heap.reader()
 }

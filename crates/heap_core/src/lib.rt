@@ -5,8 +5,12 @@
 pub mod laws;
 mod plain;
 mod traits;
+pub mod transactions;
 mod world;
 
 pub use plain::{PlainHeap, PlainReader};
 pub use traits::{HeapReader, HeapWriter, Program};
 pub use world::{Event, World};
+
+#[cfg(test)]
+mod tests;

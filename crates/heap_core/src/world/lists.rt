@@ -9,7 +9,12 @@ use std::alloc::Global;
 use std::sync::Arc;
 
 /// The row, with this value at `e`.
-pub(super) fn row_with(alloc: Global, row: &[bool], e: u32, value: bool) -> Result<List<bool>, NoMemory>
+pub(super) fn row_with(
+    alloc: Global,
+    row: &[bool],
+    e: u32,
+    value: bool,
+) -> Result<List<bool>, NoMemory>
     requires { e < length row.now }
     ensures { IfOk result (λ list. list ≡ slice_set row.now e value) }
 {
@@ -19,7 +24,11 @@ pub(super) fn row_with(alloc: Global, row: &[bool], e: u32, value: bool) -> Resu
 }
 
 /// The rows, each with false at `e`.
-pub(super) fn emptied_rows(alloc: Global, rows: &[List<bool>], e: u32) -> Result<List<List<bool>>, NoMemory>
+pub(super) fn emptied_rows(
+    alloc: Global,
+    rows: &[List<bool>],
+    e: u32,
+) -> Result<List<List<bool>>, NoMemory>
     requires { (n : ℕ) (row : List Bool) → slice_get rows.now n ≡ Some row → e < length row }
     ensures { IfOk result (λ list. list ≡ emptied rows.now e) }
 {
@@ -41,7 +50,11 @@ fn latest<P: Drop>(payload: &Arc<P>, next: &Option<Arc<P>>) -> Result<Arc<P>, No
 }
 
 /// The state, with the pending payloads in place.
-pub(super) fn next_state<P: Drop>(alloc: Global, state: &[Arc<P>], pending: &[Option<Arc<P>>]) -> Result<List<Arc<P>>, NoMemory>
+pub(super) fn next_state<P: Drop>(
+    alloc: Global,
+    state: &[Arc<P>],
+    pending: &[Option<Arc<P>>],
+) -> Result<List<Arc<P>>, NoMemory>
     requires { length state.now ≡ length pending.now }
     ensures { IfOk result (λ list. map arc_value list ≡ replaced (map arc_value state.now) (map (option_map arc_value) pending.now)) }
 {
@@ -53,19 +66,31 @@ pub(super) fn next_state<P: Drop>(alloc: Global, state: &[Arc<P>], pending: &[Op
 }
 
 /// `version` where a payload pends, and else the entity's own.
-pub(super) fn next_versions<P: Drop>(alloc: Global, version: u32, versions: &[u32], pending: &[Option<Arc<P>>]) -> Result<List<u32>, NoMemory>
+pub(super) fn next_versions<P: Drop>(
+    alloc: Global,
+    version: u32,
+    versions: &[u32],
+    pending: &[Option<Arc<P>>],
+) -> Result<List<u32>, NoMemory>
     requires { length versions.now ≡ length pending.now }
     ensures { IfOk result (λ list. list ≡ renewed version (map (option_map arc_value) pending.now) versions.now) }
 {
     let mut list = List::new(alloc);
     for e in 0..versions.len() {
-        list.push(if pending[e].is_some() { version } else { versions[e] })?;
+        list.push(if pending[e].is_some() {
+            version
+        } else {
+            versions[e]
+        })?;
     }
     Ok(list)
 }
 
 /// So many times that nothing pends.
-pub(super) fn none_pending<P: Drop>(alloc: Global, count: u32) -> Result<List<Option<Arc<P>>>, NoMemory>
+pub(super) fn none_pending<P: Drop>(
+    alloc: Global,
+    count: u32,
+) -> Result<List<Option<Arc<P>>>, NoMemory>
     ensures { IfOk result (λ list. list ≡ replicate count None) }
 {
     let mut list = List::new(alloc);
@@ -83,7 +108,11 @@ pub(super) fn all_false(alloc: Global, count: u32) -> Result<List<bool>, NoMemor
 }
 
 /// So many rows of so many times false.
-pub(super) fn empty_rows(alloc: Global, lanes: u32, count: u32) -> Result<List<List<bool>>, NoMemory>
+pub(super) fn empty_rows(
+    alloc: Global,
+    lanes: u32,
+    count: u32,
+) -> Result<List<List<bool>>, NoMemory>
     ensures { IfOk result (λ list. list ≡ replicate lanes (replicate count false)) }
 {
     let mut list = List::new(alloc);

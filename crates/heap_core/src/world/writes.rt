@@ -5,7 +5,9 @@ ghost use Rattle.heap_core.specs.World.{Answers, HasLengths, Pends, IsFilled, re
 ghost use Rattle.heap_core.specs.Seen.{world_of};
 
 use super::World;
-use super::lists::{all_false, empty_rows, emptied_rows, next_state, next_versions, none_pending, row_with};
+use super::lists::{
+    all_false, emptied_rows, empty_rows, next_state, next_versions, none_pending, row_with,
+};
 use super::looks::{is_filled, none_before, none_pends, pends};
 use flow_values::{List, NoMemory};
 use std::alloc::Global;
@@ -22,7 +24,12 @@ impl<P: Drop> World<P> {
         true
     }
 
-    pub(super) fn stage(&mut self, alloc: Global, entity: u32, payload: &Arc<P>) -> Result<bool, NoMemory>
+    pub(super) fn stage(
+        &mut self,
+        alloc: Global,
+        entity: u32,
+        payload: &Arc<P>,
+    ) -> Result<bool, NoMemory>
         requires { HasLengths (world_of self.old) }
         ensures answers { IfOk result (λ yes. Answers (world_of self.old) (stage entity (arc_value payload.now)) yes (world_of self.new)) }
         ensures err { OnErr result (world_of self.new ≡ world_of self.old) }
@@ -76,7 +83,12 @@ impl<P: Drop> World<P> {
         }
         let state = self.next_state(alloc)?;
         let version = self.history.len() as u32;
-        let versions = next_versions(alloc, version, self.versions.as_slice(), self.pending.as_slice())?;
+        let versions = next_versions(
+            alloc,
+            version,
+            self.versions.as_slice(),
+            self.pending.as_slice(),
+        )?;
         let pending = none_pending(alloc, self.entities)?;
         let filled = empty_rows(alloc, self.lanes, self.entities)?;
         let published = all_false(alloc, self.entities)?;

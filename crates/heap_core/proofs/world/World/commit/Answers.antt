@@ -14,4 +14,4 @@ returns-clause-answers g c =
     let versions = c.in_ok-versions.ensures ∙ (λ j. renewed (count j) (map (option_map arc_value) (c.as_slice-2.ensures j)) (c.as_slice.ensures j)) in
     let pending = seen_nothing c.in_ok-pending.pending s.entities c.in_ok-pending.ensures in
     agrees w commit _ (c.if-not-self.false, c.is_ready.ensures.yes c.if-not-is_ready.false)
-      (λ j. record { entities = w.entities; lanes = w.lanes; history = history j; versions = versions j; is_open = false; drained = false; pending = pending j; filled = c.in_ok-filled.ensures j; published = c.in_ok-published.ensures j; pins = w.pins })
+    (λ j. record { entities = w.entities; lanes = w.lanes; history = history j; versions = versions j; is_open = false; drained = false; pending = pending j; filled = c.in_ok-filled.ensures j; published = c.in_ok-published.ensures j; pins = w.pins })

@@ -12,4 +12,4 @@ returns-clause-answers g c =
     let published = c.set-2.ensures in
     let p = c.pends.ensures.yes c.if-not-pends.false in let n = ap length c.as_slice.ensures in let m = c.requires.pending in let k = length-seen c.args.self.now.pending in
     agrees w (roll_back c.args.entity) _ (omega arith, pends_as c.as_slice.result.now c.args.self.now.pending c.args.entity c.as_slice.ensures p.1)
-      (λ j. record { entities = w.entities; lanes = w.lanes; history = w.history; versions = w.versions; is_open = w.is_open; drained = w.drained; pending = pending j; filled = filled j; published = published j; pins = w.pins })
+    (λ j. record { entities = w.entities; lanes = w.lanes; history = w.history; versions = w.versions; is_open = w.is_open; drained = w.drained; pending = pending j; filled = filled j; published = published j; pins = w.pins })

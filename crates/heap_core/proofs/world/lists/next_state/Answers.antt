@@ -15,7 +15,7 @@ loop-e-preserved g c =
     let here : i < length cs = omega arith in let there : i < length xs = omega arith in
     let old = c.index-state-e.result in let next = c.index-pending-e.result in
     seen_step c.loop-e.list c.push.new.self (replaced (map arc_value cs) (map (option_map arc_value) xs)) i c.in_ok-latest.field-0 (unwrap_or (option_map arc_value next) (arc_value old)) c.in_ok-push.ensures.ok c.loop-e.invariant c.in_ok-latest.ensures
-      (replaced_at (map arc_value cs) (map (option_map arc_value) xs) i (arc_value old) (option_map arc_value next) (get-values cs i old (get_index cs i old here c.index-state-e.is)) (get-seen xs i next (get_index xs i next there c.index-pending-e.is)))
+    (replaced_at (map arc_value cs) (map (option_map arc_value) xs) i (arc_value old) (option_map arc_value next) (get-values cs i old (get_index cs i old here c.index-state-e.is)) (get-seen xs i next (get_index xs i next there c.index-pending-e.is)))
 
 pub returns : goal.returns
 returns g c =

@@ -18,10 +18,10 @@ loop-e-preserved g c =
     let at = renewed_at c.args.version (map (option_map arc_value) xs) ns i (get_or ns i 0) (option_map arc_value next) (slice_get-get_or ns i 0 here) (get-seen xs i next (get_index xs i next there c.index-pending-e.is)) in
     let is = c.is_some.ensures ∙ sym (is_some-seen next) in
     front_step c.loop-e.list c.push.new.self (renewed c.args.version (map (option_map arc_value) xs) ns) i _ c.in_ok-push.ensures.ok c.loop-e.invariant
-      (at ∙ elim c.if-is_some.branch [
-        | then-is_some w ↦ (λ j. Some (cond ((sym is ∙ w.if-is_some.true) j) c.args.version (get_or ns i 0))) ∙ ap Some (sym w.push-is)
-        | else-is_some w ↦ (λ j. Some (cond ((sym is ∙ w.if-is_some.false) j) c.args.version (get_or ns i 0))) ∙ ap Some (sym w.push-is)
-      ])
+    (at ∙ elim c.if-is_some.branch [
+      | then-is_some w ↦ (λ j. Some (cond ((sym is ∙ w.if-is_some.true) j) c.args.version (get_or ns i 0))) ∙ ap Some (sym w.push-is)
+      | else-is_some w ↦ (λ j. Some (cond ((sym is ∙ w.if-is_some.false) j) c.args.version (get_or ns i 0))) ∙ ap Some (sym w.push-is)
+    ])
 
 pub returns : goal.returns
 returns g c =

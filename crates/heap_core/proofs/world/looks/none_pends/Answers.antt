@@ -16,7 +16,7 @@ pub loop-payload-preserved : goal.loop-payload-preserved
 loop-payload-preserved g c e x below h =
     let i : ℕ = c.loop-payload.payload-index in let at = get_index c.args.pending.now i c.payload-item.result (omega arith) c.payload-item.is in
     dite (ℕ_discrete e i) (λ (same : e ≡ i). pends_none c.args.pending.now i c.payload-item.result at (sym c.is_some.ensures ∙ c.if-is_some.false) x (ap (slice_get (map (option_map arc_value) c.args.pending.now)) (sym same) ∙ h))
-      (λ (ne : e ≢ i). let lower : e < i = omega arith in c.loop-payload.invariant e x lower h)
+    (λ (ne : e ≢ i). let lower : e < i = omega arith in c.loop-payload.invariant e x lower h)
 
 pub returns-clause-yes : goal.returns-clause-yes
 returns-clause-yes g c _ e p = let n = pends_within c.args.pending.now e p.0 p.1 in let lower : e < c.loop-payload.payload-index = omega arith in c.loop-payload.invariant e p.0 lower p.1

@@ -1,0 +1,1 @@
+//! A writer that tells its states.
