@@ -1,5 +1,6 @@
 pub mod Lists
 pub mod Overlays
+pub mod Lengths
 pub mod WorldLaw
 pub mod Worlds
 pub mod Numbers

@@ -1,5 +1,5 @@
 -- What stands where in a list.
-use Rattle.std.proofs.Common.{◌≡◌, ◌≢◌, ◌⊎◌, ℕ, zero, suc, ◌+◌, ◌<◌, ◌≤◌, List, [], ◌∷◌, ◌++◌, length, set, get_or, slice_get, drop, refl, sym, ap, ◌∙◌, inl, inr, ⊎_elim, arith, Option, Some, None}
+use Rattle.std.proofs.Common.{◌≡◌, ◌≢◌, ◌⊎◌, ℕ, zero, suc, ◌+◌, ◌<◌, ◌≤◌, List, [], ◌∷◌, ◌++◌, length, set, get_or, slice_get, drop, refl, sym, ap, inl, inr, ⊎_elim, arith, Some}
 use Rattle.heap_core.specs.PlainLaws.{none_some}
 
 module _ {A : Type 0} where
@@ -44,3 +44,15 @@ module _ {A : Type 0} where
   at_more [] y x (suc n) h = absurd (none_some x h)
   at_more (z ∷ zs) y x zero h = inl (omega arith, h)
   at_more (z ∷ zs) y x (suc n) h = ⊎_elim (λ t. inl (let b = t.0 in omega arith, t.1)) (λ t. inr (ap suc t.0, t.1)) (at_more zs y x n h)
+
+  pub put_here : (xs : List A) (i : ℕ) (a : A) → i < length xs → slice_get (set xs i a) i ≡ Some a
+  put_here [] i a h = absurd (omega arith)
+  put_here (x ∷ xs) zero a h = refl
+  put_here (x ∷ xs) (suc i) a h = put_here xs i a (omega arith)
+
+  pub put_else : (xs : List A) (i n : ℕ) (a : A) → n ≢ i → slice_get (set xs i a) n ≡ slice_get xs n
+  put_else [] i n a ne = refl
+  put_else (x ∷ xs) zero zero a ne = absurd (ne refl)
+  put_else (x ∷ xs) zero (suc n) a ne = refl
+  put_else (x ∷ xs) (suc i) zero a ne = refl
+  put_else (x ∷ xs) (suc i) (suc n) a ne = put_else xs i n a (λ e. ne (ap suc e))

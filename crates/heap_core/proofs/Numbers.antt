@@ -1,5 +1,5 @@
 -- The numbers of the staged entities, and the payloads that pend.
-use Rattle.std.proofs.Common.{◌≡◌, ◌≢◌, ℕ, zero, suc, ◌+◌, ◌<◌, Bool, true, false, cond, List, [], ◌∷◌, ◌++◌, map, length, set, replicate, slice_get, refl, sym, ap, ◌∙◌, inl, inr, ⊎_elim, arith, Option, Some, None, length-set}
+use Rattle.std.proofs.Common.{◌≡◌, ◌≢◌, ℕ, zero, suc, ◌+◌, ◌<◌, Bool, true, false, cond, List, [], ◌∷◌, length, set, replicate, slice_get, refl, ap, ◌∙◌, ⊎_elim, arith, Option, Some, None, length-set}
 use Rattle.std.specs.Prelude.{eqb, ◌||◌}
 use Rattle.std.proofs.lemmas.Bool.Decides.{nat_tests}
 use mathlib.Core.Logic.{dite}
@@ -9,9 +9,8 @@ use Rattle.heap_core.specs.Plain.{names}
 use Rattle.heap_core.specs.PlainLaws.{none_some}
 use Rattle.heap_core.specs.World.{replaced, renewed}
 use Rattle.heap_core.specs.Stands.{numbers, pending_of}
-use Rattle.heap_core.proofs.Lists.{at_put}
+use Rattle.heap_core.proofs.Lists.{at_put, put_here, put_else}
 use Rattle.heap_core.proofs.Overlays.{names-skip}
-use Rattle.heap_core.proofs.WorldLaw.{put_here, put_else}
 
 pub names-first : (k : ℕ) (ks : List ℕ) → names (k ∷ ks) k ≡ true
 names-first k ks = grind (arith, nat_tests)

@@ -1,5 +1,5 @@
 -- What the calls of a plain heap do to its lists.
-use Rattle.std.proofs.Common.{◌≡◌, ℕ, zero, suc, ◌<◌, ◌≤◌, ◌+◌, ◌-◌, subst, ◌≢◌, ◌⊎◌, Bool, true, false, cond, List, [], ◌∷◌, ◌++◌, map, length, set, get_or, slice_get, drop, replicate, refl, sym, ap, ◌∙◌, inl, inr, ⊎_elim, arith, Option, Some, None}
+use Rattle.std.proofs.Common.{◌≡◌, ℕ, zero, suc, ◌<◌, ◌≤◌, ◌+◌, ◌-◌, subst, ◌≢◌, Bool, true, false, cond, List, [], ◌∷◌, ◌++◌, length, set, slice_get, drop, replicate, refl, sym, ap, ◌∙◌, ⊎_elim, arith, Option, Some, None}
 use Rattle.std.specs.Prelude.{is_some, unwrap_or, eqb, ◌||◌}
 use Rattle.std.proofs.lemmas.Bool.Decides.{nat_tests}
 use Rattle.std.specs.Arc.{arc_value}

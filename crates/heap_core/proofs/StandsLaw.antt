@@ -1,23 +1,21 @@
 -- A heap that keeps no history stands for worlds, and each call takes each of them to one that the heap then stands for.
-use Rattle.std.proofs.Common.{◌≡◌, ◌≢◌, ℕ, zero, suc, ◌+◌, ◌-◌, ◌<◌, Bool, true, false, cond, List, [], ◌∷◌, ◌++◌, map, length, set, replicate, slice_get, refl, sym, ap, ◌∙◌, subst, arith, Option, Some, None, length-set, length-append}
+use Rattle.std.proofs.Common.{◌≡◌, ◌≢◌, ℕ, zero, suc, ◌+◌, ◌-◌, ◌<◌, Bool, true, false, cond, List, [], ◌∷◌, ◌++◌, map, length, set, replicate, slice_get, refl, sym, ap, ◌∙◌, subst, arith, Option, Some, None, length-append}
 use Rattle.std.specs.Prelude.{Result, Ok, Err, IfOk}
 use Rattle.std.proofs.lemmas.List.{length-replicate}
-use Rattle.heap_core.specs.Meaning.{Meaning, AllFit, IsSound, none_of, opening, opened, staging, after_commit, after_rollback}
+use Rattle.heap_core.specs.Meaning.{Meaning, AllFit, IsSound, opening, opened, staging, after_commit, after_rollback}
 use Rattle.heap_core.specs.Plain.{names}
 use Rattle.heap_core.specs.PlainLaws.{none_some}
-use Rattle.heap_core.specs.World.{PureWorld, PureEvent, begin, stage, publish, commit, roll_back, end, drain, replaced, renewed, emptied, current, last_state, Pends, IsFilled, Allowed, Fits, applied, HasLengths, IsLawful, AllAllowed, after}
+use Rattle.heap_core.specs.World.{PureWorld, PureEvent, begin, stage, publish, commit, roll_back, end, drain, replaced, renewed, emptied, current, last_state, Pends, IsFilled, applied, AllAllowed, after}
 use Rattle.heap_core.specs.Stands.{numbers, pending_of, Stands, Leads, of_begin, of_stage, of_commit, of_rollback, first_world}
-use Rattle.heap_core.proofs.WorldLaw.{stays_lawful, last_there, last_more, put_here, put_else, many_at}
-use Rattle.heap_core.proofs.Numbers.{names-first, names-later, numbers_from, numbers_has, Apart, numbers_apart, length-pending_of, pending_of-staged, staged-pending_of, pending_of-set, pending_of-none, replaced_latest, renewed_stamped, marked, marked_here, forgotten, length-forgotten, none_forgotten, all_none}
+use Rattle.heap_core.proofs.WorldLaw.{stays_lawful}
+use Rattle.heap_core.proofs.Lengths.{length-emptied, last_there, last_more, many_at}
+use Rattle.heap_core.proofs.Lists.{put_here, put_else}
+use Rattle.heap_core.proofs.Numbers.{names-first, names-later, numbers_from, numbers_has, Apart, numbers_apart, pending_of-staged, staged-pending_of, pending_of-set, pending_of-none, replaced_latest, renewed_stamped, marked, marked_here, forgotten, length-forgotten, none_forgotten, all_none}
 
 module _ {A : Type 0} where
   no_rows : (rows : List A) → length rows ≡ 0 → (n : ℕ) (row : A) → slice_get rows n ≡ Some row → ⊥
   no_rows [] z n row h = none_some row h
   no_rows (r ∷ rs) z n row h = absurd (omega arith)
-
-length-emptied : (rows : List (List Bool)) (e : ℕ) → length (emptied rows e) ≡ length rows
-length-emptied [] e = refl
-length-emptied (r ∷ rs) e = ap suc (length-emptied rs e)
 
 module _ {P : Type 0} (fits : ℕ → P → ℕ → P → Type 0) where
   -- the sizes of a world that a heap stands for

@@ -1,5 +1,5 @@
 -- What whole transactions do.
-use Rattle.std.proofs.Common.{◌≡◌, ◌≢◌, ℕ, zero, suc, ◌+◌, ◌<◌, Bool, true, false, cond, List, [], ◌∷◌, ◌++◌, map, length, set, slice_get, take, refl, sym, ap, ◌∙◌, subst, arith, Option, Some, None, length-set}
+use Rattle.std.proofs.Common.{◌≡◌, ◌≢◌, ℕ, zero, suc, ◌+◌, ◌<◌, Bool, true, false, List, [], ◌∷◌, ◌++◌, length, set, slice_get, take, refl, sym, ap, ◌∙◌, subst, arith, Option, Some, None, length-set}
 use Rattle.std.specs.Prelude.{eqb, ◌||◌, Result, Ok, Err, OnOk, OnErr, is_err}
 use Rattle.std.proofs.lemmas.Bool.Decides.{nat_tests}
 use Rattle.std.specs.Arc.{arc_value}
@@ -9,7 +9,7 @@ use Rattle.heap_core.specs.Plain.{names}
 use Rattle.heap_core.specs.PlainLaws.{none_some}
 use Rattle.heap_core.specs.Transactions.{changes_of, numbers_of, written, all_staged, Committed}
 use Rattle.heap_core.proofs.Worlds.{take_step}
-use Rattle.heap_core.proofs.WorldLaw.{put_else}
+use Rattle.heap_core.proofs.Lists.{put_else}
 use Rattle.heap_core.proofs.Numbers.{marked, marked_here}
 
 module _ {P Z : Type 0} where

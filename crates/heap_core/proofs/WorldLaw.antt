@@ -1,45 +1,33 @@
 -- A lawful world stays lawful.
-use Rattle.std.proofs.Common.{◌≡◌, ◌≢◌, ◌⊎◌, ℕ, zero, suc, ◌+◌, ◌-◌, ◌<◌, ◌≤◌, Bool, true, false, List, [], ◌∷◌, ◌++◌, map, length, replicate, set, slice_get, refl, sym, ap, ◌∙◌, subst, inl, inr, ⊎_elim, arith, Option, Some, None, length-set, length-append}
+use Rattle.std.proofs.Common.{◌≡◌, ◌≢◌, ℕ, ◌+◌, ◌-◌, ◌≤◌, Bool, true, false, List, [], ◌∷◌, ◌++◌, length, replicate, set, slice_get, refl, sym, ap, ◌∙◌, subst, inl, inr, ⊎_elim, arith, Option, Some, None, length-append}
 use mathlib.Core.Logic.{dite}
 use native.Mathlib.Decide.{ℕ_discrete}
 use Rattle.std.specs.Prelude.{unwrap_or}
 use Rattle.heap_core.specs.Meaning.{AllFit}
-use Rattle.heap_core.proofs.Lists.{at_put, at_more}
-use Rattle.heap_core.specs.World.{PureWorld, PureEvent, begin, stage, fill, publish, commit, roll_back, end, pin, read, unpin, drain, replaced, renewed, emptied, current, Pends, IsFilled, Allowed, applied, last_state, Fits, IsPin, IsLawful, AllAllowed, after}
-
-module _ {A : Type 0} where
-  pub put_here : (xs : List A) (i : ℕ) (a : A) → i < length xs → slice_get (set xs i a) i ≡ Some a
-  put_here [] i a h = absurd (omega arith)
-  put_here (x ∷ xs) zero a h = refl
-  put_here (x ∷ xs) (suc i) a h = put_here xs i a (omega arith)
-
-  pub put_else : (xs : List A) (i n : ℕ) (a : A) → n ≢ i → slice_get (set xs i a) n ≡ slice_get xs n
-  put_else [] i n a ne = refl
-  put_else (x ∷ xs) zero zero a ne = absurd (ne refl)
-  put_else (x ∷ xs) zero (suc n) a ne = refl
-  put_else (x ∷ xs) (suc i) zero a ne = refl
-  put_else (x ∷ xs) (suc i) (suc n) a ne = put_else xs i n a (λ e. ne (ap suc e))
+use Rattle.heap_core.proofs.Lists.{at_put, at_more, put_here, put_else}
+use Rattle.heap_core.proofs.Lengths.{last_more, replaced-none, renewed-at, many_at, row_of, row_there, lengths_kept}
+use Rattle.heap_core.specs.World.{PureWorld, PureEvent, begin, stage, fill, publish, commit, roll_back, end, pin, read, unpin, drain, replaced, renewed, emptied, current, Pends, Allowed, applied, last_state, Fits, IsPin, IsLawful, AllAllowed, after}
 
 module _ {P : Type 0} (fits : ℕ → P → ℕ → P → Type 0) where
   L : PureWorld P → Type 0
   L = IsLawful fits
 
   law_begin : (w : PureWorld P) → IsLawful fits w → Allowed w begin → IsLawful fits (applied w begin)
-  law_begin w l a = record { lengths = record { some_state = l.lengths.some_state; states = l.lengths.states; versions = l.lengths.versions; pending = l.lengths.pending; published = l.lengths.published; filled = l.lengths.filled; pins = l.lengths.pins; rows = l.lengths.rows }; fit = l.fit; stable = l.stable; pins = on; drained = ((λ _. a.1), l.drained.1); pending = λ e p. refl; filled = l.filled; published = l.published }
+  law_begin w l a = record { lengths = lengths_kept w begin l.lengths a; fit = l.fit; stable = l.stable; pins = on; drained = ((λ _. a.1), l.drained.1); pending = λ e p. refl; filled = l.filled; published = l.published }
     where
       on : (n : ℕ) (o : Option ℕ) → slice_get w.pins n ≡ Some o → IsPin (applied w begin) o
       on n None h = tt
       on n (Some c) h = l.pins n (Some c) h
 
   law_end : (w : PureWorld P) → IsLawful fits w → Allowed w end → IsLawful fits (applied w end)
-  law_end w l a = record { lengths = record { some_state = l.lengths.some_state; states = l.lengths.states; versions = l.lengths.versions; pending = l.lengths.pending; published = l.lengths.published; filled = l.lengths.filled; pins = l.lengths.pins; rows = l.lengths.rows }; fit = l.fit; stable = l.stable; pins = on; drained = ((λ no. absurd (let z : false ≡ true = no in cc)), l.drained.1); pending = λ e p. absurd (a.1 e p); filled = l.filled; published = l.published }
+  law_end w l a = record { lengths = lengths_kept w end l.lengths a; fit = l.fit; stable = l.stable; pins = on; drained = ((λ no. absurd (let z : false ≡ true = no in cc)), l.drained.1); pending = λ e p. absurd (a.1 e p); filled = l.filled; published = l.published }
     where
       on : (n : ℕ) (o : Option ℕ) → slice_get w.pins n ≡ Some o → IsPin (applied w end) o
       on n None h = tt
       on n (Some c) h = l.pins n (Some c) h
 
   law_pin : (w : PureWorld P) (k : ℕ) → IsLawful fits w → Allowed w (pin k) → IsLawful fits (applied w (pin k))
-  law_pin w k l a = record { lengths = record { some_state = l.lengths.some_state; states = l.lengths.states; versions = l.lengths.versions; pending = l.lengths.pending; published = l.lengths.published; filled = l.lengths.filled; pins = length-set w.pins k (Some (current w)) ∙ l.lengths.pins; rows = l.lengths.rows }; fit = l.fit; stable = l.stable; pins = on; drained = l.drained; pending = l.pending; filled = l.filled; published = l.published }
+  law_pin w k l a = record { lengths = lengths_kept w (pin k) l.lengths a; fit = l.fit; stable = l.stable; pins = on; drained = l.drained; pending = l.pending; filled = l.filled; published = l.published }
     where
       old : (n : ℕ) (o : Option ℕ) → slice_get w.pins n ≡ Some o → IsPin (applied w (pin k)) o
       old n None h = tt
@@ -49,7 +37,7 @@ module _ {P : Type 0} (fits : ℕ → P → ℕ → P → Type 0) where
       on n o h = ⊎_elim (λ t. subst (IsPin (applied w (pin k))) t.1 (inl refl)) (λ t. old n o t.1) (at_put w.pins k n (Some (current w)) o h)
 
   law_unpin : (w : PureWorld P) (k : ℕ) → IsLawful fits w → Allowed w (unpin k) → IsLawful fits (applied w (unpin k))
-  law_unpin w k l a = record { lengths = record { some_state = l.lengths.some_state; states = l.lengths.states; versions = l.lengths.versions; pending = l.lengths.pending; published = l.lengths.published; filled = l.lengths.filled; pins = length-set w.pins k None ∙ l.lengths.pins; rows = l.lengths.rows }; fit = l.fit; stable = l.stable; pins = on; drained = l.drained; pending = l.pending; filled = l.filled; published = l.published }
+  law_unpin w k l a = record { lengths = lengths_kept w (unpin k) l.lengths a; fit = l.fit; stable = l.stable; pins = on; drained = l.drained; pending = l.pending; filled = l.filled; published = l.published }
     where
       old : (n : ℕ) (o : Option ℕ) → slice_get w.pins n ≡ Some o → IsPin (applied w (unpin k)) o
       old n None h = tt
@@ -59,43 +47,30 @@ module _ {P : Type 0} (fits : ℕ → P → ℕ → P → Type 0) where
       on n o h = ⊎_elim (λ t. subst (IsPin (applied w (unpin k))) t.1 tt) (λ t. old n o t.1) (at_put w.pins k n None o h)
 
   law_drain : (w : PureWorld P) → IsLawful fits w → Allowed w drain → IsLawful fits (applied w drain)
-  law_drain w l a = record { lengths = record { some_state = l.lengths.some_state; states = l.lengths.states; versions = l.lengths.versions; pending = l.lengths.pending; published = l.lengths.published; filled = l.lengths.filled; pins = l.lengths.pins; rows = l.lengths.rows }; fit = l.fit; stable = l.stable; pins = on; drained = ((λ _. refl), (λ _. refl)); pending = l.pending; filled = l.filled; published = l.published }
+  law_drain w l a = record { lengths = lengths_kept w drain l.lengths a; fit = l.fit; stable = l.stable; pins = on; drained = ((λ _. refl), (λ _. refl)); pending = l.pending; filled = l.filled; published = l.published }
     where
       on : (n : ℕ) (o : Option ℕ) → slice_get w.pins n ≡ Some o → IsPin (applied w drain) o
       on n None h = tt
       on n (Some c) h = ⊎_elim (λ e. inl e) (λ t. absurd (a.1 n c h t.0)) (l.pins n (Some c) h)
 
   law_stage : (w : PureWorld P) (e : ℕ) (x : P) → IsLawful fits w → Allowed w (stage e x) → IsLawful fits (applied w (stage e x))
-  law_stage w e x l a = record { lengths = record { some_state = l.lengths.some_state; states = l.lengths.states; versions = l.lengths.versions; pending = length-set w.pending e (Some x) ∙ l.lengths.pending; published = l.lengths.published; filled = length-emptied w.filled ∙ l.lengths.filled; pins = l.lengths.pins; rows = rows }; fit = l.fit; stable = l.stable; pins = on; drained = l.drained; pending = λ k p. a.1; filled = filled; published = λ k h. pends_on k (l.published k h) }
+  law_stage w e x l a = record { lengths = lengths_kept w (stage e x) l.lengths a; fit = l.fit; stable = l.stable; pins = on; drained = l.drained; pending = λ k p. a.1; filled = filled; published = λ k h. pends_on k (l.published k h) }
     where
       on : (n : ℕ) (o : Option ℕ) → slice_get w.pins n ≡ Some o → IsPin (applied w (stage e x)) o
       on n None h = tt
       on n (Some c) h = l.pins n (Some c) h
-
-      length-emptied : (rs : List (List Bool)) → length (emptied rs e) ≡ length rs
-      length-emptied [] = refl
-      length-emptied (r ∷ rs) = ap suc (length-emptied rs)
-
-      -- a row of the emptied lists is a row with false at e
-      row_of : (rs : List (List Bool)) (n : ℕ) (row : List Bool) → slice_get (emptied rs e) n ≡ Some row → (r : List Bool) × (slice_get rs n ≡ Some r) × (set r e false ≡ row)
-      row_of [] n row h = absurd (let z : None ≡ Some row = h in cc)
-      row_of (r ∷ rs) zero row h = (r, refl, (let z : Some (set r e false) ≡ Some row = h in cc))
-      row_of (r ∷ rs) (suc n) row h = row_of rs n row h
-
-      rows : (n : ℕ) (row : List Bool) → slice_get (emptied w.filled e) n ≡ Some row → length row ≡ w.entities
-      rows n row h = let r = row_of w.filled n row h in ap length (sym r.2) ∙ (length-set r.0 e false ∙ l.lengths.rows n r.0 r.1)
 
       pends_on : (k : ℕ) → Pends w k → Pends (applied w (stage e x)) k
       pends_on k p = dite (ℕ_discrete k e) (λ (i : k ≡ e). (x, ap (slice_get (set w.pending e (Some x))) i ∙ put_here w.pending e (Some x) (let n = l.lengths.pending in let b = a.0 in omega arith)))
           (λ ne. (p.0, put_else w.pending e k (Some x) ne ∙ p.1))
 
       filled : (k n : ℕ) (row : List Bool) → slice_get (emptied w.filled e) n ≡ Some row → slice_get row k ≡ Some true → Pends (applied w (stage e x)) k
-      filled k n row h t = let r = row_of w.filled n row h in
+      filled k n row h t = let r = row_of e w.filled n row h in
           ⊎_elim (λ z. absurd (let q : false ≡ true = z.1 in cc)) (λ z. pends_on k (l.filled k n r.0 r.1 z.1)) (at_put r.0 e k false true (ap (λ (y : List Bool). slice_get y k) r.2 ∙ t))
 
   law_publish : (w : PureWorld P) (e : ℕ) → IsLawful fits w → Allowed w (publish e) → IsLawful fits (applied w (publish e))
   law_publish w e l a = record {
-    lengths = record { some_state = l.lengths.some_state; states = l.lengths.states; versions = l.lengths.versions; pending = l.lengths.pending; published = length-set w.published e true ∙ l.lengths.published; filled = l.lengths.filled; pins = l.lengths.pins; rows = l.lengths.rows };
+    lengths = lengths_kept w (publish e) l.lengths a;
     fit = l.fit;
     stable = l.stable;
     pins = on;
@@ -110,23 +85,14 @@ module _ {P : Type 0} (fits : ℕ → P → ℕ → P → Type 0) where
       on n (Some c) h = l.pins n (Some c) h
 
   law_fill : (w : PureWorld P) (n e : ℕ) → IsLawful fits w → Allowed w (fill n e) → IsLawful fits (applied w (fill n e))
-  law_fill w n e l a = record { lengths = record { some_state = l.lengths.some_state; states = l.lengths.states; versions = l.lengths.versions; pending = l.lengths.pending; published = l.lengths.published; filled = length-set w.filled n (set (unwrap_or (slice_get w.filled n) []) e true) ∙ l.lengths.filled; pins = l.lengths.pins; rows = rows }; fit = l.fit; stable = l.stable; pins = on; drained = l.drained; pending = l.pending; filled = filled; published = l.published }
+  law_fill w n e l a = record { lengths = lengths_kept w (fill n e) l.lengths a; fit = l.fit; stable = l.stable; pins = on; drained = l.drained; pending = l.pending; filled = filled; published = l.published }
     where
       on : (k : ℕ) (o : Option ℕ) → slice_get w.pins k ≡ Some o → IsPin (applied w (fill n e)) o
       on k None h = tt
       on k (Some c) h = l.pins k (Some c) h
 
-      there : (rs : List (List Bool)) (k : ℕ) → k < length rs → slice_get rs k ≡ Some (unwrap_or (slice_get rs k) [])
-      there [] k h = absurd (omega arith)
-      there (r ∷ rs) zero h = refl
-      there (r ∷ rs) (suc k) h = there rs k (omega arith)
-
       mine : slice_get w.filled n ≡ Some (unwrap_or (slice_get w.filled n) [])
-      mine = there w.filled n (let b = l.lengths.filled in let c = a.0 in omega arith)
-
-      rows : (k : ℕ) (row : List Bool) → slice_get (set w.filled n (set (unwrap_or (slice_get w.filled n) []) e true)) k ≡ Some row → length row ≡ w.entities
-      rows k row h = ⊎_elim (λ t. ap length (sym t.1) ∙ (length-set (unwrap_or (slice_get w.filled n) []) e true ∙ l.lengths.rows n (unwrap_or (slice_get w.filled n) []) mine)) (λ t. l.lengths.rows k row t.1)
-          (at_put w.filled n k (set (unwrap_or (slice_get w.filled n) []) e true) row h)
+      mine = row_there w.filled n (let b = l.lengths.filled in let c = a.0 in omega arith)
 
       filled : (k m : ℕ) (row : List Bool) → slice_get (set w.filled n (set (unwrap_or (slice_get w.filled n) []) e true)) m ≡ Some row → slice_get row k ≡ Some true → Pends w k
       filled k m row h t = ⊎_elim
@@ -136,7 +102,7 @@ module _ {P : Type 0} (fits : ℕ → P → ℕ → P → Type 0) where
 
   law_roll_back : (w : PureWorld P) (e : ℕ) → IsLawful fits w → Allowed w (roll_back e) → IsLawful fits (applied w (roll_back e))
   law_roll_back w e l a = record {
-    lengths = record { some_state = l.lengths.some_state; states = l.lengths.states; versions = l.lengths.versions; pending = length-set w.pending e None ∙ l.lengths.pending; published = length-set w.published e false ∙ l.lengths.published; filled = length-emptied w.filled ∙ l.lengths.filled; pins = l.lengths.pins; rows = rows };
+    lengths = lengths_kept w (roll_back e) l.lengths a;
     fit = l.fit;
     stable = l.stable;
     pins = on;
@@ -150,87 +116,17 @@ module _ {P : Type 0} (fits : ℕ → P → ℕ → P → Type 0) where
       on n None h = tt
       on n (Some c) h = l.pins n (Some c) h
 
-      length-emptied : (rs : List (List Bool)) → length (emptied rs e) ≡ length rs
-      length-emptied [] = refl
-      length-emptied (r ∷ rs) = ap suc (length-emptied rs)
-
-      row_of : (rs : List (List Bool)) (n : ℕ) (row : List Bool) → slice_get (emptied rs e) n ≡ Some row → (r : List Bool) × (slice_get rs n ≡ Some r) × (set r e false ≡ row)
-      row_of [] n row h = absurd (let z : None ≡ Some row = h in cc)
-      row_of (r ∷ rs) zero row h = (r, refl, (let z : Some (set r e false) ≡ Some row = h in cc))
-      row_of (r ∷ rs) (suc n) row h = row_of rs n row h
-
-      rows : (n : ℕ) (row : List Bool) → slice_get (emptied w.filled e) n ≡ Some row → length row ≡ w.entities
-      rows n row h = let r = row_of w.filled n row h in ap length (sym r.2) ∙ (length-set r.0 e false ∙ l.lengths.rows n r.0 r.1)
-
       pends_on : (k : ℕ) → k ≢ e → Pends w k → Pends (applied w (roll_back e)) k
       pends_on k ne p = (p.0, put_else w.pending e k None ne ∙ p.1)
 
       filled : (k n : ℕ) (row : List Bool) → slice_get (emptied w.filled e) n ≡ Some row → slice_get row k ≡ Some true → Pends (applied w (roll_back e)) k
-      filled k n row h t = let r = row_of w.filled n row h in
+      filled k n row h t = let r = row_of e w.filled n row h in
           ⊎_elim (λ z. absurd (let q : false ≡ true = z.1 in cc)) (λ z. pends_on k z.0 (l.filled k n r.0 r.1 z.1)) (at_put r.0 e k false true (ap (λ (y : List Bool). slice_get y k) r.2 ∙ t))
-
--- lists, at a commit
-module _ {A : Type 0} where
-  pub last_more : (xs : List (List A)) (y : List A) → last_state (xs ++ y ∷ []) ≡ y
-  last_more [] y = refl
-  last_more (x ∷ []) y = refl
-  last_more (x ∷ z ∷ zs) y = last_more (z ∷ zs) y
-
-  pub last_there : (xs : List (List A)) → 0 < length xs → slice_get xs (length xs - 1) ≡ Some (last_state xs)
-  last_there [] h = absurd (omega arith)
-  last_there (x ∷ []) h = refl
-  last_there (x ∷ z ∷ zs) h = let n : length (x ∷ z ∷ zs) - 1 ≡ suc (length (z ∷ zs) - 1) = omega arith in ap (slice_get (x ∷ z ∷ zs)) n ∙ last_there (z ∷ zs) (omega arith)
-
-  pub length-replaced : (xs : List A) (ps : List (Option A)) → length (replaced xs ps) ≡ length xs
-  length-replaced [] ps = refl
-  length-replaced (x ∷ xs) [] = refl
-  length-replaced (x ∷ xs) (p ∷ ps) = ap suc (length-replaced xs ps)
-
-  pub length-renewed : (v : ℕ) (ps : List (Option A)) (ns : List ℕ) → length (renewed v ps ns) ≡ length ns
-  length-renewed v [] ns = refl
-  length-renewed v (None ∷ ps) [] = refl
-  length-renewed v (Some p ∷ ps) [] = refl
-  length-renewed v (Some p ∷ ps) (n ∷ ns) = ap suc (length-renewed v ps ns)
-  length-renewed v (None ∷ ps) (n ∷ ns) = ap suc (length-renewed v ps ns)
-
-  pub replaced-none : (xs : List A) (ps : List (Option A)) (e : ℕ) → slice_get ps e ≡ Some None → slice_get (replaced xs ps) e ≡ slice_get xs e
-  replaced-none [] ps e h = refl
-  replaced-none (x ∷ xs) [] e h = refl
-  replaced-none (x ∷ xs) (p ∷ ps) zero h = let i : p ≡ None = (let z : Some p ≡ Some None = h in cc) in ap (λ (o : Option A). Some (unwrap_or o x)) i
-  replaced-none (x ∷ xs) (p ∷ ps) (suc e) h = replaced-none xs ps e h
-
-  -- a version is the new one, or the old one of an entity that does not pend
-  pub renewed-at : (v : ℕ) (ps : List (Option A)) (ns : List ℕ) (e n : ℕ) → length ps ≡ length ns → slice_get (renewed v ps ns) e ≡ Some n → (n ≡ v) ⊎ ((slice_get ps e ≡ Some None) × (slice_get ns e ≡ Some n))
-  renewed-at v [] [] e n s h = absurd (let z : None ≡ Some n = h in cc)
-  renewed-at v [] (m ∷ ms) e n s h = absurd (omega arith)
-  renewed-at v (p ∷ ps) [] e n s h = absurd (omega arith)
-  renewed-at v (Some p ∷ ps) (m ∷ ms) zero n s h = inl (let z : Some v ≡ Some n = h in cc)
-  renewed-at v (None ∷ ps) (m ∷ ms) zero n s h = inr (refl, h)
-  renewed-at v (Some p ∷ ps) (m ∷ ms) (suc e) n s h = renewed-at v ps ms e n (omega arith) h
-  renewed-at v (None ∷ ps) (m ∷ ms) (suc e) n s h = renewed-at v ps ms e n (omega arith) h
-
-  pub length-many : (k : ℕ) (x : A) → length (replicate k x) ≡ k
-  length-many zero x = refl
-  length-many (suc k) x = ap suc (length-many k x)
-
-  pub many_at : (k n : ℕ) (x y : A) → slice_get (replicate k x) n ≡ Some y → x ≡ y
-  many_at zero n x y h = absurd (let z : None ≡ Some y = h in cc)
-  many_at (suc k) zero x y h = (let z : Some x ≡ Some y = h in cc)
-  many_at (suc k) (suc n) x y h = many_at k n x y h
 
 module _ {P : Type 0} (fits : ℕ → P → ℕ → P → Type 0) where
   law_commit : (w : PureWorld P) → IsLawful fits w → Allowed w commit → Fits fits w commit → IsLawful fits (applied w commit)
   law_commit w l a fit = record {
-    lengths = record {
-      some_state = let n = more in omega arith;
-      states = λ v st h. ⊎_elim (λ t. l.lengths.states v st t.1) (λ t. ap length (sym t.1) ∙ (length-replaced (last_state w.history) w.pending ∙ l.lengths.states (length w.history - 1) (last_state w.history) (last_there w.history l.lengths.some_state))) (at_more w.history new st v h);
-      versions = length-renewed (length w.history) w.pending w.versions ∙ l.lengths.versions;
-      pending = length-many w.entities None;
-      published = length-many w.entities false;
-      filled = length-many w.lanes (replicate w.entities false);
-      rows = λ n row h. ap length (sym (many_at w.lanes n (replicate w.entities false) row h)) ∙ length-many w.entities false;
-      pins = l.lengths.pins;
-    };
+    lengths = lengths_kept w commit l.lengths a;
     fit = λ v st h. ⊎_elim (λ t. l.fit v st t.1) (λ t. subst (AllFit fits) t.1 fit) (at_more w.history new st v h);
     stable = stable;
     pins = on;

@@ -7,7 +7,7 @@ use Rattle.std.specs.Arc.{arc_value}
 use Rattle.std.specs.declared.sync.Arc.{Arc}
 use Rattle.heap_core.specs.World.{PureWorld, PureEvent, Allowed, applied, Answers, end, last_state, replaced, renewed}
 use Rattle.heap_core.specs.PlainLaws.{none_some}
-use Rattle.heap_core.proofs.WorldLaw.{last_there}
+use Rattle.heap_core.proofs.Lengths.{last_there}
 use Rattle.heap_core.proofs.Lists.{get_index}
 
 module _ {P : Type 0} where

@@ -1,5 +1,5 @@
 -- The pure world and the pure event that the program's own ones are, each payload seen by its value.
-use Rattle.std.specs.Prelude.{ℕ, Bool, List, map, Option}
+use Rattle.std.specs.Prelude.{map}
 use Rattle.std.specs.Option.{option_map}
 use Rattle.std.specs.Arc.{arc_value}
 use Rattle.heap_core.specs.declared.world.World.{World}

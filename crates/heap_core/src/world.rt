@@ -1,5 +1,5 @@
 //! The pure heap: a list of whole states, and the events that lead from one to the next.
-ghost use Rattle.std.specs.Prelude.{◌≡◌, ◌≤◌, ◌^◌, length, IfOk, OnErr};
+ghost use Rattle.std.specs.Prelude.{◌≡◌, ◌+◌, ◌≤◌, ◌^◌, length, IfOk, OnErr};
 ghost use Rattle.heap_core.specs.World.{Answers, HasLengths};
 ghost use Rattle.heap_core.specs.Seen.{world_of, event_of};
 
@@ -57,6 +57,17 @@ impl<P: Drop> World<P> {
     ///
     /// `NoMemory` where memory is refused. Nothing has changed then.
     pub fn apply(&mut self, alloc: Global, event: &Event<P>) -> Result<bool, NoMemory>
+        requires lengths { HasLengths (world_of self.old) }
+        requires few { length self.old.history ≤ 2 ^ 31 }
+        ensures answers { IfOk result (λ yes. Answers (world_of self.old) (event_of event.now) yes (world_of self.new)) }
+        ensures err { OnErr result (world_of self.new ≡ world_of self.old) }
+        ensures lengths { HasLengths (world_of self.new) }
+        ensures few { length self.new.history ≤ length self.old.history + 1 }
+    {
+        self.happen(alloc, event)
+    }
+
+    fn happen(&mut self, alloc: Global, event: &Event<P>) -> Result<bool, NoMemory>
         requires lengths { HasLengths (world_of self.old) }
         requires few { length self.old.history ≤ 2 ^ 31 }
         ensures answers { IfOk result (λ yes. Answers (world_of self.old) (event_of event.now) yes (world_of self.new)) }

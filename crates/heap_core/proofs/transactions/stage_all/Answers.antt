@@ -1,4 +1,4 @@
-use Rattle.std.proofs.Common.{◌≡◌, ℕ, ◌<◌, arith, sym, ◌∙◌, ap, subst, length, take}
+use Rattle.std.proofs.Common.{ℕ, ◌<◌, arith, sym, ◌∙◌, ap, subst, length, take}
 use Rattle.std.specs.Arc.{arc_value}
 use Rattle.heap_core.specs.Meaning.{Meaning, staging}
 use Rattle.heap_core.specs.Transactions.{changes_of}

@@ -1,4 +1,4 @@
-use Rattle.std.proofs.Common.{◌≡◌, ℕ, refl, sym, ◌∙◌, ap, arith, List, Bool, false, map, length}
+use Rattle.std.proofs.Common.{sym, ◌∙◌, false, map}
 use Rattle.std.specs.Option.{option_map}
 use Rattle.std.specs.Arc.{arc_value}
 use Rattle.heap_core.specs.World.{commit, renewed, replaced, last_state}

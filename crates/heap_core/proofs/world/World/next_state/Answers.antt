@@ -1,10 +1,10 @@
-use Rattle.std.proofs.Common.{ℕ, ◌-◌, ◌<◌, arith, sym, ◌∙◌, ap, List, length, map}
+use Rattle.std.proofs.Common.{◌-◌, sym, ◌∙◌, ap, length, map}
 use Rattle.std.specs.Option.{option_map}
 use Rattle.std.specs.Arc.{arc_value}
 use Rattle.heap_core.specs.World.{replaced, last_state}
 use Rattle.heap_core.specs.PlainLaws.{length-values}
 use Rattle.heap_core.proofs.Worlds.{last_here, next_is, length-seen}
-use Rattle.heap_core.proofs.WorldLaw.{last_there}
+use Rattle.heap_core.proofs.Lengths.{last_there}
 use Rattle.heap_core.proofs.world.World.next_state.Goals as goal
 
 pub next_state-requires : goal.next_state-requires

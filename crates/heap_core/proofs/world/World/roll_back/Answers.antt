@@ -1,4 +1,4 @@
-use Rattle.std.proofs.Common.{◌≡◌, refl, sym, ◌∙◌, ap, arith, List, Bool, length}
+use Rattle.std.proofs.Common.{◌∙◌, ap, arith, List, Bool, length}
 use Rattle.heap_core.specs.World.{roll_back, emptied}
 use Rattle.heap_core.specs.Seen.{world_of}
 use Rattle.heap_core.proofs.Worlds.{agrees, seen_emptied, length-seen, pends_as}

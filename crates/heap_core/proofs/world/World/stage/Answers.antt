@@ -1,4 +1,4 @@
-use Rattle.std.proofs.Common.{◌≡◌, refl, sym, ◌∙◌, ap, arith, List, Bool}
+use Rattle.std.proofs.Common.{◌∙◌, ap, arith, List, Bool}
 use Rattle.std.specs.Arc.{arc_value}
 use Rattle.heap_core.specs.World.{stage, emptied}
 use Rattle.heap_core.specs.Seen.{world_of}

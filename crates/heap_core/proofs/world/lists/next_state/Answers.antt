@@ -1,4 +1,4 @@
-use Rattle.std.proofs.Common.{◌≡◌, ℕ, ◌<◌, arith, sym, ◌∙◌, ap, length, map}
+use Rattle.std.proofs.Common.{ℕ, ◌<◌, arith, ◌∙◌, length, map}
 use Rattle.std.specs.Prelude.{unwrap_or}
 use Rattle.std.specs.Option.{option_map}
 use Rattle.std.specs.Arc.{arc_value}
@@ -6,7 +6,7 @@ use Rattle.heap_core.specs.World.{replaced}
 use Rattle.heap_core.specs.PlainLaws.{length-values}
 use Rattle.heap_core.proofs.Lists.{get_index}
 use Rattle.heap_core.proofs.Worlds.{replaced_at, get-values, get-seen, seen_step, take_past}
-use Rattle.heap_core.proofs.WorldLaw.{length-replaced}
+use Rattle.heap_core.proofs.Lengths.{length-replaced}
 use Rattle.heap_core.proofs.world.lists.next_state.Goals as goal
 
 pub loop-e-preserved : goal.loop-e-preserved

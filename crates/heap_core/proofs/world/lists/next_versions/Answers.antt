@@ -1,12 +1,11 @@
-use Rattle.std.proofs.Common.{◌≡◌, ℕ, ◌<◌, arith, sym, ◌∙◌, ap, cond, length, map, get_or, Some}
+use Rattle.std.proofs.Common.{ℕ, ◌<◌, arith, sym, ◌∙◌, ap, cond, length, map, get_or, Some}
 use Rattle.std.proofs.lemmas.Option.{slice_get-get_or}
-use Rattle.std.specs.Prelude.{is_some}
 use Rattle.std.specs.Option.{option_map}
 use Rattle.std.specs.Arc.{arc_value}
 use Rattle.heap_core.specs.World.{renewed}
 use Rattle.heap_core.proofs.Lists.{get_index}
 use Rattle.heap_core.proofs.Worlds.{renewed_at, get-seen, front_step, take_past, is_some-seen}
-use Rattle.heap_core.proofs.WorldLaw.{length-renewed}
+use Rattle.heap_core.proofs.Lengths.{length-renewed}
 use Rattle.heap_core.proofs.world.lists.next_versions.Goals as goal
 use Rattle.heap_core.proofs.world.lists.next_versions.Goals.{then-is_some, else-is_some}
 

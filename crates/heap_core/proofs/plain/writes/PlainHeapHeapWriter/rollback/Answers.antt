@@ -1,4 +1,4 @@
-use Rattle.std.proofs.Common.{◌≡◌, sym, ◌∙◌, true, false}
+use Rattle.std.proofs.Common.{sym, false}
 use Rattle.heap_core.specs.Plain.{values}
 use Rattle.heap_core.proofs.Overlays.{listed-none, overlaid-none, staged_of-none, staged_of-same}
 use Rattle.heap_core.proofs.plain.writes.PlainHeapHeapWriter.rollback.Goals as goal
