@@ -1,0 +1,18 @@
+-- Ends that fail at listed calls.
+use Rattle.std.specs.Prelude.{◌≡◌, ℕ, Contains, Result, IsErrOf, OnOk}
+use Rattle.flow_base.specs.Causes.{raised}
+use Rattle.flow_base.specs.declared.calls.Calls.{Calls}
+
+-- one call more was made, and the same calls fail
+pub record CountsCall (before now : Calls) : Type 0 where
+  pub failing : now.failing ≡ before.failing
+  pub made : now.made ≡ raised before.made
+
+-- the last call that was made is one of those that fail
+abbrev pub IsListed : Calls → Type 0
+IsListed calls = Contains calls.failing calls.made
+
+-- this fault raises the count of faults by one, and an answer other than a fault leaves it
+pub record CountsFault {T E : Type 0} (failed : E) (before now : ℕ) (result : Result T E) : Type 0 where
+  pub fails : IsErrOf result failed → now ≡ raised before
+  pub passes : OnOk result (now ≡ before)

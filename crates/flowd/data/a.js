@@ -1,0 +1,2 @@
+export const x: number = "a";
+export const y: boolean = true;

@@ -1,0 +1,27 @@
+-- The words of the command, and the statuses.
+use Rattle.std.specs.Prelude.{ℕ, ◌==◌, ◌++◌, Bool, false, not, List, [], ◌∷◌, Option, Some, None, if◌then◌else◌, codes}
+use Rattle.flow_base.specs.Program.{Bytes}
+use Rattle.flowd_top.specs.declared.status.Status.{Status}
+use Rattle.flowd_top.specs.declared.status.Status.TheVariants.{Clean, Errors, Usage, FolderFault, SinkFault, NoMemory}
+
+-- a word that names a folder: it is not empty and does not begin with `-`
+abbrev pub is_root : Bytes → Bool
+is_root [] = false
+is_root (b ∷ word) = not (b == 45)
+
+-- the place of the folder's word, or `None` where the words are not one such word
+abbrev pub root_place : List Bytes → Option ℕ
+root_place (word ∷ []) = if is_root word then Some 0 else None
+root_place _ = None
+
+abbrev pub usage_line : Bytes
+usage_line = codes "usage: flowd ROOT | --gen N --seed X [--workers N] [--lanes R] [--modules M]" ++ 10 ∷ []
+
+-- the number of a status
+abbrev pub status_number : Status → ℕ
+status_number Clean = 0
+status_number Errors = 2
+status_number Usage = 64
+status_number FolderFault = 66
+status_number SinkFault = 68
+status_number NoMemory = 70

@@ -1,0 +1,16 @@
+//! The program's top call.
+#![tactic(auto)]
+
+mod loading;
+mod printing;
+mod sinks;
+mod status;
+mod top;
+mod words;
+
+pub use status::Status;
+pub use top::flowd;
+pub use words::root_word;
+
+#[cfg(test)]
+mod tests;

@@ -1,0 +1,51 @@
+-- What the bytes of a script's line say.
+use Rattle.std.specs.Prelude.{◌≡◌, ◌⊎◌, ◌==◌, ◌||◌, ℕ, Bool, All, IsTrue, IsUtf8, Option, Some, None, option_and_then, codes}
+use Rattle.serde_json.specs.Data.{Data}
+use Rattle.serde_json.specs.Read.{read}
+use Rattle.serde_json.specs.Find.{get, as_str}
+use Rattle.flow_values.specs.Path.{Bytes, IsNormalPath}
+use Rattle.script_line.specs.declared.line.Line.{Line}
+use Rattle.script_line.specs.declared.line.Line.TheVariants.{Blank, Edit, Recheck, Ask, End}
+use Rattle.script_line.specs.declared.line.Ask.TheVariants.{Status}
+use Rattle.script_line.specs.declared.line.Ask as the_ask
+
+-- space, tab or CR
+abbrev pub is_blank : ℕ → Bool
+is_blank b = b == 32 || b == 9 || b == 13
+
+-- the value of a JSON text
+abbrev pub IsJson : Bytes → Data → Type 0
+IsJson bytes value = IsUtf8 bytes × (read bytes ≡ Some value)
+
+-- the text at a key of an object, where there is one
+abbrev pub text_at : Bytes → Data → Option Bytes
+text_at key value = option_and_then as_str (get key value)
+
+-- the object has this text at this key
+abbrev pub HasText : Bytes → Bytes → Data → Type 0
+HasText key text value = text_at key value ≡ Some text
+
+-- the object has nothing at this key
+abbrev pub Lacks : Bytes → Data → Type 0
+Lacks key value = get key value ≡ None
+
+-- the object is a question
+abbrev pub Asks : Data → the_ask.Ask → Type 0
+Asks value Status = HasText (codes "what") (codes "status") value
+
+-- the object is a command; keys that are not named are ignored
+abbrev pub Commands : Data → Line → Type 0
+Commands value Blank = ⊥
+Commands value (Edit path text) =
+    HasText (codes "do") (codes "edit") value × HasText (codes "path") path value × IsNormalPath path × HasText (codes "text") text value
+Commands value Recheck = HasText (codes "do") (codes "recheck") value × Lacks (codes "stop") value × Lacks (codes "asks") value
+Commands value (Ask ask) = HasText (codes "do") (codes "ask") value × ((inner : Data) × (get (codes "ask") value ≡ Some inner) × Asks inner ask)
+Commands value End = HasText (codes "do") (codes "end") value
+
+-- the line is blank
+abbrev pub IsBlankLine : Bytes → Type 0
+IsBlankLine bytes = All (λ b. IsTrue (is_blank b)) bytes
+
+-- the bytes of a line, without its LF, say this
+abbrev pub Says : Bytes → Line → Type 0
+Says bytes line = (IsBlankLine bytes × (line ≡ Blank)) ⊎ ((value : Data) × IsJson bytes value × Commands value line)

@@ -1,0 +1,44 @@
+ghost use Rattle.std.specs.Prelude.{◌≡◌};
+
+use flow_values::{Path, Text};
+
+/// What a script may ask of a version.
+#[derive(Debug, Drop)]
+pub enum Ask {
+    /// The errors of all modules.
+    Status,
+}
+
+/// What a line of a script says.
+#[derive(Debug, Drop)]
+pub enum Line {
+    /// Spaces, tabs and carriage returns alone, or nothing.
+    Blank,
+    /// The path has this text from the next recheck on.
+    Edit { path: Path, text: Text },
+    /// The pending edits are checked and committed.
+    Recheck,
+    /// A question of the committed version.
+    Ask(Ask),
+    /// The script ends here.
+    End,
+}
+
+/// Why a line says nothing.
+#[derive(Clone, Copy, Debug, PartialEq, Eq)]
+pub enum LineFault {
+    /// The line is neither blank nor a command.
+    BadLine,
+    /// Memory was refused.
+    NoMemory,
+}
+
+impl From<flow_values::NoMemory> for LineFault {
+    ghost use Rattle.script_line.specs.declared.line.LineFault.TheVariants.{NoMemory};
+
+    ghost from_gives = { λ _ e. e ≡ NoMemory };
+
+    fn from(_: flow_values::NoMemory) -> Self {
+        LineFault::NoMemory
+    }
+}

@@ -1,0 +1,141 @@
+ghost use Rattle.std.specs.Prelude.{◌≡◌, ◌↔◌, ℕ, List, Some, None, IfOk, IfSome, IfNone, IsTrue, IsErrOf, IsSome, All, codes, option_and_then};
+ghost use Rattle.std.specs.Option.{option_map};
+ghost use Rattle.serde_json.specs.Data.{Data};
+ghost use Rattle.serde_json.specs.Find.{get, as_str};
+ghost use Rattle.serde_json.specs.View.{view};
+ghost use Rattle.script_line.specs.Says.{is_blank, IsJson, text_at, HasText, Lacks, Asks, Commands, IsBlankLine, Says};
+ghost use Rattle.flow_values.specs.Path.{IsNormalPath};
+ghost use Rattle.script_line.specs.declared.line.Line.{Line};
+ghost use Rattle.script_line.specs.declared.line.Ask as the_ask;
+
+use crate::{Ask, Line, LineFault};
+use flow_values::{NoMemory, Path, PathFault, Text};
+use serde_json::Value;
+use std::alloc::Global;
+
+// The text at a key, where there is one.
+fn text_at<'a>(value: &'a Value, key: &str) -> Option<&'a str>
+    ensures { option_map (λ text. text.now) result ≡ text_at key.now (view value.now) }
+{
+    value.get(key).and_then(Value::as_str)
+}
+
+// The path at the key `path`, where there is one.
+fn path_at(alloc: Global, value: &Value) -> Result<Option<Path>, NoMemory>
+    ensures found { IfOk result (λ path. IfSome path (λ p. HasText (codes "path") p (view value.now) × IsNormalPath p)) }
+    ensures none { IfOk result (λ path. IfNone path ((p : List ℕ) → HasText (codes "path") p (view value.now) → IsNormalPath p → ⊥)) }
+{
+    let Some(text) = text_at(value, "path") else {
+        return Ok(None);
+    };
+    match Path::read(alloc, text.as_bytes()) {
+        Ok(path) => Ok(Some(path)),
+        Err(PathFault::BadPath) => Ok(None),
+        Err(PathFault::NoMemory) => Err(NoMemory),
+    }
+}
+
+fn edit_of(alloc: Global, value: &Value) -> Result<Option<Line>, NoMemory>
+    requires { HasText (codes "do") (codes "edit") (view value.now) }
+    ensures found { IfOk result (λ line. IfSome line (Commands (view value.now))) }
+    ensures none { IfOk result (λ line. IfNone line ((l : Line) → Commands (view value.now) l → ⊥)) }
+{
+    let Some(path) = path_at(alloc, value)? else {
+        return Ok(None);
+    };
+    let Some(text) = text_at(value, "text") else {
+        return Ok(None);
+    };
+    let text = Text::from_bytes(alloc, text.as_bytes())?;
+    Ok(Some(Line::Edit { path, text }))
+}
+
+fn recheck_of(value: &Value) -> Option<Line>
+    requires { HasText (codes "do") (codes "recheck") (view value.now) }
+    ensures found { IfSome result (Commands (view value.now)) }
+    ensures none { IfNone result ((l : Line) → Commands (view value.now) l → ⊥) }
+{
+    if value.get("stop").is_none() && value.get("asks").is_none() {
+        Some(Line::Recheck)
+    } else {
+        None
+    }
+}
+
+fn question_of(value: &Value) -> Option<Ask>
+    ensures found { IfSome result (Asks (view value.now)) }
+    ensures none { IfNone result ((a : the_ask.Ask) → Asks (view value.now) a → ⊥) }
+{
+    match text_at(value, "what") {
+        Some("status") => Some(Ask::Status),
+        _ => None,
+    }
+}
+
+fn ask_of(value: &Value) -> Option<Line>
+    requires { HasText (codes "do") (codes "ask") (view value.now) }
+    ensures found { IfSome result (Commands (view value.now)) }
+    ensures none { IfNone result ((l : Line) → Commands (view value.now) l → ⊥) }
+{
+    let inner = value.get("ask")?;
+    let ask = question_of(inner)?;
+    Some(Line::Ask(ask))
+}
+
+// The command that an object is.
+fn command_of(alloc: Global, value: &Value) -> Result<Option<Line>, NoMemory>
+    ensures found { IfOk result (λ line. IfSome line (Commands (view value.now))) }
+    ensures none { IfOk result (λ line. IfNone line ((l : Line) → Commands (view value.now) l → ⊥)) }
+{
+    match text_at(value, "do") {
+        Some("edit") => edit_of(alloc, value),
+        Some("recheck") => Ok(recheck_of(value)),
+        Some("ask") => Ok(ask_of(value)),
+        Some("end") => Ok(Some(Line::End)),
+        _ => Ok(None),
+    }
+}
+
+fn is_blank_line(bytes: &[u8]) -> bool
+    ensures { IsTrue result ↔ IsBlankLine bytes.now }
+{
+    bytes
+        .iter()
+        .all(|b| *b == b' ' || *b == b'\t' || *b == b'\r')
+}
+
+// The command that the bytes are, where they are JSON at all.
+fn command_in(alloc: Global, bytes: &[u8]) -> Result<Option<Line>, NoMemory>
+    ensures found { IfOk result (λ line. IfSome line (λ l. (value : Data) × IsJson bytes.now value × Commands value l)) }
+    ensures none { IfOk result (λ line. IfNone line ((l : Line) → ((value : Data) × IsJson bytes.now value × Commands value l) → ⊥)) }
+{
+    match Value::from_slice(alloc, bytes) {
+        Ok(value) => command_of(alloc, &value),
+        Err(error) => {
+            if error.is_memory() {
+                Err(NoMemory)
+            } else {
+                Ok(None)
+            }
+        }
+    }
+}
+
+/// What a line of a script says, without its LF. A blank line and a command are read; keys of an
+/// object that the command doesn't name are ignored, and of a repeated key the last one counts.
+///
+/// # Errors
+///
+/// `BadLine` exactly where the bytes say nothing, and `NoMemory` where memory is refused.
+pub fn read_line(alloc: Global, bytes: &[u8]) -> Result<Line, LineFault>
+    ensures says { IfOk result (Says bytes.now) }
+    ensures bad { IsErrOf result LineFault.BadLine → (l : Line) → Says bytes.now l → ⊥ }
+{
+    if is_blank_line(bytes) {
+        return Ok(Line::Blank);
+    }
+    match command_in(alloc, bytes)? {
+        Some(line) => Ok(line),
+        None => Err(LineFault::BadLine),
+    }
+}

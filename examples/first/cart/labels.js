@@ -1,0 +1,2 @@
+export const title: string = "Your cart";
+export const empty: string = "Nothing here yet";

@@ -1,0 +1,2 @@
+export const most: number = 99;
+export const gifts: boolean = false;

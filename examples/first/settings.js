@@ -1,0 +1,3 @@
+export const name: string = "shop";
+export const limit: number = 250;
+export const open: boolean = true;
