@@ -1,0 +1,8 @@
+pub mod Lists
+pub mod Overlays
+pub mod Lengths
+pub mod WorldLaw
+pub mod Worlds
+pub mod Numbers
+pub mod StandsLaw
+pub mod TransactionLaws

@@ -1,0 +1,7 @@
+pub mod Meaning
+pub mod Plain
+pub mod PlainLaws
+pub mod World
+pub mod Seen
+pub mod Stands
+pub mod Transactions

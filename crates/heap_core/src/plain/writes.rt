@@ -1,0 +1,84 @@
+//! The plain heap is a writer.
+ghost use Rattle.std.specs.Prelude.{◌≡◌, ◌<◌, true, length, None, IfOk, OnErr};
+ghost use Rattle.std.specs.Arc.{arc_value};
+ghost use Rattle.heap_core.specs.Meaning.{staging};
+ghost use Rattle.heap_core.specs.Plain.{meaning_of};
+ghost use Rattle.heap_core.specs.PlainLaws.{plain_sound, none_some};
+
+use super::PlainHeap;
+use super::steps::{clear, list, settle};
+use crate::traits::{HeapWriter, Program};
+use flow_values::NoMemory;
+use std::sync::Arc;
+
+impl<P: Program> HeapWriter<P> for PlainHeap<P> {
+    type Part = ();
+
+    ghost part = { λ _. tt };
+
+    ghost meaning = { λ h. meaning_of h.version h.is_open h.committed.items h.pending.items h.versions.items };
+
+    ghost told = { λ _. None };
+
+    ghost sound = { λ h. plain_sound P.fits h.version h.is_open h.committed.items h.pending.items h.versions.items h.some_entity h.as_many.0 h.as_many.1 h.fit h.closed h.room };
+
+    ghost told_last = { λ h states e. none_some states e };
+
+    fn version(&self) -> u32 {
+        self.version
+    }
+
+    fn is_open(&self) -> bool {
+        self.is_open
+    }
+
+    fn begin(&mut self) {
+        self.is_open = true;
+    }
+
+    fn stage(&mut self, e: u32, payload: Arc<P>) -> Result<(), NoMemory>
+        requires { (self.old.is_open ≡ true) × (e < length self.old.committed.items) }
+        ensures ok { IfOk result (λ _. meaning_of self.new.version self.new.is_open self.new.committed.items self.new.pending.items self.new.versions.items ≡ staging e (arc_value payload) (meaning_of self.old.version self.old.is_open self.old.committed.items self.old.pending.items self.old.versions.items)) }
+        ensures err { OnErr result (meaning_of self.new.version self.new.is_open self.new.committed.items self.new.pending.items self.new.versions.items ≡ meaning_of self.old.version self.old.is_open self.old.committed.items self.old.pending.items self.old.versions.items) }
+    {
+        let is_staged = self.pending[e as usize].is_some();
+        list(&mut self.staged, e, is_staged)?;
+        self.pending[e as usize] = Some(payload);
+        Ok(())
+    }
+
+    fn latest(&self, e: u32) -> Result<Arc<P>, NoMemory> {
+        match &self.pending[e as usize] {
+            Some(payload) => Ok(Arc::try_clone(payload)?),
+            None => Ok(Arc::try_clone(&self.committed[e as usize])?),
+        }
+    }
+
+    fn entity_version(&self, e: u32) -> u32 {
+        if self.pending[e as usize].is_some() {
+            self.version + 1
+        } else {
+            self.versions[e as usize]
+        }
+    }
+
+    fn commit(&mut self) -> u32 {
+        let PlainHeap {
+            version,
+            is_open,
+            committed,
+            pending,
+            versions,
+            staged,
+        } = self;
+        *version += 1;
+        *is_open = false;
+        settle(staged, pending, committed, versions, *version);
+        *version
+    }
+
+    fn rollback(&mut self) {
+        self.is_open = false;
+        clear(&mut self.staged, &mut self.pending);
+    }
+}

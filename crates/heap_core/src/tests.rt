@@ -1,0 +1,20 @@
+//! The worked rows, each public call once, and a second writer: one entity that tells its states, and that may wait.
+ghost use Rattle.std.specs.Prelude.{refl};
+
+mod rows;
+mod teller;
+mod worlds;
+
+use crate::traits::Program;
+
+/// A payload that fits everywhere.
+#[derive(Clone, Copy, Debug, PartialEq, Eq, Drop)]
+pub struct Mark {
+    pub number: u32,
+}
+
+impl Program for Mark {
+    ghost fits = { λ _ _ _ _. Unit {0} };
+
+    ghost fits_once = { λ _ _ _ _. λ _ _. refl };
+}

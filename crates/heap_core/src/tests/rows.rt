@@ -1,0 +1,24 @@
+//! The plain heap.
+use super::Mark;
+use crate::{HeapReader, HeapWriter, PlainHeap, laws, transactions};
+use std::sync::Arc;
+use std::test::Fail;
+
+#[test]
+fn the_plain_heap_opens_stages_and_gives_up(rt: HostRuntime) -> Result<(), Fail> {
+    let alloc = rt.alloc();
+    let root = Arc::new(alloc, Mark { number: 1 })?;
+    let absent = Arc::new(alloc, Mark { number: 0 })?;
+    let mut heap = PlainHeap::open(alloc, 5, root, absent)?;
+    assert_eq!(rt; heap.version(), 0);
+    assert_eq!(rt; heap.reader().root()?.number, 1);
+    assert_eq!(rt; heap.reader().read(1)?.number, 0);
+    heap.begin();
+    heap.stage(1, Arc::new(alloc, Mark { number: 7 })?)?;
+    assert_eq!(rt; heap.latest(1)?.number, 7);
+    assert_eq!(rt; heap.entity_version(1), 1);
+    heap.rollback();
+    assert_eq!(rt; heap.latest(1)?.number, 0);
+    assert!(rt; !heap.is_open());
+    Ok(())
+}
