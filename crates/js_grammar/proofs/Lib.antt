@@ -1,0 +1,6 @@
+pub mod Words
+pub mod Complete
+pub mod Sound
+pub mod Kept
+pub mod Viable
+pub mod Main

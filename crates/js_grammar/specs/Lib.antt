@@ -1,0 +1,13 @@
+pub mod Words
+pub mod Types
+pub mod TypeSpelling
+pub mod TypeFits
+pub mod Code
+pub mod CodeSpelling
+pub mod CodePlaces
+pub mod CodeFits
+pub mod Items
+pub mod Nesting
+pub mod Reads
+pub mod Machine
+pub mod Law
