@@ -1,0 +1,5 @@
+pub mod State
+pub mod Within
+pub mod Words
+pub mod Nests
+pub mod Reading
