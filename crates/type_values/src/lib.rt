@@ -1,0 +1,8 @@
+//! Types, with their copies, their equality and their order.
+#![tactic(auto)]
+
+mod copies;
+mod equality;
+mod types;
+
+pub use types::{FlowProp, FlowType, Param, Variance};
