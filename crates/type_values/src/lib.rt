@@ -3,6 +3,7 @@
 
 mod copies;
 mod equality;
+mod order;
 mod types;
 
 pub use types::{FlowProp, FlowType, Param, Variance};

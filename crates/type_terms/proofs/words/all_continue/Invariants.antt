@@ -1,0 +1,12 @@
+use Rattle.std.proofs.Common.{◌≡◌, length}
+use Rattle.std.specs.List.{list_all}
+use Rattle.std.specs.Str.{chars}
+use Rattle.type_terms.specs.Word.{continues_word}
+use Rattle.type_terms.proofs.words.all_continue.Given as goal
+
+-- the text goes on exactly where the rest does
+abbrev pub invariant-loop-c : goal.invariant-loop-c
+invariant-loop-c l = list_all continues_word (chars l.text) ≡ list_all continues_word (chars l.rest)
+
+abbrev pub decreases-loop-c : goal.decreases-loop-c
+decreases-loop-c l = length l.rest

@@ -1,0 +1,10 @@
+//! Types as text.
+#![tactic(auto)]
+
+mod printing;
+mod strings;
+mod words;
+
+pub use printing::show;
+pub use strings::{show_key, show_string};
+pub use words::is_word;
