@@ -1,2 +1,5 @@
 pub mod Joined
 pub mod Shown
+pub mod Parts
+pub mod WordLemmas
+pub mod Firsts

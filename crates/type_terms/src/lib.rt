@@ -1,10 +1,12 @@
 //! Types as text.
 #![tactic(auto)]
 
+mod joining;
 mod printing;
 mod strings;
 mod words;
 
+pub use joining::{join, widen};
 pub use printing::show;
 pub use strings::{show_key, show_string};
 pub use words::is_word;

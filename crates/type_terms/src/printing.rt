@@ -22,7 +22,7 @@ pub fn show(alloc: Global, t: &FlowType) -> Result<Text, NoMemory>
 
 // Appends the text of a type, which may stand as a member of a union.
 #[cycle(print)]
-#[tactic(auto, using(crate::proofs::Shown::forms))]
+#[tactic(auto, using(crate::proofs::Shown::form_union))]
 fn print(t: &FlowType, member: bool, out: &mut Vec<u8>) -> Result<(), NoMemory>
     ensures { OnOk result (out.new.items ≡ out.old.items ++ form t.now member) }
 {

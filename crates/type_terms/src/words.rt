@@ -1,5 +1,5 @@
 //! Which texts are words.
-ghost use Rattle.std.specs.Prelude.{◌≡◌, ◌∷◌, ◌<◌, ◌×◌, [], length, MatchOption};
+ghost use Rattle.std.specs.Prelude.{◌≡◌, ◌∷◌, ◌<◌, [], length, MatchOption};
 ghost use Rattle.std.specs.List.{list_all};
 ghost use Rattle.std.specs.Str.{chars};
 ghost use Rattle.type_terms.specs.Word.{is_word, starts_word, continues_word};
@@ -42,6 +42,7 @@ fn all_continue(text: &str) -> bool
 
 /// Whether these bytes are the text of a word: a character that may start an identifier, `$` or
 /// `_`, and then only characters that may go on with one, `$` and `_`.
+#[tactic(auto, using(crate::proofs::WordLemmas::not_word, crate::proofs::WordLemmas::word_from))]
 pub fn is_word(bytes: &[u8]) -> bool
     ensures { result ≡ is_word bytes.now }
 {

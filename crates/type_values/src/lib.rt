@@ -7,3 +7,6 @@ mod order;
 mod types;
 
 pub use types::{FlowProp, FlowType, Param, Variance};
+
+#[cfg(test)]
+mod tests;
