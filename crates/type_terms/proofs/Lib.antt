@@ -3,3 +3,4 @@ pub mod Shown
 pub mod Parts
 pub mod WordLemmas
 pub mod Firsts
+pub mod CutLemmas

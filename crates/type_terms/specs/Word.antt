@@ -1,5 +1,5 @@
 -- Words, and the characters of a text.
-use Rattle.std.specs.Prelude.{ℕ, zero, suc, ◌+◌, ◌==◌, ◌&&◌, ◌||◌, Bool, true, false, not, nat_lt, List, [], ◌∷◌, ◌++◌, codes, if◌then◌else◌}
+use Rattle.std.specs.Prelude.{ℕ, zero, suc, ◌+◌, ◌==◌, ◌&&◌, ◌||◌, Bool, true, false, not, nat_lt, count_by, List, [], ◌∷◌, ◌++◌, codes, if◌then◌else◌}
 use Rattle.std.specs.List.{list_all}
 use Rattle.std.specs.Str.{chars, is_utf8}
 use Rattle.unicode_ident.specs.Ident.{is_xid_start, is_xid_continue}
@@ -20,19 +20,18 @@ are_word (c ∷ cs) = starts_word c && list_all continues_word cs
 abbrev pub is_word : List ℕ → Bool
 is_word bytes = is_utf8 bytes && are_word (chars bytes)
 
--- A byte that goes on with the character of the byte before it. All other bytes begin a character.
-abbrev pub continues_char : ℕ → Bool
-continues_char b = not (nat_lt b 128) && nat_lt b 192
+-- A byte that begins a character. Each other byte goes on with the character before it.
+abbrev pub begins_char : ℕ → Bool
+begins_char b = nat_lt b 128 || not (nat_lt b 192)
 
 abbrev pub char_count : List ℕ → ℕ
-char_count [] = 0
-char_count (b ∷ bs) = if continues_char b then char_count bs else 1 + char_count bs
+char_count text = count_by begins_char text
 
--- the first n characters, and what goes on with the last of them
+-- the first n characters
 abbrev pub first_chars : ℕ → List ℕ → List ℕ
 first_chars n [] = []
-first_chars zero (b ∷ bs) = if continues_char b then b ∷ first_chars zero bs else []
-first_chars (suc n) (b ∷ bs) = if continues_char b then b ∷ first_chars (suc n) bs else b ∷ first_chars n bs
+first_chars zero (b ∷ bs) = if begins_char b then [] else b ∷ first_chars zero bs
+first_chars (suc n) (b ∷ bs) = if begins_char b then b ∷ first_chars n bs else b ∷ first_chars (suc n) bs
 
 -- a text of at most 80 characters, or the first 77 of a longer one and three dots
 abbrev pub cut : List ℕ → List ℕ

@@ -1,11 +1,13 @@
 //! Types as text.
 #![tactic(auto)]
 
+mod cutting;
 mod joining;
 mod printing;
 mod strings;
 mod words;
 
+pub use cutting::brief;
 pub use joining::{join, widen};
 pub use printing::show;
 pub use strings::{show_key, show_string};
