@@ -90,7 +90,7 @@ take_next (e ∷ es) (suc i) (suc j) x is = elim (take_next es i j x is) [ inl r
 
 -- what the first i + 1 have, the first i have, or it is the next
 pub has_more : (ys : List ℕ) (i x : ℕ) → Has (take (i + 1) ys) x → Has (take i ys) x ⊎ (get_or ys i 0 ≡ x)
-has_more ys i x (j, is) = take_next ys i j x (subst (λ (n : ℕ). slice_get (take n ys) j ≡ Some x) (omega arith) is)
+has_more ys i x (j, is) = let up : i + 1 ≡ suc i = omega arith in take_next ys i j x (subst (λ (n : ℕ). slice_get (take n ys) j ≡ Some x) up is)
 
 take_whole : {A : Type 0} (xs : List A) (n : ℕ) → length xs ≤ n → take n xs ≡ xs
 take_whole [] zero h = refl
@@ -107,3 +107,6 @@ only_has y x (suc n, is) = none_some x is
 
 pub has_none : (x : ℕ) → Has [] x → ⊥
 has_none x (i, is) = none_some x is
+
+pub off_here : (ms : List Bool) (y : ℕ) → y < length ms → get_or ms y false ≡ false → ¬ (IsOn ms y)
+off_here ms y small is on = let both : Some false ≡ Some true = sym (get_index ms y false false small is) ∙ on in cc

@@ -3,7 +3,7 @@ use Rattle.std.proofs.Common.{◌≡◌, ℕ, zero, suc, ◌+◌, ◌<◌, ◌�
 use Rattle.std.proofs.lemmas.Bool.{cases_lt}
 use Rattle.std.specs.Prelude.{All}
 use Rattle.alias_cycles.specs.Cycles.{Leads, here, along, Has, Edge, IsOn, AreWithin}
-use Rattle.alias_cycles.specs.Searching.{Within, IsReached, open_count, Closes, Search, HasFound}
+use Rattle.alias_cycles.specs.Searching.{Within, IsReached, open_count, Closes, Search, HasFound, AreReversed}
 use Rattle.alias_cycles.proofs.Lists.{none_some, has_none, get_index, get_small}
 
 module _ {X : Type 0} (Along : X → X → Type 0) where
@@ -75,3 +75,46 @@ search_ends {edges} {starts} {first} {opened} {found} at all a = record {
         | inl still ↦ absurd (let small = get_small found has.0 s has.1 in a.done has.0 s q (omega arith) has.1 e.0 still)
         | inr known ↦ known
       ])
+
+-- the next number of a search has a list
+pub next_small : {edges : List (List ℕ)} {starts : List ℕ} {first opened : List Bool} (found view : List ℕ) (at : ℕ) → view ≡ found → length first ≡ length edges → at < length found → Search edges starts first opened found at → get_or view at 0 < length edges
+next_small {edges} {starts} {first} found view at same size within a =
+    subst (λ (l : List ℕ). get_or l at 0 < length edges) (sym same)
+      (let r = a.sound (get_or found at 0) (at, get_index found at 0 (get_or found at 0) within refl) in
+       let small = get_small first (get_or found at 0) true (ends_in (Edge edges) (IsOn first) r.3 r.2) in omega arith)
+
+pub next_is : (found view : List ℕ) (at : ℕ) → view ≡ found → at < length found → slice_get found at ≡ Some (get_or view at 0)
+next_is found view at same within = get_index found at 0 (get_or view at 0) within (ap (λ (l : List ℕ). get_or l at 0) (sym same))
+
+pub still_within : {ys : List ℕ} {ms ns : List Bool} (found listed : List ℕ) (at : ℕ) → at < length found → Closes ys ms found ns listed → at < length listed
+still_within found listed at within b = get_small listed at (get_or found at 0) (b.front at (get_or found at 0) (get_index found at 0 (get_or found at 0) within refl))
+
+got : {A : Type 0} (xs : List A) (e : ℕ) (x : A) → slice_get xs e ≡ Some x → get_or xs e x ≡ x
+got [] e x is = none_some x is
+got (y ∷ ys) zero x is = let f : Some y ≡ Some x = is in cc
+got (y ∷ ys) (suc e) x is = got ys e x is
+
+pub list_small : (edges : List (List ℕ)) (x : ℕ) (ys : List ℕ) (opened : List Bool) → AreWithin edges → slice_get edges x ≡ Some ys → length opened ≡ length edges → All (λ y. y < length opened) ys
+list_small edges x ys opened within is size = λ k d few.
+    let ours : All (λ y. y < length edges) ys = subst (λ (l : List ℕ). All (λ y. y < length edges) l) (got edges x ys is) (within x ys (get_small edges x ys is)) in
+    let h = ours k d few in omega arith
+
+pub list_small_here : (edges : List (List ℕ)) (x : ℕ) (ys : List ℕ) (back : List (List ℕ)) → AreWithin edges → slice_get edges x ≡ Some ys → length back ≡ length edges → All (λ y. y < length back) ys
+list_small_here edges x ys back within is size = λ k d few.
+    let ours : All (λ y. y < length edges) ys = subst (λ (l : List ℕ). All (λ y. y < length edges) l) (got edges x ys is) (within x ys (get_small edges x ys is)) in
+    let h = ours k d few in omega arith
+
+all_from_has : (P : ℕ → Type 0) (xs : List ℕ) → ((x : ℕ) → Has xs x → P x) → All P xs
+all_from_has P xs each = λ k d few. each (get_or xs k d) (k, get_index xs k d (get_or xs k d) few refl)
+
+-- what a search found is within bounds
+pub found_small : {edges : List (List ℕ)} {starts : List ℕ} {first opened : List Bool} (found view : List ℕ) (n : ℕ) → HasFound edges starts first opened found → view ≡ found → length first ≡ n → All (λ x. x < n) view
+found_small {edges} {starts} {first} {opened} found view n h same size =
+    subst (λ (l : List ℕ). All (λ x. x < n) l) (sym same) (all_from_has (λ x. x < n) found (λ x has.
+      let r = h.sound x has in let small = get_small first x true (ends_in (Edge edges) (IsOn first) r.3 r.2) in omega arith))
+
+pub back_within : (edges back : List (List ℕ)) → AreReversed edges back → AreWithin back
+back_within edges back r = λ k d few.
+    let is : slice_get back k ≡ Some (get_or back k d) = get_index back k d (get_or back k d) few refl in
+    all_from_has (λ y. y < length back) (get_or back k d) (λ y has.
+      let edge = r.again y k (get_or back k d, is, has) in let small = get_small edges y edge.0 edge.1 in let size = r.len in omega arith)

@@ -1,5 +1,5 @@
 -- A search among the numbers that are open: what it comes to is closed, and listed.
-use Rattle.std.specs.Prelude.{◌≡◌, ℕ, ◌+◌, ◌≤◌, ◌<◌, ◌⊎◌, Bool, true, false, List, [], ◌∷◌, length, slice_get, Some}
+use Rattle.std.specs.Prelude.{◌≡◌, ◌≢◌, ℕ, ◌+◌, ◌≤◌, ◌<◌, ◌⊎◌, Bool, true, false, List, [], ◌∷◌, length, slice_get, Some}
 use Rattle.alias_cycles.specs.Cycles.{Leads, Has, Edge, IsOn, IsOnCycle}
 
 -- a step between two numbers of Q
@@ -58,3 +58,32 @@ pub record IsHalfMarked (edges : List (List ℕ)) (left marks : List Bool) : Typ
   pub whole : (x y : ℕ) → Leads (Edge edges) x y → Leads (Edge edges) y x → IsOn left x → IsOn left y
   pub sound : (x : ℕ) → IsOn marks x → IsOnCycle edges x
   pub complete : (x : ℕ) → x < length edges → ¬ (IsOn left x) → IsOnCycle edges x → IsOn marks x
+
+-- each of ys got an edge to x, and no other edge came
+pub record Adds (x : ℕ) (ys : List ℕ) (before after : List (List ℕ)) : Type 0 where
+  pub len : length after ≡ length before
+  pub keeps : (u v : ℕ) → Edge before u v → Edge after u v
+  pub adds : (y : ℕ) → Has ys y → Edge after y x
+  pub fresh : (u v : ℕ) → Edge after u v → Edge before u v ⊎ (Has ys u × (v ≡ x))
+
+-- the marks of xs were turned on
+pub record Marks (xs : List ℕ) (before after : List Bool) : Type 0 where
+  pub len : length after ≡ length before
+  pub turned : (x : ℕ) → Has xs x → IsOn after x
+  pub keeps : (x : ℕ) → IsOn before x → IsOn after x
+  pub only : (x : ℕ) → IsOn after x → IsOn before x ⊎ Has xs x
+
+-- those of xs that were inside, but for p, are left for later, and none of xs is inside any more
+pub record PutsBack (xs : List ℕ) (p : ℕ) (left inside left_after inside_after : List Bool) : Type 0 where
+  pub left_len : length left_after ≡ length left
+  pub inside_len : length inside_after ≡ length inside
+  pub keeps : (x : ℕ) → IsOn left x → IsOn left_after x
+  pub put : (x : ℕ) → Has xs x → IsOn inside x → x ≢ p → IsOn left_after x
+  pub only : (x : ℕ) → IsOn left_after x → IsOn left x ⊎ (Has xs x × IsOn inside x × (x ≢ p))
+  pub clears : (x : ℕ) → IsOn inside_after x → IsOn inside x × ¬ (Has xs x)
+  pub split : (x : ℕ) → IsOn inside x → IsOn inside_after x ⊎ Has xs x
+
+-- n marks, none of them on
+pub record IsBlank (n : ℕ) (marks : List Bool) : Type 0 where
+  pub len : length marks ≡ n
+  pub blank : (x : ℕ) → ¬ (IsOn marks x)

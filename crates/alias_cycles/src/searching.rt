@@ -1,4 +1,4 @@
-ghost use Rattle.std.specs.Prelude.{◌≡◌, ◌∷◌, [], ◌<◌, All, length, IfOk, OnOk};
+ghost use Rattle.std.specs.Prelude.{◌≡◌, ◌∷◌, [], ◌<◌, All, length, slice_get, IfOk, OnOk};
 ghost use Rattle.alias_cycles.specs.Cycles.{AreWithin};
 ghost use Rattle.alias_cycles.specs.Searching.{Closes, HasFound};
 
@@ -27,6 +27,14 @@ fn close_all(opened: &mut [bool], found: &mut List<usize>, ys: &[usize]) -> Resu
     Ok(())
 }
 
+/// The numbers to which x has an edge.
+pub(crate) fn ends(edges: &[List<usize>], x: usize) -> &[usize]
+    requires { x < length edges.now }
+    ensures { slice_get edges.now x ≡ Some result.now }
+{
+    edges[x].as_slice()
+}
+
 /// Lists what open numbers reach from the starts, and closes it.
 pub(crate) fn search(
     alloc: Global,
@@ -44,7 +52,7 @@ pub(crate) fn search(
     let mut at = 0;
     while at < found.len() {
         let x = found.as_slice()[at];
-        close_all(opened, &mut found, edges[x].as_slice())?;
+        close_all(opened, &mut found, ends(edges, x))?;
         at += 1;
     }
     Ok(found)
