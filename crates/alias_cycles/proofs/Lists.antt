@@ -1,5 +1,5 @@
 -- Looking into lists by places.
-use Rattle.std.proofs.Common.{◌≡◌, ℕ, zero, suc, ◌+◌, ◌<◌, ◌≤◌, ◌⊎◌, Bool, true, false, List, [], ◌∷◌, ◌++◌, length, set, get_or, slice_get, take, Option, Some, None, refl, sym, ap, ◌∙◌, inl, inr, arith, subst}
+use Rattle.std.proofs.Common.{◌≡◌, ℕ, zero, suc, ◌+◌, ◌<◌, ◌≤◌, ◌⊎◌, Bool, true, false, List, [], ◌∷◌, ◌++◌, length, set, get_or, slice_get, take, Some, None, refl, sym, ap, ◌∙◌, inl, inr, arith, subst}
 use native.Mathlib.Decide.{ℕ_discrete}
 use Rattle.alias_cycles.specs.Cycles.{Has, IsOn}
 use Rattle.alias_cycles.specs.Searching.{open_count}
@@ -30,9 +30,9 @@ set_on ms y small = get-set_here ms y true small
 
 pub set_off : (ms : List Bool) (y z : ℕ) → y < length ms → IsOn (set ms y false) z → IsOn ms z × ¬ (z ≡ y)
 set_off ms y z small on = elim (ℕ_discrete z y) [
-    | yes same ↦ absurd (let f : Some false ≡ Some true = sym (get-set_here ms y false small) ∙ ap (slice_get (set ms y false)) (sym same) ∙ on in cc)
-    | no other ↦ (sym (get-set_else ms y z false other) ∙ on, other)
-  ]
+  | yes same ↦ absurd (let f : Some false ≡ Some true = sym (get-set_here ms y false small) ∙ ap (slice_get (set ms y false)) (sym same) ∙ on in cc)
+  | no other ↦ (sym (get-set_else ms y z false other) ∙ on, other)
+]
 
 pub stays_on : (ms : List Bool) (y z : ℕ) → IsOn ms z → IsOn (set ms y false) z ⊎ (z ≡ y)
 stays_on ms y z on = elim (ℕ_discrete z y) [ yes same ↦ inr same | no other ↦ inl (get-set_else ms y z false other ∙ on) ]

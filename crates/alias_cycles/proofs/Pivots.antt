@@ -1,8 +1,8 @@
 -- A pivot, what leads to it, and what it leads to among that: the pivot's component, whatever the pivot.
-use Rattle.std.proofs.Common.{◌≡◌, ◌≢◌, ℕ, ◌<◌, ◌⊎◌, Bool, true, false, List, [], ◌∷◌, length, slice_get, Option, Some, None, refl, sym, ap, ◌∙◌, inl, inr, subst}
+use Rattle.std.proofs.Common.{◌≡◌, ◌≢◌, ℕ, ◌<◌, ◌⊎◌, Bool, true, false, List, [], ◌∷◌, length, slice_get, Option, Some, None, refl, sym, ◌∙◌, inl, inr, subst}
 use native.Mathlib.Decide.{ℕ_discrete}
 use Rattle.alias_cycles.specs.Cycles.{Leads, here, along, Has, Edge, IsOn, IsOnCycle}
-use Rattle.alias_cycles.specs.Searching.{Within, IsReached, HasFound, AreReversed, Marks, PutsBack, IsHalfMarked, IsBlank}
+use Rattle.alias_cycles.specs.Searching.{Within, HasFound, AreReversed, Marks, PutsBack, IsHalfMarked, IsBlank}
 use Rattle.alias_cycles.proofs.Lists.{none_some, only_has}
 use Rattle.alias_cycles.proofs.Searches.{joined, ends_in}
 
@@ -26,7 +26,6 @@ module _ (edges back : List (List ℕ)) (left marks left_1 inside inside_1 insid
     (half : IsHalfMarked edges left marks) (reversed : AreReversed edges back) (blank : (x : ℕ) → ¬ (IsOn inside x)) (p_left : IsOn left p) (list : slice_get edges p ≡ Some ys)
     (backward : HasFound back (p ∷ []) left left_1 around) (enters : Marks around inside inside_1)
     (forward : HasFound edges ys inside_1 inside_2 component) (marked : Marks component marks marks_2) (puts : PutsBack around p left_1 inside_2 left_3 inside_3) where
-
   abbrev Q : ℕ → Type 0
   Q = IsOn left
 
@@ -90,46 +89,48 @@ module _ (edges back : List (List ℕ)) (left marks left_1 inside inside_1 insid
 
   after_whole : (x y : ℕ) → Leads (Edge edges) x y → Leads (Edge edges) y x → IsOn left_3 x → IsOn left_3 y
   after_whole x y xy yx on = elim (puts.only x on) [
-      | inl still ↦ (let y_left = half.whole x y xy yx (backward.keeps x still) in elim (backward.split y y_left) [
-          | inl y_still ↦ puts.keeps y y_still
-          | inr has ↦ absurd (backward.closed x (leads_around x (joined (Within (Edge edges) Q) (stays_left y y_left yx xy) (around_leads y has))) still)
-        ])
-      | inr was ↦ elim (backward.split y (half.whole x y xy yx (around_left x was.0))) [
-          | inl y_still ↦ puts.keeps y y_still
-          | inr has ↦ elim (forward.split y (enters.turned y has)) [
-              | inl y_inside ↦ puts.put y has y_inside (λ same. forward.closed x (other_component x was.2 (subst (λ (z : ℕ). Leads (Edge edges) z x) same yx) (subst (λ (z : ℕ). Leads (Edge edges) x z) same xy)) was.1)
-              | inr of_component ↦ absurd (let w = component_way y of_component in forward.closed x (way_component w.0 x w.1 (joined (Edge edges) w.2 yx) (joined (Edge edges) xy w.3)) was.1)
-            ]
-        ]
+    | inl still ↦ (let y_left = half.whole x y xy yx (backward.keeps x still) in elim (backward.split y y_left) [
+      | inl y_still ↦ puts.keeps y y_still
+      | inr has ↦ absurd (backward.closed x (leads_around x (joined (Within (Edge edges) Q) (stays_left y y_left yx xy) (around_leads y has))) still)
+    ])
+    | inr was ↦ elim (backward.split y (half.whole x y xy yx (around_left x was.0))) [
+      | inl y_still ↦ puts.keeps y y_still
+      | inr has ↦ elim (forward.split y (enters.turned y has)) [
+        | inl y_inside ↦ puts.put y has y_inside (λ same. forward.closed x (other_component x was.2 (subst (λ (z : ℕ). Leads (Edge edges) z x) same yx) (subst (λ (z : ℕ). Leads (Edge edges) x z) same xy)) was.1)
+        | inr of_component ↦ absurd (let w = component_way y of_component in forward.closed x (way_component w.0 x w.1 (joined (Edge edges) w.2 yx) (joined (Edge edges) xy w.3)) was.1)
+      ]
     ]
+  ]
 
   after_complete : (x : ℕ) → x < length edges → ¬ (IsOn left_3 x) → IsOnCycle edges x → IsOn marks_2 x
   after_complete x small off cycle = elim (on_or_off left x) [
-      | inr was_off ↦ marked.keeps x (half.complete x small was_off cycle)
-      | inl was ↦ elim (backward.split x was) [
-          | inl still ↦ absurd (off (puts.keeps x still))
-          | inr has ↦ elim (forward.split x (enters.turned x has)) [
-              | inr of_component ↦ marked.turned x of_component
-              | inl x_inside ↦ elim (ℕ_discrete x p) [
-                  | no other ↦ absurd (off (puts.put x has x_inside other))
-                  | yes same ↦ (let at_p = subst (λ (z : ℕ). IsOnCycle edges z) same cycle in marked.turned x (subst (λ (z : ℕ). Has component z) (sym same) (way_component at_p.0 p at_p.1 at_p.2 here)))
-                ]
-            ]
+    | inr was_off ↦ marked.keeps x (half.complete x small was_off cycle)
+    | inl was ↦ elim (backward.split x was) [
+      | inl still ↦ absurd (off (puts.keeps x still))
+      | inr has ↦ elim (forward.split x (enters.turned x has)) [
+        | inr of_component ↦ marked.turned x of_component
+        | inl x_inside ↦ elim (ℕ_discrete x p) [
+          | no other ↦ absurd (off (puts.put x has x_inside other))
+          | yes same ↦ (let at_p = subst (λ (z : ℕ). IsOnCycle edges z) same cycle in marked.turned x (subst (λ (z : ℕ). Has component z) (sym same) (way_component at_p.0 p at_p.1 at_p.2 here)))
         ]
+      ]
     ]
+  ]
 
   pub after_half : IsHalfMarked edges left_3 marks_2
   after_half = record {
-      left_len = puts.left_len ∙ backward.len ∙ half.left_len;
-      marks_len = marked.len ∙ half.marks_len;
-      whole = after_whole;
-      sound = λ x on. elim (marked.only x on) [ inl was ↦ half.sound x was | inr has ↦ (let w = component_way x has in loop_from edges w.3 w.1 w.2) ];
-      complete = after_complete }
+    left_len = puts.left_len ∙ backward.len ∙ half.left_len;
+    marks_len = marked.len ∙ half.marks_len;
+    whole = after_whole;
+    sound = λ x on. elim (marked.only x on) [ inl was ↦ half.sound x was | inr has ↦ (let w = component_way x has in loop_from edges w.3 w.1 w.2) ];
+    complete = after_complete;
+  }
 
   pub after_blank : IsBlank (length inside) inside_3
   after_blank = record {
-      len = puts.inside_len ∙ forward.len ∙ enters.len;
-      blank = λ x on. (let c = puts.clears x on in c.1 (in_around x (forward.keeps x c.0))) }
+    len = puts.inside_len ∙ forward.len ∙ enters.len;
+    blank = λ x on. (let c = puts.clears x on in c.1 (in_around x (forward.keeps x c.0)));
+  }
 
   pub after_gone : ¬ (IsOn left_3 p)
   after_gone on = elim (puts.only p on) [ inl still ↦ backward.closed p (mutual_around p here here) still | inr was ↦ was.2 refl ]

@@ -6,3 +6,6 @@ mod reversing;
 mod searching;
 
 pub use cycles::mark_cycles;
+
+#[cfg(test)]
+mod tests;

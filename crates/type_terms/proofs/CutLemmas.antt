@@ -1,5 +1,5 @@
 -- The first characters, byte by byte.
-use Rattle.std.proofs.Common.{◌≡◌, ℕ, zero, suc, ◌+◌, ◌-◌, ◌<◌, Bool, true, false, List, [], ◌∷◌, ◌++◌, length, get_or, take, drop, if◌then◌else◌, refl, sym, ap, ◌∙◌, arith, add-one, subst}
+use Rattle.std.proofs.Common.{◌≡◌, ℕ, zero, suc, ◌+◌, ◌-◌, ◌<◌, Bool, true, false, List, [], ◌∷◌, ◌++◌, length, get_or, take, drop, if◌then◌else◌, refl, sym, ap, ◌∙◌, arith}
 use Rattle.type_terms.specs.Word.{begins_char, first_chars}
 
 chosen : {A : Type 0} (b : Bool) (x y : A) → b ≡ true → (if b then x else y) ≡ x
@@ -37,6 +37,7 @@ begins_next count text i (suc n) within is some h =
   where
     up : suc i ≡ i + 1
     up = omega arith
+
     down : n ≡ suc n - 1
     down = omega arith
 

@@ -77,8 +77,10 @@ object_printed t exact props inner m n start first second third fourth is same c
   where
     pieces : List FlowProp → List ℕ
     pieces i = joined (codes ", ") (map shown_prop i)
+
     rest : ℕ → List ℕ
     rest k = if exact then [] else between k (codes ", ") ++ codes "..."
+
     regroup : (s a b c d : List ℕ) → (((s ++ a) ++ b) ++ c) ++ d ≡ s ++ ((a ++ (b ++ c)) ++ d)
     regroup s a b c d = simp append_assoc
 
@@ -92,12 +94,16 @@ function_printed (Ok x) t result inner params given m start first second third f
   where
     pieces : List Param → List ℕ
     pieces g = joined (codes ", ") (map shown_param g)
+
     close : Bool → List ℕ
     close m = if m then codes ")" else []
+
     regroup_in : (s o a b c d e : List ℕ) → ((((((s ++ o) ++ a) ++ b) ++ c) ++ d) ++ e) ≡ s ++ ((o ++ (((a ++ b) ++ c) ++ d)) ++ e)
     regroup_in s o a b c d e = simp append_assoc
+
     regroup_out : (s a b c d : List ℕ) → ((((((s ++ []) ++ a) ++ b) ++ c) ++ d) ++ []) ≡ s ++ (((a ++ b) ++ c) ++ d)
     regroup_out s a b c d = simp (append_assoc, append-nil)
+
     regroup : (m : Bool) → (((((start ++ (if m then codes "(" else [])) ++ codes "(") ++ pieces params) ++ codes ") => ") ++ form result false) ++ close m ≡ start ++ bracketed (codes "(" ++ joined (codes ", ") (map shown_param params) ++ codes ") => " ++ form result false) m
     regroup true = regroup_in start (codes "(") (codes "(") (pieces params) (codes ") => ") (form result false) (codes ")")
     regroup false = regroup_out start (codes "(") (pieces params) (codes ") => ") (form result false)

@@ -12,3 +12,6 @@ pub use joining::{join, widen};
 pub use printing::show;
 pub use strings::{show_key, show_string};
 pub use words::is_word;
+
+#[cfg(test)]
+mod tests;

@@ -1,8 +1,6 @@
-use Rattle.std.proofs.Common.{◌≡◌, ◌<◌, ℕ, Bool, true, false, List, length, refl, sym, ◌∙◌, ap, arith, subst}
-use Rattle.std.specs.Prelude.{All}
-use Rattle.alias_cycles.specs.Cycles.{IsOn}
+use Rattle.std.proofs.Common.{◌<◌, ℕ, true, false, List, length, refl, sym, ◌∙◌, arith, subst}
 use Rattle.alias_cycles.specs.Searching.{Marks, PutsBack, IsBlank}
-use Rattle.alias_cycles.proofs.Lists.{get_index, get_small}
+use Rattle.alias_cycles.proofs.Lists.{get_index}
 use Rattle.alias_cycles.proofs.Searches.{found_small, back_within, list_small_here}
 use Rattle.alias_cycles.proofs.Pivots.{after_half, after_blank, after_gone, after_less}
 use Rattle.alias_cycles.proofs.cycles.finish.Goals as goal
@@ -35,11 +33,11 @@ returns c =
     let puts = subst (λ (l : List ℕ). PutsBack l c.args.p c.search.new.opened c.search-2.new.opened c.put_back.new.left c.put_back.new.inside) c.as_slice-3.ensures c.put_back.ensures in
     record {
       half = after_half c.args.edges.now c.args.back.now c.args.left.now c.args.marks.now c.search.new.opened c.args.inside.now c.mark_all.new.marks c.search-2.new.opened c.mark_all-2.new.marks c.put_back.new.left c.put_back.new.inside
-        c.in_ok-around.around c.in_ok-component.component c.ends.result.now c.args.p c.requires.half c.requires.reversed c.requires.blank.blank p_left c.ends.ensures c.in_ok-around.ensures enters c.in_ok-component.ensures marked puts;
+          c.in_ok-around.around c.in_ok-component.component c.ends.result.now c.args.p c.requires.half c.requires.reversed c.requires.blank.blank p_left c.ends.ensures c.in_ok-around.ensures enters c.in_ok-component.ensures marked puts;
       blank = subst (λ (n : ℕ). IsBlank n c.put_back.new.inside) c.requires.blank.len (after_blank c.args.edges.now c.args.back.now c.args.left.now c.args.marks.now c.search.new.opened c.args.inside.now c.mark_all.new.marks c.search-2.new.opened c.mark_all-2.new.marks c.put_back.new.left c.put_back.new.inside
-        c.in_ok-around.around c.in_ok-component.component c.ends.result.now c.args.p c.requires.half c.requires.reversed c.requires.blank.blank p_left c.ends.ensures c.in_ok-around.ensures enters c.in_ok-component.ensures marked puts);
+          c.in_ok-around.around c.in_ok-component.component c.ends.result.now c.args.p c.requires.half c.requires.reversed c.requires.blank.blank p_left c.ends.ensures c.in_ok-around.ensures enters c.in_ok-component.ensures marked puts);
       gone = after_gone c.args.edges.now c.args.back.now c.args.left.now c.args.marks.now c.search.new.opened c.args.inside.now c.mark_all.new.marks c.search-2.new.opened c.mark_all-2.new.marks c.put_back.new.left c.put_back.new.inside
-        c.in_ok-around.around c.in_ok-component.component c.ends.result.now c.args.p c.requires.half c.requires.reversed c.requires.blank.blank p_left c.ends.ensures c.in_ok-around.ensures enters c.in_ok-component.ensures marked puts;
+          c.in_ok-around.around c.in_ok-component.component c.ends.result.now c.args.p c.requires.half c.requires.reversed c.requires.blank.blank p_left c.ends.ensures c.in_ok-around.ensures enters c.in_ok-component.ensures marked puts;
       less = after_less c.args.edges.now c.args.back.now c.args.left.now c.args.marks.now c.search.new.opened c.args.inside.now c.mark_all.new.marks c.search-2.new.opened c.mark_all-2.new.marks c.put_back.new.left c.put_back.new.inside
-        c.in_ok-around.around c.in_ok-component.component c.ends.result.now c.args.p c.requires.half c.requires.reversed c.requires.blank.blank p_left c.ends.ensures c.in_ok-around.ensures enters c.in_ok-component.ensures marked puts;
+          c.in_ok-around.around c.in_ok-component.component c.ends.result.now c.args.p c.requires.half c.requires.reversed c.requires.blank.blank p_left c.ends.ensures c.in_ok-around.ensures enters c.in_ok-component.ensures marked puts;
     }

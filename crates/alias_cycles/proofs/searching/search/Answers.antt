@@ -1,4 +1,4 @@
-use Rattle.std.proofs.Common.{◌≡◌, ◌<◌, ◌≤◌, length, arith, sym, ◌∙◌, ap, refl}
+use Rattle.std.proofs.Common.{◌<◌, length, arith, ◌∙◌, refl}
 use Rattle.alias_cycles.proofs.Searches.{search_begins, search_step, search_ends, next_small, next_is, still_within, list_small}
 use Rattle.alias_cycles.proofs.searching.search.Goals as goal
 
@@ -28,7 +28,7 @@ loop-at-preserved c =
     let still = still_within c.loop-at.found c.close_all-in-loop-at.new.found c.loop-at.at inside c.in_ok-close_all-2.ensures in
     record {
       search = search_step c.loop-at.at _ c.ends.result.now c.ends.result.now (next_is c.loop-at.found c.as_slice.result.now c.loop-at.at c.as_slice.ensures inside)
-        c.ends.ensures refl c.loop-at.invariant.search c.in_ok-close_all-2.ensures;
+          c.ends.ensures refl c.loop-at.invariant.search c.in_ok-close_all-2.ensures;
       within = omega arith;
     }
 

@@ -1,4 +1,4 @@
-use Rattle.std.proofs.Common.{◌≡◌, ◌+◌, ◌-◌, ◌≤◌, length}
+use Rattle.std.proofs.Common.{◌+◌, ◌-◌, ◌≤◌, length}
 use Rattle.alias_cycles.specs.Searching.{Search, open_count}
 use Rattle.alias_cycles.proofs.searching.search.Given as goal
 

@@ -1,4 +1,4 @@
-use Rattle.std.proofs.Common.{codes, arith}
+use Rattle.std.proofs.Common.{arith}
 use Rattle.type_terms.specs.Show.{Form, form, shown_prop, shown_param}
 use Rattle.type_terms.proofs.Shown.{plain_array_printed, read_array_printed, tuple_printed, object_printed, function_printed}
 use Rattle.type_terms.proofs.Joined.{printed_next, printed_next_of}
