@@ -1,0 +1,119 @@
+-- Marking and putting back, one after another.
+use Rattle.std.proofs.Common.{◌≡◌, ◌≢◌, ℕ, zero, suc, ◌+◌, ◌<◌, ◌≤◌, ◌⊎◌, Bool, true, false, List, [], ◌∷◌, length, set, get_or, slice_get, take, Some, refl, sym, ap, ◌∙◌, inl, inr, arith, subst}
+use Rattle.alias_cycles.specs.Cycles.{Has, IsOn}
+use Rattle.alias_cycles.specs.Searching.{Marks, PutsBack}
+use Rattle.alias_cycles.proofs.Lists.{none_some, set_on, set_off, stays_on, stays_marked, was_marked, length-set_here, has_more, only_has, has_none}
+
+take_more : (es : List ℕ) (i j x : ℕ) → slice_get (take i es) j ≡ Some x → slice_get (take (suc i) es) j ≡ Some x
+take_more [] zero j x at = none_some x at
+take_more [] (suc i) j x at = none_some x at
+take_more (e ∷ es) zero j x at = none_some x at
+take_more (e ∷ es) (suc i) zero x at = at
+take_more (e ∷ es) (suc i) (suc j) x at = take_more es i j x at
+
+at_next : (es : List ℕ) (i : ℕ) → i < length es → slice_get (take (suc i) es) i ≡ Some (get_or es i 0)
+at_next [] i h = absurd (omega arith)
+at_next (e ∷ es) zero h = refl
+at_next (e ∷ es) (suc i) h = at_next es i (omega arith)
+
+pub earlier : (ys : List ℕ) (i z : ℕ) → Has (take i ys) z → Has (take (i + 1) ys) z
+earlier ys i z (j, at) = let up : suc i ≡ i + 1 = omega arith in (j, subst (λ (n : ℕ). slice_get (take n ys) j ≡ Some z) up (take_more ys i j z at))
+
+pub this : (ys : List ℕ) (i : ℕ) → i < length ys → Has (take (i + 1) ys) (get_or ys i 0)
+this ys i within = let up : suc i ≡ i + 1 = omega arith in (i, subst (λ (n : ℕ). slice_get (take n ys) i ≡ Some (get_or ys i 0)) up (at_next ys i within))
+
+take_whole : (xs : List ℕ) (n : ℕ) → length xs ≤ n → take n xs ≡ xs
+take_whole [] zero h = refl
+take_whole [] (suc n) h = refl
+take_whole (x ∷ xs) zero h = absurd (omega arith)
+take_whole (x ∷ xs) (suc n) h = ap (λ l. x ∷ l) (take_whole xs n (omega arith))
+
+pub marks_none : (ms : List Bool) → Marks [] ms ms
+marks_none ms = record { len = refl; turned = λ x has. absurd (has_none x has); keeps = λ x on. on; only = λ x on. inl on }
+
+pub marks_next : (xs : List ℕ) (i : ℕ) (ms ns : List Bool) → i < length xs → get_or xs i 0 < length ns → Marks (take i xs) ms ns → Marks (take (i + 1) xs) ms (set ns (get_or xs i 0) true)
+marks_next xs i ms ns within small a = record {
+  len = length-set_here ns (get_or xs i 0) true ∙ a.len;
+  turned = λ x has. elim (has_more xs i x has) [ inl old ↦ stays_marked ns (get_or xs i 0) x (a.turned x old) | inr same ↦ subst (λ (z : ℕ). IsOn (set ns (get_or xs i 0) true) z) same (set_on ns (get_or xs i 0) small) ];
+  keeps = λ x on. stays_marked ns (get_or xs i 0) x (a.keeps x on);
+  only = λ x on. elim (was_marked ns (get_or xs i 0) x on) [
+    | inl was ↦ elim (a.only x was) [ inl older ↦ inl older | inr has ↦ inr (earlier xs i x has) ]
+    | inr same ↦ inr (subst (λ (z : ℕ). Has (take (i + 1) xs) z) (sym same) (this xs i within))
+  ];
+}
+
+pub marks_all : (xs : List ℕ) (n : ℕ) {ms ns : List Bool} → length xs ≤ n → Marks (take n xs) ms ns → Marks xs ms ns
+marks_all xs n {ms} {ns} all a = subst (λ (l : List ℕ). Marks l ms ns) (take_whole xs n all) a
+
+pub puts_off : (left inside : List Bool) (x p : ℕ) → ¬ (IsOn inside x) → PutsBack (x ∷ []) p left inside left inside
+puts_off left inside x p off = record {
+  left_len = refl;
+  inside_len = refl;
+  keeps = λ z on. on;
+  put = λ z has on other. absurd (off (subst (λ (y : ℕ). IsOn inside y) (only_has x z has) on));
+  only = λ z on. inl on;
+  clears = λ z on. (on, λ has. off (subst (λ (y : ℕ). IsOn inside y) (only_has x z has) on));
+  split = λ z on. inl on;
+}
+
+cleared : (inside : List Bool) (x z : ℕ) → x < length inside → IsOn (set inside x false) z → IsOn inside z × ¬ (Has (x ∷ []) z)
+cleared inside x z small on = let was = set_off inside x z small on in (was.0, λ has. was.1 (only_has x z has))
+
+kept_or_x : (inside : List Bool) (x z : ℕ) → IsOn inside z → IsOn (set inside x false) z ⊎ Has (x ∷ []) z
+kept_or_x inside x z on = elim (stays_on inside x z on) [ inl still ↦ inl still | inr same ↦ inr (0, ap Some (sym same)) ]
+
+pub puts_pivot : (left inside : List Bool) (x p : ℕ) → x < length inside → x ≡ p → PutsBack (x ∷ []) p left inside left (set inside x false)
+puts_pivot left inside x p small is = record {
+  left_len = refl;
+  inside_len = length-set_here inside x false;
+  keeps = λ z on. on;
+  put = λ z has on other. absurd (other (only_has x z has ∙ is));
+  only = λ z on. inl on;
+  clears = λ z on. cleared inside x z small on;
+  split = λ z on. kept_or_x inside x z on;
+}
+
+pub puts_on : (left inside : List Bool) (x p : ℕ) → x < length left → x < length inside → IsOn inside x → x ≢ p → PutsBack (x ∷ []) p left inside (set left x true) (set inside x false)
+puts_on left inside x p small_left small on_x other = record {
+  left_len = length-set_here left x true;
+  inside_len = length-set_here inside x false;
+  keeps = λ z on. stays_marked left x z on;
+  put = λ z has on apart. subst (λ (y : ℕ). IsOn (set left x true) y) (sym (only_has x z has)) (set_on left x small_left);
+  only = λ z on. elim (was_marked left x z on) [ inl was ↦ inl was | inr same ↦ inr ((0, ap Some (sym same)), subst (λ (y : ℕ). IsOn inside y) (sym same) on_x, λ equal. other (sym same ∙ equal)) ];
+  clears = λ z on. cleared inside x z small on;
+  split = λ z on. kept_or_x inside x z on;
+}
+
+pub puts_none : (left inside : List Bool) (p : ℕ) → PutsBack [] p left inside left inside
+puts_none left inside p = record {
+  left_len = refl;
+  inside_len = refl;
+  keeps = λ z on. on;
+  put = λ z has on other. absurd (has_none z has);
+  only = λ z on. inl on;
+  clears = λ z on. (on, λ has. has_none z has);
+  split = λ z on. inl on;
+}
+
+pub puts_next : (xs : List ℕ) (i p : ℕ) {left inside l_1 i_1 l_2 i_2 : List Bool} → i < length xs → PutsBack (take i xs) p left inside l_1 i_1 → PutsBack (get_or xs i 0 ∷ []) p l_1 i_1 l_2 i_2 → PutsBack (take (i + 1) xs) p left inside l_2 i_2
+puts_next xs i p {left} {inside} {l_1} {i_1} {l_2} {i_2} within a b = record {
+  left_len = b.left_len ∙ a.left_len;
+  inside_len = b.inside_len ∙ a.inside_len;
+  keeps = λ z on. b.keeps z (a.keeps z on);
+  put = λ z has on other. elim (has_more xs i z has) [
+    | inl old ↦ b.keeps z (a.put z old on other)
+    | inr same ↦ elim (a.split z on) [ inl still ↦ b.put z (0, ap Some same) still other | inr old ↦ b.keeps z (a.put z old on other) ]
+  ];
+  only = λ z on. elim (b.only z on) [
+    | inl was ↦ elim (a.only z was) [ inl older ↦ inl older | inr new ↦ inr (earlier xs i z new.0, new.1, new.2) ]
+    | inr new ↦ inr (subst (λ (y : ℕ). Has (take (i + 1) xs) y) (sym (only_has (get_or xs i 0) z new.0)) (this xs i within), (a.clears z new.1).0, new.2)
+  ];
+  clears = λ z on. (let now = b.clears z on in let was = a.clears z now.0 in (was.0, λ has. elim (has_more xs i z has) [ inl old ↦ was.1 old | inr same ↦ now.1 (0, ap Some same) ]));
+  split = λ z on. elim (a.split z on) [
+    | inl still ↦ elim (b.split z still) [ inl now ↦ inl now | inr has ↦ inr (subst (λ (y : ℕ). Has (take (i + 1) xs) y) (sym (only_has (get_or xs i 0) z has)) (this xs i within)) ]
+    | inr old ↦ inr (earlier xs i z old)
+  ];
+}
+
+pub puts_all : (xs : List ℕ) (n p : ℕ) {left inside l_1 i_1 : List Bool} → length xs ≤ n → PutsBack (take n xs) p left inside l_1 i_1 → PutsBack xs p left inside l_1 i_1
+puts_all xs n p {left} {inside} {l_1} {i_1} all a = subst (λ (l : List ℕ). PutsBack l p left inside l_1 i_1) (take_whole xs n all) a
