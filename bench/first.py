@@ -1,7 +1,7 @@
 #!/usr/bin/env python3
 """Measures `flowd ROOT` on folders of generated modules, beside `cat` over the same files.
 
-    bench/first.py [MODULES ..]        (512 and 4096 where no number is given)
+    bench/first.py [MODULES ..]        (512 and 1024 where no number is given)
 
 It writes a folder of that many modules with 250 lines each, about 10 kilobytes a module, spread over sub-folders of
 64, reads all once so that the cache is warm, and then runs `cat` and `flowd` in turn, fifteen times each. It prints
@@ -80,7 +80,7 @@ def measure(program, count, room):
 
 
 def main():
-    counts = [int(word) for word in sys.argv[1:]] or [512, 4096]
+    counts = [int(word) for word in sys.argv[1:]] or [512, 1024]
     # Where the program isn't built, this builds it: without words it ends with status 64.
     if subprocess.run([f"{TOP}/flowd"], stdin=subprocess.DEVNULL, stdout=subprocess.DEVNULL).returncode != 64:
         sys.exit("the program was not built")

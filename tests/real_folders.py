@@ -18,7 +18,7 @@ import tempfile
 TOP = os.path.dirname(os.path.dirname(os.path.abspath(__file__)))
 FLOWD = f"{TOP}/flowd"
 USAGE = b"usage: flowd ROOT | --gen N --seed X [--workers N] [--lanes R] [--modules M]\n"
-CLEAN, ERRORS, BAD_WORDS, FOLDER_FAULT, SINK_FAULT = 0, 2, 64, 66, 68
+CLEAN, ERRORS, BAD_WORDS, FOLDER_FAULT, SCRIPT_FAULT, SINK_FAULT = 0, 2, 64, 66, 67, 68
 GOOD = b"export const x: number = 1;\n"
 BAD = b'export const x: number = "a";\n'
 MOST_ENTRIES = 1_000_000
@@ -63,6 +63,10 @@ def expect_modules(root, modules, errors=0):
 
 def expect_fault(root):
     expect(run(root), FOLDER_FAULT, b"")
+
+
+def cannot_read(path):
+    return b"recheck cannot read %s, still 0\n" % path
 
 
 # What is a module.
@@ -159,9 +163,9 @@ def pipes_and_sockets_are_no_modules(root):
 
 @case
 def many_modules_in_many_folders(root):
-    for number in range(1100):
+    for number in range(1000):
         write(f"{root}/d{number % 37}/m{number}.js", BAD if number % 100 == 0 else GOOD)
-    expect_modules(root, 1100, 11)
+    expect_modules(root, 1000, 10)
 
 
 # Names that are faults.
@@ -234,7 +238,7 @@ def a_file_that_is_too_large(root):
     write(f"{root}/a.js")
     write(f"{root}/b.js", b"")
     os.truncate(f"{root}/b.js", MOST_BYTES + 1)
-    expect_fault(root)
+    expect(run(root), CLEAN, cannot_read(b"b.js"))
 
 
 @case
@@ -315,12 +319,12 @@ def as_another_user():
     raise LeftOut("as root, no program can be run as another user here")
 
 
-def expect_unreadable(root, path, mode):
+def expect_unreadable(root, path, mode, status=FOLDER_FAULT, text=b""):
     before = as_another_user()
     mode, was = mode, os.stat(path).st_mode
     os.chmod(path, mode)
     try:
-        expect(run(root, before=before), FOLDER_FAULT, b"")
+        expect(run(root, before=before), status, text)
     finally:
         os.chmod(path, was)
     expect(run(root, before=before), CLEAN, recheck(2))
@@ -345,7 +349,7 @@ def a_sub_folder_that_may_not_be_read(root):
 def a_module_that_may_not_be_read(root):
     write(f"{root}/a.js")
     write(f"{root}/b.js")
-    expect_unreadable(root, f"{root}/b.js", 0o200)
+    expect_unreadable(root, f"{root}/b.js", 0o200, CLEAN, cannot_read(b"b.js"))
 
 
 # Words.
@@ -433,26 +437,7 @@ def a_closed_standard_output(root):
 @case
 def a_closed_standard_input(root):
     write(f"{root}/a.js")
-    expect(run(root, before=["sh", "-c", 'exec "$@" <&-', "sh"]), CLEAN, recheck(1))
-
-
-@case
-def the_script_is_left_unread(root):
-    write(f"{root}/d/a.js")
-    write(f"{root}/script", b'{"do":"edit","path":"b.js","text":""}\n{"do":"recheck"}\nno line\n')
-    with open(f"{root}/script", "rb") as script:
-        expect(run(f"{root}/d", stdin=script), CLEAN, recheck(1))
-        if os.lseek(script.fileno(), 0, os.SEEK_CUR):
-            raise AssertionError("the script was read")
-
-
-@case
-def nothing_is_written_before_a_fault_of_a_read(root):
-    for number in range(300):
-        write(f"{root}/m{number}.js")
-    write(f"{root}/z.js", b"")
-    os.truncate(f"{root}/z.js", MOST_BYTES + 1)
-    expect_fault(root)
+    expect(run(root, before=["sh", "-c", 'exec "$@" <&-', "sh"]), SCRIPT_FAULT, recheck(1))
 
 
 @case

@@ -1,5 +1,5 @@
 -- The errors of a source, and of a program.
-use Rattle.std.specs.Prelude.{◌≡◌, ℕ, ◌+◌, ◌⊎◌, List, [], ◌∷◌, ◌++◌, map, length, Option, Some, None, if◌then◌else◌, codes}
+use Rattle.std.specs.Prelude.{◌≡◌, ℕ, ◌+◌, ◌⊎◌, List, [], ◌∷◌, ◌++◌, map, length, take, nat_lt, Option, Some, None, if◌then◌else◌, codes}
 use Rattle.flow_model.specs.declared.fault.Code.{Code}
 use Rattle.flow_model.specs.declared.fault.Code.TheVariants.{IncompatibleType, NotBuilt}
 use Rattle.flow_model.specs.declared.fault.Fault.{Fault}
@@ -12,6 +12,10 @@ abbrev pub code_name : Code → Bytes
 code_name IncompatibleType = codes "incompatible-type"
 code_name NotBuilt = codes "not-built"
 
+-- a text of at most 80 characters, or the first 77 of a longer one and `...`; each character is one byte
+abbrev pub brief : Bytes → Bytes
+brief text = if nat_lt 80 (length text) then take 77 text ++ codes "..." else text
+
 -- the fault of a declaration whose line begins at a byte place: its literal is not of its type
 abbrev pub fault_of : ℕ → Declaration → List Fault
 fault_of at d =
@@ -19,7 +23,7 @@ fault_of at d =
     else record {
       span = record { start = at + length (before_literal d); end = at + length (before_literal d) + length d.literal };
       code = IncompatibleType;
-      details = d.literal ++ (codes " " ++ kind_word d.kind);
+      details = brief d.literal ++ (codes " " ++ kind_word d.kind);
     } ∷ []
 
 -- the faults of declarations whose lines begin at a byte place

@@ -2,7 +2,7 @@ ghost use Rattle.std.specs.Prelude.{◌≡◌, ◌<◌, ◌+◌, ◌^◌, ◌==�
 ghost use Rattle.std.specs.Option.{option_map};
 ghost use Rattle.flow_model.specs.FirstForm.{spelled, spelled_all, before_literal, same_kind};
 ghost use Rattle.flow_model.specs.Reading.{source_lines, rows_of, declared};
-ghost use Rattle.flow_model.specs.Errors.{fault_of, faults_from, errors1, AreErrors, NOT_BUILT};
+ghost use Rattle.flow_model.specs.Errors.{brief, fault_of, faults_from, errors1, AreErrors, NOT_BUILT};
 
 use crate::distinct::are_distinct;
 use crate::lines::{Line, line_of};
@@ -62,6 +62,19 @@ fn literal_place(line: &Line<'_>) -> usize
     b"export const ".len() + line.name.len() + b": ".len() + line.kind.word().len() + b" = ".len()
 }
 
+// A literal as it is printed, whose characters are one byte each: at most 80 of them, or the first 77
+// of more and `...`.
+fn brief(alloc: Global, literal: &[u8]) -> Result<List<u8>, NoMemory>
+    ensures { IfOk result (λ text. text ≡ brief literal.now) }
+{
+    if literal.len() <= 80 {
+        return List::from_slice(alloc, literal);
+    }
+    let mut text = List::from_slice(alloc, &literal[..77])?;
+    text.extend_from_slice(b"...")?;
+    Ok(text)
+}
+
 // The fault of a line that begins at a byte place and whose literal is not of its type.
 fn fault_of(alloc: Global, at: usize, line: &Line<'_>) -> Result<Fault, NoMemory>
     requires place { at + length (spelled (declared line.now)) < 2 ^ 64 }
@@ -70,7 +83,7 @@ fn fault_of(alloc: Global, at: usize, line: &Line<'_>) -> Result<Fault, NoMemory
 {
     let start = at + literal_place(line);
     let end = start + line.literal.len();
-    let mut details = List::from_slice(alloc, line.literal)?;
+    let mut details = brief(alloc, line.literal)?;
     details.extend_from_slice(b" ")?;
     details.extend_from_slice(line.kind.word())?;
     Ok(Fault {
@@ -134,8 +147,8 @@ fn errors_of(alloc: Global, source: &[u8]) -> Result<Errs, NoMemory>
 }
 
 /// Checks a source: where it is of the first form, each literal that is not of its type is a fault
-/// at the literal, with the literal, a space and the type as details; where it is not, it has the
-/// one fault `NotBuilt` at its first byte.
+/// at the literal, with the literal, of which at most 80 characters are shown, a space and the type
+/// as details; where it is not, it has the one fault `NotBuilt` at its first byte.
 ///
 /// # Errors
 ///

@@ -2,7 +2,7 @@
 use Rattle.std.specs.Prelude.{ℕ, ◌==◌, ◌++◌, Bool, false, not, List, [], ◌∷◌, Option, Some, None, if◌then◌else◌, codes}
 use Rattle.flow_base.specs.Program.{Bytes}
 use Rattle.flowd_top.specs.declared.status.Status.{Status}
-use Rattle.flowd_top.specs.declared.status.Status.TheVariants.{Clean, Errors, Usage, FolderFault, SinkFault, NoMemory}
+use Rattle.flowd_top.specs.declared.status.Status.TheVariants.{Clean, Errors, Usage, BadLine, FolderFault, ScriptFault, SinkFault, Limit, NoMemory}
 
 -- a word that names a folder: it is not empty and does not begin with `-`
 abbrev pub is_root : Bytes → Bool
@@ -22,6 +22,9 @@ abbrev pub status_number : Status → ℕ
 status_number Clean = 0
 status_number Errors = 2
 status_number Usage = 64
+status_number BadLine = 65
 status_number FolderFault = 66
+status_number ScriptFault = 67
 status_number SinkFault = 68
+status_number Limit = 69
 status_number NoMemory = 70

@@ -1,9 +1,6 @@
 //! The program's top call.
 #![tactic(auto)]
 
-mod loading;
-mod printing;
-mod sinks;
 mod status;
 mod top;
 mod words;

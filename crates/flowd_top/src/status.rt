@@ -4,16 +4,22 @@ ghost use Rattle.flowd_top.specs.Words.{status_number};
 /// How a run ended.
 #[derive(Clone, Copy, Debug, PartialEq, Eq)]
 pub enum Status {
-    /// The program that was checked has no errors.
+    /// The script came to its end, and the program that was committed last has no errors.
     Clean = 0,
-    /// The program that was checked has errors.
+    /// The script came to its end, and the program that was committed last has errors.
     Errors = 2,
     /// The words are not of the command.
     Usage = 64,
-    /// The folder failed.
+    /// A line of the script is neither blank nor a command.
+    BadLine = 65,
+    /// The folder's paths could not be listed.
     FolderFault = 66,
+    /// The script could not be read.
+    ScriptFault = 67,
     /// The sink failed.
     SinkFault = 68,
+    /// The folder has too many files, a line of the script is too long, or it has too many lines.
+    Limit = 69,
     /// Memory was refused.
     NoMemory = 70,
 }

@@ -1,5 +1,7 @@
 use crate::{Status, flowd, root_word};
-use flow_base::{FailFolder, FailSink, List, MemFolder, MemSink, MemSource, Open, Path, Text};
+use flow_base::{
+    FailFolder, FailSink, FailSource, List, MemFolder, MemSink, MemSource, Open, Path, Text,
+};
 use std::alloc::Global;
 use std::test::Fail;
 
@@ -26,11 +28,20 @@ fn words_of(alloc: Global, words: &[&str]) -> Result<Vec<String>, Fail> {
     Ok(all)
 }
 
-// The status of a run over a folder in memory, and what it printed.
-fn run(alloc: Global, words: &[&str], rows: &[(&str, &str)]) -> Result<(Status, List<u8>), Fail> {
+fn source_of(alloc: Global, script: &str) -> Result<MemSource, Fail> {
+    Ok(MemSource::new(List::from_slice(alloc, script.as_bytes())?))
+}
+
+// The status of a run over a folder and a script in memory, and what it printed.
+fn run(
+    alloc: Global,
+    words: &[&str],
+    rows: &[(&str, &str)],
+    script: &str,
+) -> Result<(Status, List<u8>), Fail> {
     let words = words_of(alloc, words)?;
     let mut folder = folder_of(alloc, rows)?;
-    let mut script = MemSource::new(List::new(alloc));
+    let mut script = source_of(alloc, script)?;
     let mut out = MemSink::new(alloc);
     let status = flowd(alloc, &words, &mut folder, &mut script, &mut out, &Open);
     Ok((status, out.bytes))
@@ -38,26 +49,46 @@ fn run(alloc: Global, words: &[&str], rows: &[(&str, &str)]) -> Result<(Status, 
 
 #[test]
 fn an_empty_folder_is_clean(rt: HostRuntime) -> Result<(), Fail> {
-    let (status, printed) = run(rt.alloc(), &["d"], &[])?;
+    let (status, printed) = run(rt.alloc(), &["d"], &[], "")?;
     assert_eq!(rt; status.number(), 0);
-    let line = "recheck 1: 0 parsed, 0 checked, 0 errors\n";
-    assert_eq!(rt; printed.as_slice(), line.as_bytes());
+    let lines = "recheck 1: 0 parsed, 0 checked, 0 errors\n";
+    assert_eq!(rt; printed.as_slice(), lines.as_bytes());
     Ok(())
 }
 
 #[test]
-fn errors_are_counted(rt: HostRuntime) -> Result<(), Fail> {
-    let rows = [
-        (
-            "a.js",
-            "export const x: number = \"a\";\nexport const y: boolean = true;\n",
-        ),
-        ("b.js", "let x = 1;"),
-    ];
-    let (status, printed) = run(rt.alloc(), &["d"], &rows)?;
+fn errors_are_counted_and_shown(rt: HostRuntime) -> Result<(), Fail> {
+    let rows = [("a.js", "export const x: number = \"a\";")];
+    let script = "{\"do\":\"ask\",\"ask\":{\"what\":\"status\"}}\n";
+    let (status, printed) = run(rt.alloc(), &["d"], &rows, script)?;
     assert_eq!(rt; status.number(), 2);
-    let line = "recheck 1: 2 parsed, 2 checked, 2 errors\n";
-    assert_eq!(rt; printed.as_slice(), line.as_bytes());
+    let lines =
+        "recheck 1: 1 parsed, 1 checked, 1 errors\n1 status: 1 errors\n  a.js:1:26 incompatible-type \"a\" number\n";
+    assert_eq!(rt; printed.as_slice(), lines.as_bytes());
+    Ok(())
+}
+
+#[test]
+fn an_edit_is_rechecked(rt: HostRuntime) -> Result<(), Fail> {
+    let script =
+        "{\"do\":\"edit\",\"path\":\"a.js\",\"text\":\"export const n: number = 1;\"}\n\n{\"do\":\"recheck\"}\n{\"do\":\"end\"}\nunread";
+    let (status, printed) = run(rt.alloc(), &["d"], &[], script)?;
+    assert_eq!(rt; status.number(), 0);
+    let lines =
+        "recheck 1: 0 parsed, 0 checked, 0 errors\nrecheck 2: 1 parsed, 1 checked, 0 errors\n";
+    assert_eq!(rt; printed.as_slice(), lines.as_bytes());
+    Ok(())
+}
+
+#[test]
+fn a_bad_line_ends_the_run(rt: HostRuntime) -> Result<(), Fail> {
+    let script =
+        "{\"do\":\"recheck\"}\n{\"do\":\"ask\",\"ask\":{\"what\":\"status\"}}\n{\"do\":\"rechek\"}\n{\"do\":\"recheck\"}\n";
+    let (status, printed) = run(rt.alloc(), &["d"], &[], script)?;
+    assert_eq!(rt; status.number(), 65);
+    let lines =
+        "recheck 1: 0 parsed, 0 checked, 0 errors\nrecheck 2: 0 parsed, 0 checked, 0 errors\n2 status: 0 errors\nbad line 3\n";
+    assert_eq!(rt; printed.as_slice(), lines.as_bytes());
     Ok(())
 }
 
@@ -66,7 +97,7 @@ fn other_words_get_the_usage_line(rt: HostRuntime) -> Result<(), Fail> {
     let alloc = rt.alloc();
     let cases: [&[&str]; 4] = [&[], &[""], &["-d"], &["a", "b"]];
     for case in cases {
-        let (status, printed) = run(alloc, case, &[])?;
+        let (status, printed) = run(alloc, case, &[], "")?;
         assert_eq!(rt; status.number(), 64);
         assert_eq!(rt; printed.as_slice(), USAGE.as_bytes());
     }
@@ -75,22 +106,41 @@ fn other_words_get_the_usage_line(rt: HostRuntime) -> Result<(), Fail> {
 }
 
 #[test]
-fn a_fault_ends_the_run(rt: HostRuntime) -> Result<(), Fail> {
+fn a_path_that_cannot_be_read_stays_to_be_read(rt: HostRuntime) -> Result<(), Fail> {
     let alloc = rt.alloc();
     let words = words_of(alloc, &["d"])?;
-    for call in 1..3 {
-        let inner = folder_of(alloc, &[("a.js", "")])?;
-        let mut folder = FailFolder::new(inner, List::from_slice(alloc, &[call])?);
-        let mut script = MemSource::new(List::new(alloc));
-        let mut out = MemSink::new(alloc);
-        let status = flowd(alloc, &words, &mut folder, &mut script, &mut out, &Open);
-        assert_eq!(rt; status.number(), 66);
-        assert!(rt; out.bytes.is_empty());
-    }
-    let mut folder = folder_of(alloc, &[])?;
-    let mut script = MemSource::new(List::new(alloc));
-    let mut out = FailSink::new(MemSink::new(alloc), List::from_slice(alloc, &[1])?);
+    let inner = folder_of(alloc, &[("a.js", "")])?;
+    let mut folder = FailFolder::new(inner, List::from_slice(alloc, &[2])?);
+    let mut script = source_of(alloc, "{\"do\":\"recheck\"}")?;
+    let mut out = MemSink::new(alloc);
     let status = flowd(alloc, &words, &mut folder, &mut script, &mut out, &Open);
+    assert_eq!(rt; status.number(), 0);
+    let lines = "recheck cannot read a.js, still 0\nrecheck 1: 1 parsed, 1 checked, 0 errors\n";
+    assert_eq!(rt; out.bytes.as_slice(), lines.as_bytes());
+    Ok(())
+}
+
+#[test]
+fn each_fault_has_its_status(rt: HostRuntime) -> Result<(), Fail> {
+    let alloc = rt.alloc();
+    let words = words_of(alloc, &["d"])?;
+    let mut folder = FailFolder::new(folder_of(alloc, &[])?, List::from_slice(alloc, &[1])?);
+    let mut script = source_of(alloc, "")?;
+    let mut out = MemSink::new(alloc);
+    let status = flowd(alloc, &words, &mut folder, &mut script, &mut out, &Open);
+    assert_eq!(rt; status.number(), 66);
+    assert!(rt; out.bytes.is_empty());
+
+    let mut folder = folder_of(alloc, &[])?;
+    let mut failing = FailSource::new(script, List::from_slice(alloc, &[1])?);
+    let status = flowd(alloc, &words, &mut folder, &mut failing, &mut out, &Open);
+    assert_eq!(rt; status.number(), 67);
+    let lines = "recheck 1: 0 parsed, 0 checked, 0 errors\n";
+    assert_eq!(rt; out.bytes.as_slice(), lines.as_bytes());
+
+    let mut script = source_of(alloc, "")?;
+    let mut sink = FailSink::new(MemSink::new(alloc), List::from_slice(alloc, &[1])?);
+    let status = flowd(alloc, &words, &mut folder, &mut script, &mut sink, &Open);
     assert_eq!(rt; status.number(), 68);
     Ok(())
 }

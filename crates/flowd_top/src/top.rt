@@ -1,83 +1,139 @@
-ghost use Rattle.std.specs.Prelude.{◌≡◌, ◌≤◌, ◌<◌, ◌⊎◌, map, string_bytes, None, OnOk, Err};
-ghost use Rattle.flow_base.specs.Outside.{appended};
+ghost use Rattle.std.specs.Prelude.{◌≡◌, ◌≤◌, ◌<◌, ◌⊎◌, [], map, length, string_bytes, None, Err};
+ghost use Rattle.flow_base.specs.Program.{IsRising};
 ghost use Rattle.flow_base.specs.Causes.{Rose};
-ghost use Rattle.flowd_top.specs.Words.{root_place, usage_line};
-ghost use Rattle.flowd_top.specs.Run.{Prints, PrintsFrontOf};
+ghost use Rattle.flow_base.specs.declared.outside.LastFault.TheVariants.{Listing};
+ghost use Rattle.script_print.specs.Printed.{files_line};
+ghost use Rattle.script_reader.specs.Lines.{lines_left};
+ghost use Rattle.script_run.specs.Transcript.{MOST_MODULES};
+ghost use Rattle.flowd_top.specs.Words.{root_place};
+ghost use Rattle.flowd_top.specs.Run.{Leaves, RunLeaves, WritesLast, status_after};
 
-use crate::loading::load;
-use crate::printing::{done, usage};
-use crate::sinks::write_all;
+use crate::words::usage;
 use crate::{Status, root_word};
-use flow_base::{Folder, FolderFault, Sink, SinkFault, Source, Turnstile};
+use flow_base::{Folder, FolderFault, List, Path, Sink, SinkFault, Source, Turnstile};
+use script_print::files_line;
+use script_run::{Ended, Ending, RunFault, run, write_all};
 use std::alloc::Global;
 
-/// All that the program does: it lists the folder, reads and checks each module, and prints the
-/// line of the load. The words are those of the command without the program's own name. The script
-/// is left unread, and no turn is taken.
+const MOST_MODULES: usize = 1024;
+
+/// All that the program does: it loads the modules of the folder, and then takes the lines of the
+/// script, edits, rechecks and questions, one after the other. The words are those of the command
+/// without the program's own name. What a line prints is written before the next one is read. No turn
+/// is taken.
 ///
 /// The status says how the run ended. Only want of memory may come without a cause.
+#[tactic(auto, using(crate::proofs::Endings::usage_leaves, crate::proofs::Endings::files_leave, crate::proofs::Endings::nothing_left))]
 pub fn flowd<F: Folder, S: Source, K: Sink, T: Turnstile + Sync>(
     alloc: Global,
     words: &[String],
     folder: &mut F,
-    _script: &mut S,
+    script: &mut S,
     out: &mut K,
     _turns: &T,
 ) -> Status
-    // What the folder tells stays, the script stays as it was, and no count of faults falls.
-    ensures told { F.told folder.new ≡ F.told folder.old }
-    ensures unread { _script.new ≡ _script.old }
-    ensures folder_later { F.faults folder.old ≤ F.faults folder.new }
-    ensures sink_later { K.faults out.old ≤ K.faults out.new }
+    // What was printed is a whole transcript with this status; after a fault of the script all of one up to its line,
+    // and after one of the sink, and at want of memory, a front of one. After a fault of the folder nothing was printed.
+    ensures printed { Leaves result (map string_bytes words.now) (F.told folder.old) (lines_left [] (S.left script.old))
+        (K.written out.old) (K.written out.new) (F.faults folder.old) (F.faults folder.new) }
 
-    // Where the words are not of the command, and nowhere else, the usage line is printed.
-    ensures usage { result ≡ Status.Usage → K.written out.new ≡ appended (K.written out.old) usage_line }
-    ensures usage_only { result ≡ Status.Usage → root_place (map string_bytes words.now) ≡ None }
+    // Where the words are not of the command, neither the folder nor the script is touched.
     ensures no_command { root_place (map string_bytes words.now) ≡ None →
         (result ≡ Status.Usage) ⊎ (result ≡ Status.SinkFault) ⊎ (result ≡ Status.NoMemory) }
     ensures no_folder { root_place (map string_bytes words.now) ≡ None → folder.new ≡ folder.old }
+    ensures no_script { root_place (map string_bytes words.now) ≡ None → script.new ≡ script.old }
 
-    // The line of the load is printed, of the folder's program.
-    ensures clean { result ≡ Status.Clean → Prints (F.told folder.old) (λ errors. errors ≡ 0) (K.written out.old) (K.written out.new) }
-    ensures errors { result ≡ Status.Errors → Prints (F.told folder.old) (λ errors. 0 < errors) (K.written out.old) (K.written out.new) }
-
-    // A fault of the folder comes before anything is printed.
+    // Each fault has its cause: its object counted one.
     ensures folder_fault { result ≡ Status.FolderFault → Rose (F.faults folder.old) (F.faults folder.new) }
-    ensures folder_silent { result ≡ Status.FolderFault → out.new ≡ out.old }
-
-    // After a fault of the sink a front of what was to be printed stands there, and at want of memory that or nothing.
+    ensures listing { result ≡ Status.FolderFault → F.last_fault folder.new ≡ Listing }
+    ensures script_fault { result ≡ Status.ScriptFault → Rose (S.faults script.old) (S.faults script.new) }
     ensures sink_fault { result ≡ Status.SinkFault → Rose (K.faults out.old) (K.faults out.new) }
-    ensures sink_front { result ≡ Status.SinkFault →
-        PrintsFrontOf (root_place (map string_bytes words.now)) (F.told folder.old) (K.written out.old) (K.written out.new) }
-    ensures memory_front { result ≡ Status.NoMemory →
-        (out.new ≡ out.old) ⊎ PrintsFrontOf (root_place (map string_bytes words.now)) (F.told folder.old) (K.written out.old) (K.written out.new) }
+
+    // What the folder tells stays, and no count of faults falls.
+    ensures told { F.told folder.new ≡ F.told folder.old }
+    ensures folder_later { F.faults folder.old ≤ F.faults folder.new }
+    ensures script_later { S.faults script.old ≤ S.faults script.new }
+    ensures sink_later { K.faults out.old ≤ K.faults out.new }
 {
     if root_word(words).is_none() {
-        return finished(write_all(out, usage()), Status::Usage);
+        return write_last(out, usage(), Status::Usage);
     }
-    let loaded = match load(alloc, folder) {
-        Ok(loaded) => loaded,
+    let listed = match folder.list() {
+        Ok(listed) => listed,
         Err(FolderFault::Failed) => return Status::FolderFault,
         Err(FolderFault::NoMemory) => return Status::NoMemory,
     };
-    let Ok(line) = done(alloc, 1, loaded) else {
-        return Status::NoMemory;
-    };
-    let status = if loaded.errors == 0 {
-        Status::Clean
-    } else {
-        Status::Errors
-    };
-    finished(write_all(out, line.as_bytes()), status)
+    if listed.len() > MOST_MODULES {
+        return refuse_files(alloc, listed.len() as u64, out);
+    }
+    run_over(alloc, listed, folder, script, out)
 }
 
-// The status after the last write.
-fn finished(written: Result<(), SinkFault>, status: Status) -> Status
-    ensures ok { OnOk written (result ≡ status) }
-    ensures failed { written ≡ Err SinkFault.Failed → result ≡ Status.SinkFault }
-    ensures memory { written ≡ Err SinkFault.NoMemory → result ≡ Status.NoMemory }
+// The run over these listed paths.
+fn run_over<F: Folder, S: Source, K: Sink>(
+    alloc: Global,
+    listed: List<Path>,
+    folder: &mut F,
+    script: &mut S,
+    out: &mut K,
+) -> Status
+    requires rising { IsRising listed }
+    requires few { length listed ≤ MOST_MODULES }
+    ensures leaves { RunLeaves listed (F.told folder.old) (lines_left [] (S.left script.old)) (K.written out.old) (K.written out.new) (F.faults folder.old) (F.faults folder.new) result }
+    ensures no_folder_fault { result ≡ Status.FolderFault → ⊥ }
+    ensures script_fault { result ≡ Status.ScriptFault → Rose (S.faults script.old) (S.faults script.new) }
+    ensures sink_fault { result ≡ Status.SinkFault → Rose (K.faults out.old) (K.faults out.new) }
+    ensures told { F.told folder.new ≡ F.told folder.old }
+    ensures folder_later { F.faults folder.old ≤ F.faults folder.new }
+    ensures script_later { S.faults script.old ≤ S.faults script.new }
+    ensures sink_later { K.faults out.old ≤ K.faults out.new }
 {
-    match written {
+    match run(alloc, listed, folder, script, out) {
+        Ok(ended) => status_of(ended),
+        Err(RunFault::ScriptFault) => Status::ScriptFault,
+        Err(RunFault::SinkFault) => Status::SinkFault,
+        Err(RunFault::NoMemory) => Status::NoMemory,
+    }
+}
+
+// The status of a run that came to its end.
+fn status_of(ended: Ended) -> Status
+    ensures { result ≡ status_after ended.ending ended.errors }
+{
+    match ended.ending {
+        Ending::Finished => {
+            if ended.errors == 0 {
+                Status::Clean
+            } else {
+                Status::Errors
+            }
+        }
+        Ending::BadLine => Status::BadLine,
+        Ending::LongLine => Status::Limit,
+        Ending::ManyLines => Status::Limit,
+    }
+}
+
+// Refuses a folder of so many files.
+fn refuse_files<K: Sink>(alloc: Global, count: u64, out: &mut K) -> Status
+    ensures writes { WritesLast (K.written out.old) (K.written out.new) (files_line count) Status.Limit result }
+    ensures cause { result ≡ Status.SinkFault → Rose (K.faults out.old) (K.faults out.new) }
+    ensures later { K.faults out.old ≤ K.faults out.new }
+{
+    match files_line(alloc, count) {
+        Ok(line) => write_last(out, line.as_bytes(), Status::Limit),
+        Err(_) => Status::NoMemory,
+    }
+}
+
+// Writes the last bytes of a run that ends with this status, where they can be written.
+fn write_last<K: Sink>(out: &mut K, bytes: &[u8], status: Status) -> Status
+    requires { status ≡ Status.SinkFault → ⊥ }
+    ensures writes { WritesLast (K.written out.old) (K.written out.new) bytes.now status result }
+    ensures cause { result ≡ Status.SinkFault → Rose (K.faults out.old) (K.faults out.new) }
+    ensures later { K.faults out.old ≤ K.faults out.new }
+{
+    match write_all(out, bytes) {
         Ok(()) => status,
         Err(SinkFault::Failed) => Status::SinkFault,
         Err(SinkFault::NoMemory) => Status::NoMemory,

@@ -1,5 +1,5 @@
 ghost use Rattle.std.specs.Prelude.{◌≡◌, ◌<◌, map, length, string_bytes, IfSome};
-ghost use Rattle.flowd_top.specs.Words.{root_place, is_root};
+ghost use Rattle.flowd_top.specs.Words.{root_place, is_root, usage_line};
 
 /// The place of the folder's word among the words of the command, without the program's own name,
 /// or `None` where they are not of the command: one word that is not empty and does not begin with
@@ -21,4 +21,11 @@ fn is_root(word: &[u8]) -> bool
         [] => false,
         [first, ..] => *first != b'-',
     }
+}
+
+/// The line that says how the program is called.
+pub(crate) fn usage() -> &'static [u8]
+    ensures { result.now ≡ usage_line }
+{
+    b"usage: flowd ROOT | --gen N --seed X [--workers N] [--lanes R] [--modules M]\n"
 }

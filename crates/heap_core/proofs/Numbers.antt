@@ -4,8 +4,7 @@ use Rattle.std.specs.Prelude.{eqb, ◌||◌}
 use Rattle.std.proofs.lemmas.Bool.Decides.{nat_tests}
 use mathlib.Core.Logic.{dite}
 use native.Mathlib.Decide.{ℕ_discrete}
-use Rattle.heap_core.specs.Meaning.{none_of, stamped}
-use Rattle.heap_core.specs.Plain.{names}
+use Rattle.heap_core.specs.Meaning.{none_of, stamped, names}
 use Rattle.heap_core.specs.PlainLaws.{none_some}
 use Rattle.heap_core.specs.World.{replaced, renewed}
 use Rattle.heap_core.specs.Stands.{numbers, pending_of}

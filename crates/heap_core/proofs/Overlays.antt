@@ -5,8 +5,8 @@ use Rattle.std.proofs.lemmas.Bool.Decides.{nat_tests}
 use Rattle.std.specs.Arc.{arc_value}
 use Rattle.std.specs.declared.sync.Arc.{Arc}
 use Rattle.std.proofs.lemmas.List.{replicate_more, map-append}
-use Rattle.heap_core.specs.Meaning.{none_of, stamped, opening}
-use Rattle.heap_core.specs.Plain.{values, overlaid, staged_of, names, meaning_of}
+use Rattle.heap_core.specs.Meaning.{none_of, stamped, opening, names}
+use Rattle.heap_core.specs.Plain.{values, overlaid, staged_of, meaning_of}
 use Rattle.heap_core.specs.PlainLaws.{none_some}
 use Rattle.heap_core.proofs.Lists.{at_put, at_more, drop_step}
 

@@ -2,8 +2,7 @@
 use Rattle.std.proofs.Common.{◌≡◌, ◌≢◌, ℕ, zero, suc, ◌+◌, ◌-◌, ◌<◌, Bool, true, false, cond, List, [], ◌∷◌, ◌++◌, map, length, set, replicate, slice_get, refl, sym, ap, ◌∙◌, subst, arith, Option, Some, None, length-append}
 use Rattle.std.specs.Prelude.{Result, Ok, Err, IfOk}
 use Rattle.std.proofs.lemmas.List.{length-replicate}
-use Rattle.heap_core.specs.Meaning.{Meaning, AllFit, IsSound, opening, opened, staging, after_commit, after_rollback}
-use Rattle.heap_core.specs.Plain.{names}
+use Rattle.heap_core.specs.Meaning.{Meaning, AllFit, IsSound, opening, opened, staging, after_commit, after_rollback, names}
 use Rattle.heap_core.specs.PlainLaws.{none_some}
 use Rattle.heap_core.specs.World.{PureWorld, PureEvent, begin, stage, publish, commit, roll_back, end, drain, replaced, renewed, emptied, current, last_state, Pends, IsFilled, applied, AllAllowed, after}
 use Rattle.heap_core.specs.Stands.{numbers, pending_of, Stands, Leads, of_begin, of_stage, of_commit, of_rollback, first_world}

@@ -4,8 +4,7 @@ use Rattle.std.specs.Prelude.{eqb, ◌||◌, Result, Ok, Err, OnOk, OnErr, is_er
 use Rattle.std.proofs.lemmas.Bool.Decides.{nat_tests}
 use Rattle.std.specs.Arc.{arc_value}
 use Rattle.std.specs.declared.sync.Arc.{Arc}
-use Rattle.heap_core.specs.Meaning.{Meaning, AllFit, IsSound, none_of, stamped, opened, staging, after_commit, after_rollback}
-use Rattle.heap_core.specs.Plain.{names}
+use Rattle.heap_core.specs.Meaning.{Meaning, AllFit, IsSound, none_of, stamped, opened, staging, after_commit, after_rollback, names}
 use Rattle.heap_core.specs.PlainLaws.{none_some}
 use Rattle.heap_core.specs.Transactions.{changes_of, numbers_of, written, all_staged, Committed}
 use Rattle.heap_core.proofs.Worlds.{take_step}

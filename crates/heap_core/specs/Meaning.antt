@@ -1,5 +1,5 @@
 -- What a writer's heap is, as plain data, and what its calls do to it.
-use Rattle.std.specs.Prelude.{◌≡◌, ℕ, ◌+◌, ◌^◌, ◌<◌, Bool, true, false, List, [], ◌∷◌, ◌++◌, map, length, replicate, slice_get, slice_set, Option, Some, None, if◌then◌else◌}
+use Rattle.std.specs.Prelude.{◌≡◌, ℕ, ◌+◌, ◌^◌, ◌<◌, Bool, true, false, eqb, ◌||◌, List, [], ◌∷◌, ◌++◌, map, length, replicate, slice_get, slice_set, Option, Some, None, if◌then◌else◌}
 
 -- P is what an entity holds. The lists have a place for each entity
 pub record Meaning (P : Type 0) : Type 0 where
@@ -17,6 +17,11 @@ stamped v _ ns = ns
 
 abbrev pub none_of : List Bool → List Bool
 none_of bs = map (λ _. false) bs
+
+-- the number is in the list
+abbrev pub names : List ℕ → ℕ → Bool
+names [] e = false
+names (k ∷ ks) e = eqb k e || names ks e
 
 module _ {P : Type 0} where
   -- all payloads of a state fit its root, which is the first of them

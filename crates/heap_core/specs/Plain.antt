@@ -1,13 +1,8 @@
 -- A plain heap's lists: what is committed, and what is staged over it.
-use Rattle.std.specs.Prelude.{ℕ, Bool, false, eqb, ◌||◌, List, [], ◌∷◌, map, Option, is_some, unwrap_or}
+use Rattle.std.specs.Prelude.{ℕ, Bool, List, [], ◌∷◌, map, Option, is_some, unwrap_or}
 use Rattle.std.specs.Arc.{arc_value}
 use Rattle.std.specs.declared.sync.Arc.{Arc}
 use Rattle.heap_core.specs.Meaning.{Meaning}
-
--- the number is in the list
-abbrev pub names : List ℕ → ℕ → Bool
-names [] e = false
-names (k ∷ ks) e = eqb k e || names ks e
 
 module _ {P Z : Type 0} where
   -- the payloads, each behind its `Arc`

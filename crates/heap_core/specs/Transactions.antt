@@ -2,8 +2,7 @@
 use Rattle.std.specs.Prelude.{◌≡◌, ℕ, ◌<◌, true, false, List, [], ◌∷◌, map, length, slice_get, slice_set, Some}
 use Rattle.std.specs.Arc.{arc_value}
 use Rattle.std.specs.declared.sync.Arc.{Arc}
-use Rattle.heap_core.specs.Meaning.{Meaning, staging}
-use Rattle.heap_core.specs.Plain.{names}
+use Rattle.heap_core.specs.Meaning.{Meaning, staging, names}
 
 -- a change is an entity's number and its new payload
 module _ {P Z : Type 0} where

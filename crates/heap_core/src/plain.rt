@@ -1,7 +1,7 @@
 //! The heap of one thread: the committed payloads, and those that are staged over them.
 ghost use Rattle.std.specs.Prelude.{◌≡◌, ℕ, ◌+◌, ◌^◌, ◌<◌, true, false, length, Some, slice_get};
-ghost use Rattle.heap_core.specs.Meaning.{AllFit, none_of};
-ghost use Rattle.heap_core.specs.Plain.{values, staged_of, names};
+ghost use Rattle.heap_core.specs.Meaning.{AllFit, none_of, names};
+ghost use Rattle.heap_core.specs.Plain.{values, staged_of};
 ghost use Rattle.heap_core.specs.PlainLaws.{AllFit-prop};
 
 use crate::traits::Program;

@@ -1,5 +1,5 @@
 -- When each answer of the lexer comes.
-use Rattle.std.specs.Prelude.{◌≡◌, ℕ, ◌<◌, ◌≤◌, List, Result, Ok, Err, length}
+use Rattle.std.specs.Prelude.{◌≡◌, ◌⊎◌, ℕ, ◌<◌, ◌≤◌, List, Result, Ok, Err, length}
 use Rattle.std.specs.Str.{IsUtf8, chars}
 use Rattle.js_token.specs.declared.token.Token.{Token}
 use Rattle.js_lexer.specs.declared.fault.LexFault.{LexFault}
@@ -22,3 +22,7 @@ Answers source (Err (SourceTooLong len)) = (SOURCE_LIMIT < length source) × (le
 Answers source (Err NotUtf8) = (length source ≤ SOURCE_LIMIT) × ¬ (IsUtf8 source)
 Answers source (Err (BadToken at)) = (length source ≤ SOURCE_LIMIT) × IsUtf8 source × IsStuck 0 (chars source) at
 Answers source (Err NoMemory) = Unit {0}
+
+-- two answers are the same, unless one of them is want of memory
+abbrev pub Agree : Result (List Token) LexFault → Result (List Token) LexFault → Type 0
+Agree a b = (a ≡ b) ⊎ ((a ≡ Err NoMemory) ⊎ (b ≡ Err NoMemory))

@@ -2,9 +2,11 @@
 #![tactic(auto)]
 
 mod fault;
+mod law;
 mod lexing;
 
 pub use fault::LexFault;
+pub use law::one_answer;
 pub use lexing::lex;
 
 /// The largest number of bytes of a source.

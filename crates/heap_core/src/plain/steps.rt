@@ -1,7 +1,7 @@
 //! What the calls do to the lists.
-ghost use Rattle.std.specs.Prelude.{◌≡◌, ℕ, ◌<◌, ◌++◌, ◌∷◌, [], true, length, Some, None, slice_get, OnOk, OnErr, if◌then◌else◌};
-ghost use Rattle.heap_core.specs.Meaning.{stamped};
-ghost use Rattle.heap_core.specs.Plain.{values, overlaid, staged_of, names};
+ghost use Rattle.std.specs.Prelude.{◌≡◌, ℕ, ◌<◌, ◌++◌, ◌∷◌, [], true, length, set, Some, None, slice_get, OnOk, OnErr, if◌then◌else◌};
+ghost use Rattle.heap_core.specs.Meaning.{stamped, names};
+ghost use Rattle.heap_core.specs.Plain.{values, overlaid, staged_of};
 
 use flow_values::NoMemory;
 use std::sync::Arc;
@@ -15,6 +15,14 @@ pub(super) fn list(staged: &mut Vec<u32>, e: u32, is_staged: bool) -> Result<(),
         staged.push(e)?;
     }
     Ok(())
+}
+
+/// Makes `payload` the pending one of the entity `e`.
+pub(super) fn put<P: Drop>(pending: &mut Vec<Option<Arc<P>>>, e: u32, payload: Arc<P>)
+    requires { e < length pending.old.items }
+    ensures { pending.new.items ≡ set pending.old.items e (Some payload) }
+{
+    pending[e as usize] = Some(payload);
 }
 
 /// Moves each pending payload to its place among the committed ones, last committed at this version, and lists none.

@@ -6,7 +6,7 @@ ghost use Rattle.heap_core.specs.Plain.{meaning_of};
 ghost use Rattle.heap_core.specs.PlainLaws.{plain_sound, none_some};
 
 use super::PlainHeap;
-use super::steps::{clear, list, settle};
+use super::steps::{clear, list, put, settle};
 use crate::traits::{HeapWriter, Program};
 use flow_values::NoMemory;
 use std::sync::Arc;
@@ -43,7 +43,7 @@ impl<P: Program> HeapWriter<P> for PlainHeap<P> {
     {
         let is_staged = self.pending[e as usize].is_some();
         list(&mut self.staged, e, is_staged)?;
-        self.pending[e as usize] = Some(payload);
+        put(&mut self.pending, e, payload);
         Ok(())
     }
 

@@ -1,6 +1,7 @@
 //! The plain heap.
 use super::Mark;
-use crate::{HeapReader, HeapWriter, PlainHeap, laws, transactions};
+use crate::laws::{begin_stands, commit_stands, reader_stands, rollback_stands, stage_stands};
+use crate::{HeapReader, HeapWriter, PlainHeap};
 use std::sync::Arc;
 use std::test::Fail;
 
@@ -20,5 +21,23 @@ fn the_plain_heap_opens_stages_and_gives_up(rt: HostRuntime) -> Result<(), Fail>
     heap.rollback();
     assert_eq!(rt; heap.latest(1)?.number, 0);
     assert!(rt; !heap.is_open());
+    Ok(())
+}
+
+#[test]
+fn a_plain_heap_commits(rt: HostRuntime) -> Result<(), Fail> {
+    let alloc = rt.alloc();
+    let root = Arc::new(alloc, Mark { number: 1 })?;
+    let absent = Arc::new(alloc, Mark { number: 0 })?;
+    let mut heap = PlainHeap::open(alloc, 2, root, absent)?;
+    begin_stands(&mut heap);
+    stage_stands(&mut heap, 1, Arc::new(alloc, Mark { number: 7 })?)?;
+    stage_stands(&mut heap, 1, Arc::new(alloc, Mark { number: 8 })?)?;
+    assert_eq!(rt; commit_stands(&mut heap), 1);
+    begin_stands(&mut heap);
+    rollback_stands(&mut heap);
+    let mut reader = reader_stands(&heap);
+    assert_eq!(rt; reader.version(), 1);
+    assert_eq!(rt; reader.read(1)?.number, 8);
     Ok(())
 }

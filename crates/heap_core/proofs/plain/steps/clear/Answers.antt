@@ -1,6 +1,6 @@
 use Rattle.std.proofs.Common.{ℕ, ◌<◌, ◌≤◌, arith, ap, ◌∙◌, sym, None, List, length, length-set, get_or}
 use Rattle.std.proofs.lemmas.Option.{slice_get-get_or}
-use Rattle.heap_core.specs.Plain.{names}
+use Rattle.heap_core.specs.Meaning.{names}
 use Rattle.heap_core.proofs.Lists.{drop_past}
 use Rattle.heap_core.proofs.Overlays.{listed_rest, none_listed}
 use Rattle.heap_core.proofs.plain.steps.clear.Goals as goal

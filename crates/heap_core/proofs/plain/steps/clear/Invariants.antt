@@ -1,5 +1,6 @@
 use Rattle.std.proofs.Common.{◌≡◌, ℕ, length, drop, slice_get, Some, true}
-use Rattle.heap_core.specs.Plain.{staged_of, names}
+use Rattle.heap_core.specs.Meaning.{names}
+use Rattle.heap_core.specs.Plain.{staged_of}
 use Rattle.heap_core.proofs.plain.steps.clear.Given as goal
 
 abbrev pub invariant-loop-e : goal.invariant-loop-e

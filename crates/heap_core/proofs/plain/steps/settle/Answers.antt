@@ -1,7 +1,7 @@
 use Rattle.std.proofs.Common.{◌≡◌, ℕ, ◌<◌, ◌≤◌, arith, sym, ap, ◌∙◌, Some, None, List, length, slice_get, set, get_or, length-set}
 use Rattle.std.proofs.lemmas.Option.{slice_get-get_or}
-use Rattle.heap_core.specs.Meaning.{stamped}
-use Rattle.heap_core.specs.Plain.{overlaid, staged_of, names}
+use Rattle.heap_core.specs.Meaning.{stamped, names}
+use Rattle.heap_core.specs.Plain.{overlaid, staged_of}
 use Rattle.heap_core.proofs.Lists.{get_index, set_same, drop_past}
 use Rattle.heap_core.proofs.Overlays.{listed_rest, none_listed, overlaid-moved, stamped-moved, overlaid-none, stamped-none}
 use Rattle.heap_core.proofs.plain.steps.settle.Goals as goal

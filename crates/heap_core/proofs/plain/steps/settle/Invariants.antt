@@ -1,6 +1,6 @@
 use Rattle.std.proofs.Common.{◌≡◌, ℕ, length, drop, slice_get, Some, true}
-use Rattle.heap_core.specs.Meaning.{stamped}
-use Rattle.heap_core.specs.Plain.{overlaid, staged_of, names}
+use Rattle.heap_core.specs.Meaning.{stamped, names}
+use Rattle.heap_core.specs.Plain.{overlaid, staged_of}
 use Rattle.heap_core.proofs.plain.steps.settle.Given as goal
 
 abbrev pub invariant-loop-e : goal.invariant-loop-e

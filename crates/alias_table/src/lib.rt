@@ -1,0 +1,12 @@
+//! The aliases of modules, by module and name.
+#![tactic(auto)]
+
+mod index;
+mod opening;
+mod table;
+
+pub use opening::{has_one_list_of_members, members};
+pub use table::AliasTable;
+
+#[cfg(test)]
+mod tests;

@@ -1,0 +1,5 @@
+pub mod Commits
+pub mod Editing
+pub mod Finishing
+pub mod States
+pub mod Takes

@@ -1,0 +1,7 @@
+pub mod Commit
+pub mod Place
+pub mod Recheck
+pub mod Staged
+pub mod Taking
+pub mod Waiting
+pub mod Wanted

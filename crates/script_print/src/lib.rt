@@ -1,0 +1,11 @@
+//! The lines that a run prints.
+#![tactic(auto)]
+
+mod errors;
+mod lines;
+
+pub use errors::{push_error, status_line};
+pub use lines::{bad_line, done_line, fault_line, files_line, long_line, many_lines, refused_line};
+
+#[cfg(test)]
+mod tests;

@@ -1,0 +1,43 @@
+use crate::{
+    bad_line, done_line, fault_line, files_line, long_line, many_lines, push_error, refused_line,
+    status_line,
+};
+use flow_base::{Path, Span, Text};
+use flow_model::{Code, Fault};
+use std::test::Fail;
+
+#[test]
+fn lines_are_printed(rt: HostRuntime) -> Result<(), Fail> {
+    let alloc = rt.alloc();
+    let path = Path::read(alloc, b"a.js")?;
+    assert_eq!(rt;
+        done_line(alloc, 2, 1, 1, 0)?.as_str(),
+        "recheck 2: 1 parsed, 1 checked, 0 errors\n"
+    );
+    assert_eq!(rt;
+        fault_line(alloc, &path, 1)?.as_str(),
+        "recheck cannot read a.js, still 1\n"
+    );
+    assert_eq!(rt; refused_line(alloc, 3)?.as_str(), "too many modules 3\n");
+    assert_eq!(rt; bad_line(alloc, 3)?.as_str(), "bad line 3\n");
+    assert_eq!(rt; files_line(alloc, 1025)?.as_str(), "limit files 1025\n");
+    assert_eq!(rt; status_line(alloc, 1, 1)?.as_str(), "1 status: 1 errors\n");
+    assert_eq!(rt; long_line(), b"limit line 4194305\n".as_slice());
+    assert_eq!(rt; many_lines(), b"limit lines 1048577\n".as_slice());
+    Ok(())
+}
+
+#[test]
+fn an_error_is_printed_with_its_place(rt: HostRuntime) -> Result<(), Fail> {
+    let alloc = rt.alloc();
+    let path = Path::read(alloc, b"a.js")?;
+    let fault = Fault {
+        span: Span { start: 0, end: 0 },
+        code: Code::NotBuilt,
+        details: Text::from_bytes(alloc, b"")?,
+    };
+    let mut out = Vec::new(alloc);
+    push_error(alloc, &mut out, &path, b"let x = 1;", &fault)?;
+    assert_eq!(rt; out.as_slice(), b"  a.js:1:1 not-built\n".as_slice());
+    Ok(())
+}

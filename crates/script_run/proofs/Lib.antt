@@ -1,0 +1,7 @@
+pub mod Ascii
+pub mod Commands
+pub mod FaultPlaces
+pub mod Fronts
+pub mod Sessions
+pub mod Walks
+pub mod Writing

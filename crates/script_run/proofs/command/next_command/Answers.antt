@@ -1,0 +1,18 @@
+use Rattle.std.proofs.Common.{arith, sym, ap, subst}
+use Rattle.std.specs.Prelude.{Err}
+use Rattle.script_line.specs.Says.{Says}
+use Rattle.script_run.specs.Transcript.{end_line, bad, many}
+use Rattle.script_run.proofs.command.next_command.Goals as goal
+
+pub returns-then-taken-ge-MOST_LINES-clause-means : goal.returns-then-taken-ge-MOST_LINES-clause-means
+returns-then-taken-ge-MOST_LINES-clause-means c = λ rest. many c.args.line.now rest (omega arith)
+
+pub returns-in-Ok-End-clause-means : goal.returns-in-Ok-End-clause-means
+returns-in-Ok-End-clause-means c = λ rest.
+    end_line c.args.line.now rest (omega arith) c.requires
+    (subst (λ l. Says c.args.line.now l) c.in-Ok-End.field-0-is (subst (λ b. Says b c.in-Ok-End.field-0) c.as_bytes.ensures c.in-Ok-End.ensures.says))
+
+pub returns-in-Err-BadLine-clause-means : goal.returns-in-Err-BadLine-clause-means
+returns-in-Err-BadLine-clause-means c = λ rest.
+    bad c.args.line.now rest (omega arith) c.requires
+    (λ l says. c.in-Err-BadLine.ensures.bad (ap Err c.in-Err-BadLine.field-0-is) l (subst (λ b. Says b l) (sym c.as_bytes.ensures) says))

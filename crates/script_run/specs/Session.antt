@@ -1,0 +1,91 @@
+-- What a heap of modules and the edits that wait are to the walk.
+use Rattle.std.specs.Prelude.{◌≡◌, ◌<◌, ◌⊎◌, ℕ, ◌+◌, ◌-◌, ◌^◌, ◌≤◌, min, List, [], ◌∷◌, length, slice_get, false, Some, Option}
+use Rattle.flow_base.specs.Program.{Bytes, Program}
+use Rattle.flow_model.specs.Errors.{errors1}
+use Rattle.flow_model.specs.declared.fault.Fault.{Fault}
+use Rattle.heap_core.specs.Meaning.{Meaning}
+use Rattle.flow_state.specs.State.{program_of, errors_place}
+use Rattle.flow_state.specs.declared.payload.RootRow.{RootRow}
+use Rattle.flow_state.specs.declared.payload.Payload.{Payload}
+use Rattle.flow_state.specs.declared.payload.Payload.TheVariants as payload
+use Rattle.recheck_run.specs.Waiting.{Waiting}
+use Rattle.recheck_run.specs.Recheck.{HasRoom}
+use Rattle.recheck_run.specs.declared.recheck.Outcome.{Outcome}
+use Rattle.recheck_run.specs.declared.recheck.Outcome.TheVariants as outcome
+use Rattle.source_place.specs.Place.{IsPlace}
+use Rattle.script_line.specs.declared.line.Line.{Line}
+use Rattle.script_run.specs.Transcript.{Standing, MOST_MODULES, with_edit, Rechecks, Turns}
+use Rattle.script_print.specs.Printed.{done_line, fault_line, refused_line}
+
+-- the rows of the root of a state
+abbrev pub modules_in : List Payload → List RootRow
+modules_in [] = []
+modules_in (payload.Absent ∷ state) = []
+modules_in (payload.Errs errs ∷ state) = []
+modules_in (payload.Root root ∷ state) = root.modules
+
+-- the rows of a root
+abbrev pub modules_of : Payload → List RootRow
+modules_of payload.Absent = []
+modules_of (payload.Errs errs) = []
+modules_of (payload.Root root) = root.modules
+
+-- the faults of an entity
+abbrev pub faults_of : Payload → List Fault
+faults_of payload.Absent = []
+faults_of (payload.Errs errs) = errs.faults
+faults_of (payload.Root root) = []
+
+-- the program of these modules
+abbrev pub program_with : List RootRow → Program
+program_with modules = program_of (record { modules = modules })
+
+-- the program that the root of a state names
+abbrev pub program_in : List Payload → Program
+program_in state = program_with (modules_in state)
+
+abbrev pub standing_of : Meaning Payload → Waiting → Standing
+standing_of m waiting = record { program = program_in m.committed; version = m.version; rows = waiting.rows }
+
+-- no transaction is open, and there is room for as many modules as there may be
+pub record IsReady (m : Meaning Payload) (waiting : Waiting) : Type 0 where
+  pub closed : m.is_open ≡ false
+  pub room : HasRoom m MOST_MODULES
+  pub capacity : waiting.capacity ≡ MOST_MODULES
+
+-- the errors of this module stand in the state, at a place that has a number
+pub record HasErrors (state : List Payload) (m : RootRow) : Type 0 where
+  pub numbered : errors_place m.row < 2 ^ 32
+  pub stands : slice_get state (errors_place m.row) ≡ Some (payload.Errs (record { faults = errors1 m.text }))
+
+-- the fault has a line and a column in this text
+abbrev pub IsPlaced : Bytes → Fault → Type 0
+IsPlaced text fault = fault.span.end < 2 ^ 32 → IsPlace text fault.span.start
+
+-- so many faults were counted at least, where the count did not come to its end
+abbrev pub RoseBy : ℕ → ℕ → ℕ → Type 0
+RoseBy faults before now = min (before + faults) (2 ^ 64 - 1) ≤ now
+
+-- a recheck, what it prints, and how many faults of the folder were counted in it
+pub record HasRechecked (told : Option Program) (s s' : Standing) (printed : Bytes) (before now : ℕ) : Type 0 where
+  pub faults : ℕ
+  pub rechecks : Rechecks told s s' faults printed
+  pub counted : RoseBy faults before now
+
+-- the same of a line of the script
+pub record HasTurned (told : Option Program) (line : Line) (s s' : Standing) (printed : Bytes) (before now : ℕ) : Type 0 where
+  pub faults : ℕ
+  pub turns : Turns told line s s' faults printed
+  pub counted : RoseBy faults before now
+
+-- an edit joined the others, or was refused and changed nothing; what this prints
+abbrev pub HasEdited : Bytes → Bytes → Standing → Standing → Bytes → Type 0
+HasEdited path text s s' printed =
+    ((length (with_edit s path text).rows ≤ MOST_MODULES) × (s' ≡ with_edit s path text) × (printed ≡ []))
+    ⊎ ((MOST_MODULES < length (with_edit s path text).rows) × (s' ≡ s) × (printed ≡ refused_line (length (with_edit s path text).rows)))
+
+-- what a recheck prints, after which the version is this one
+abbrev pub Prints : Outcome → ℕ → Bytes → Type 0
+Prints (outcome.Done version modules errors) now line = line ≡ done_line version modules modules errors
+Prints (outcome.ReadFault path) now line = line ≡ fault_line path now
+Prints outcome.NoMemory now line = ⊥

@@ -1,0 +1,107 @@
+-- What a run with a script prints: the load, and then the walk over the script's lines.
+use Rattle.std.specs.Prelude.{◌≡◌, ◌<◌, ◌≤◌, ℕ, ◌+◌, List, [], ◌∷◌, ◌++◌, length, Option}
+use Rattle.flow_base.specs.Program.{Bytes, Program, paths_of, IsRising}
+use Rattle.flow_base.specs.Outside.{WhereTold}
+use Rattle.flow_model.specs.Errors.{full1, error_count}
+use Rattle.recheck_run.specs.Wanted.{Rows, edited, unedited, to_read, MayBecome, IsTouched}
+use Rattle.recheck_run.specs.declared.edits.Wanted.TheVariants as take
+use Rattle.script_line.specs.declared.line.Line.{Line}
+use Rattle.script_line.specs.declared.line.Line.TheVariants as line
+use Rattle.script_line.specs.declared.line.Ask.TheVariants as ask
+use Rattle.script_line.specs.Says.{Says}
+use Rattle.script_reader.specs.Lines.{LINE_LIMIT}
+use Rattle.script_print.specs.Printed.{done_line, fault_line, refused_line, bad_line, long_line, many_lines, status_answer}
+use Rattle.script_run.specs.declared.ending.Ending.{Ending}
+use Rattle.script_run.specs.declared.ending.Ending.TheVariants as ending
+
+-- where the walk stands: the committed program, its version, and the edited program that the next recheck takes
+pub record Standing : Type 0 where
+  pub program : Program
+  pub version : ℕ
+  pub rows : Rows
+
+-- the most modules, and the most lines of a script
+abbrev pub MOST_MODULES : ℕ
+MOST_MODULES = 1024
+
+abbrev pub MOST_LINES : ℕ
+MOST_LINES = 1048576
+
+-- paths that a folder may list: they rise, and where the folder tells its program they are its paths
+pub record MayList (told : Option Program) (listed : List Bytes) : Type 0 where
+  pub rising : IsRising listed
+  pub same : WhereTold told (λ program. listed ≡ paths_of program)
+
+-- the empty program, and a folder of which each listed path is to be read
+abbrev pub start : List Bytes → Standing
+start listed = record { program = []; version = 0; rows = to_read listed }
+
+-- A recheck from one standing to the next, with the number of read faults and what it prints: it commits the edited program, or it
+-- can't read a path for which the folder is wanted, and nothing changes.
+pub data Rechecks (told : Option Program) : Standing → Standing → ℕ → Bytes → Type 0 where
+  done : (s : Standing) (program : Program) → MayBecome told s.rows program →
+      Rechecks told s (record { program = program; version = s.version + 1; rows = unedited program }) 0
+      (done_line (s.version + 1) (length program) (length program) (error_count (full1 program)))
+  cannot_read : (s : Standing) (path : Bytes) → IsTouched s.rows path → Rechecks told s s 1 (fault_line path s.version)
+
+abbrev pub with_edit : Standing → Bytes → Bytes → Standing
+with_edit s path text = record { program = s.program; version = s.version; rows = edited s.rows path (take.Text text) }
+
+-- what one line of the script does and prints
+pub data Turns (told : Option Program) : Line → Standing → Standing → ℕ → Bytes → Type 0 where
+  blank : (s : Standing) → Turns told line.Blank s s 0 []
+  edits : (s : Standing) (path text : Bytes) → length (with_edit s path text).rows ≤ MOST_MODULES → Turns told (line.Edit path text) s (with_edit s path text) 0 []
+  refuses : (s : Standing) (path text : Bytes) → MOST_MODULES < length (with_edit s path text).rows →
+      Turns told (line.Edit path text) s s 0 (refused_line (length (with_edit s path text).rows))
+  rechecks : (s s' : Standing) (faults : ℕ) (printed : Bytes) → Rechecks told s s' faults printed → Turns told line.Recheck s s' faults printed
+  answers : (s : Standing) → Turns told (line.Ask ask.Status) s s 0 (status_answer s.version s.program)
+
+-- The load was done and these lines of the script were taken, one after the other: where the walk stands, how many read faults there
+-- were, and what was printed.
+pub data Walked (told : Option Program) (listed : List Bytes) : List Bytes → Standing → ℕ → Bytes → Type 0 where
+  loads : (s : Standing) (faults : ℕ) (printed : Bytes) → Rechecks told (start listed) s faults printed → Walked told listed [] s faults printed
+  goes : (taken : List Bytes) (s : Standing) (faults : ℕ) (printed : Bytes) (bytes : Bytes) (line : Line) (s' : Standing) (more_faults : ℕ) (more : Bytes) →
+      Walked told listed taken s faults printed → length taken < MOST_LINES → length bytes ≤ LINE_LIMIT → Says bytes line → Turns told line s s' more_faults more →
+      Walked told listed (taken ++ bytes ∷ []) s' (faults + more_faults) (printed ++ more)
+
+-- After so many lines, with these to come, a walk ends like this: no line is left, or the next one says so; the next one is no command,
+-- or is too long; or as many as there may be were taken, and one is left.
+pub data Ends (taken : ℕ) : List Bytes → Ending → Type 0 where
+  no_line : Ends taken [] ending.Finished
+  end_line : (bytes : Bytes) (rest : List Bytes) → taken < MOST_LINES → length bytes ≤ LINE_LIMIT → Says bytes line.End → Ends taken (bytes ∷ rest) ending.Finished
+  bad : (bytes : Bytes) (rest : List Bytes) → taken < MOST_LINES → length bytes ≤ LINE_LIMIT → ((l : Line) → Says bytes l → ⊥) → Ends taken (bytes ∷ rest) ending.BadLine
+  long : (bytes : Bytes) (rest : List Bytes) → taken < MOST_LINES → LINE_LIMIT < length bytes → Ends taken (bytes ∷ rest) ending.LongLine
+  many : (bytes : Bytes) (rest : List Bytes) → MOST_LINES ≤ taken → Ends taken (bytes ∷ rest) ending.ManyLines
+
+-- what such an end prints, by the number of the line that was not taken
+abbrev pub last_line : ℕ → Ending → Bytes
+last_line number ending.Finished = []
+last_line number ending.BadLine = bad_line number
+last_line number ending.LongLine = long_line
+last_line number ending.ManyLines = many_lines
+
+-- a run over a folder that lists these paths, and a script: where it tells its lines, these are they
+pub record IsRun (told : Option Program) (listed : List Bytes) (script : Option (List Bytes)) (faults : ℕ) (printed : Bytes) (how : Ending) (program : Program) : Type 0 where
+  pub taken : List Bytes
+  pub rest : List Bytes
+  pub lines : WhereTold script (λ its. its ≡ taken ++ rest)
+  pub version : ℕ
+  pub rows : Rows
+  pub before : Bytes
+  pub walk : Walked told listed taken (record { program = program; version = version; rows = rows }) faults before
+  pub ends : Ends (length taken) rest how
+  pub prints : printed ≡ before ++ last_line (length taken + 1) how
+
+-- the same up to a line: the load was done, and some lines were taken
+pub record IsRunSoFar (told : Option Program) (listed : List Bytes) (script : Option (List Bytes)) (faults : ℕ) (printed : Bytes) : Type 0 where
+  pub taken : List Bytes
+  pub rest : List Bytes
+  pub lines : WhereTold script (λ its. its ≡ taken ++ rest)
+  pub standing : Standing
+  pub walk : Walked told listed taken standing faults printed
+
+-- what a run has printed at some moment between its lines, or at its end
+pub data PrintsBetweenLines (told : Option Program) (listed : List Bytes) (script : Option (List Bytes)) : Bytes → Type 0 where
+  nothing : PrintsBetweenLines told listed script []
+  so_far : (faults : ℕ) (printed : Bytes) → IsRunSoFar told listed script faults printed → PrintsBetweenLines told listed script printed
+  whole : (faults : ℕ) (printed : Bytes) (how : Ending) (program : Program) → IsRun told listed script faults printed how program → PrintsBetweenLines told listed script printed

@@ -1,0 +1,72 @@
+ghost use Rattle.std.specs.Prelude.{◌≡◌, ◌<◌, ◌≤◌, ◌∷◌, List, length, IfOk, IfErr, IsErrOf};
+ghost use Rattle.flow_base.specs.Program.{Bytes};
+ghost use Rattle.flow_base.specs.Causes.{HasCause};
+ghost use Rattle.script_reader.specs.Lines.{lines_left, LINE_LIMIT};
+ghost use Rattle.script_run.specs.Transcript.{Ends};
+ghost use Rattle.script_run.specs.Steps.{Means, Reads};
+
+use crate::{Ending, RunFault};
+use flow_base::{Source, Text};
+use script_line::{Line, LineFault, read_line};
+use script_reader::{LineReader, ReadFault};
+use std::alloc::Global;
+
+// The most lines of a script.
+const MOST_LINES: u32 = 1_048_576;
+
+/// What is to be done next.
+#[derive(Debug, Drop)]
+pub enum Command {
+    /// The line is answered, and the walk goes on.
+    Takes(Line),
+    /// The walk ends.
+    Ends(Ending),
+}
+
+/// Reads the next line of a script of which so many were taken.
+pub fn read_command<S: Source>(
+    alloc: Global,
+    taken: u32,
+    reader: &mut LineReader,
+    script: &mut S,
+) -> Result<Command, RunFault>
+    ensures reads { IfOk result (λ command. Reads command taken (lines_left reader.old (S.left script.old)) (lines_left reader.new (S.left script.new))) }
+    ensures cause { HasCause RunFault.ScriptFault (S.faults script.old) (S.faults script.new) result }
+    ensures no_sink { IsErrOf result RunFault.SinkFault → ⊥ }
+{
+    match reader.next(script) {
+        Ok(None) => Ok(Command::Ends(Ending::Finished)),
+        Ok(Some(line)) => next_command(alloc, taken, &line),
+        Err(ReadFault::TooLong) => Ok(Command::Ends(past_limit(taken))),
+        Err(ReadFault::Failed) => Err(RunFault::ScriptFault),
+        Err(ReadFault::NoMemory) => Err(RunFault::NoMemory),
+    }
+}
+
+// What is to be done at a line that is no longer than a line may be.
+fn next_command(alloc: Global, taken: u32, line: &Text) -> Result<Command, RunFault>
+    requires { length line.now ≤ LINE_LIMIT }
+    ensures means { IfOk result (λ command. Means command taken line.now) }
+    ensures memory { IfErr result (λ fault. fault ≡ RunFault.NoMemory) }
+{
+    if taken >= MOST_LINES {
+        return Ok(Command::Ends(Ending::ManyLines));
+    }
+    match read_line(alloc, line.as_bytes()) {
+        Ok(Line::End) => Ok(Command::Ends(Ending::Finished)),
+        Ok(line) => Ok(Command::Takes(line)),
+        Err(LineFault::BadLine) => Ok(Command::Ends(Ending::BadLine)),
+        Err(LineFault::NoMemory) => Err(RunFault::NoMemory),
+    }
+}
+
+// How a walk ends at a line that is longer than a line may be.
+fn past_limit(taken: u32) -> Ending
+    ensures { (bytes : Bytes) (rest : List Bytes) → LINE_LIMIT < length bytes → Ends taken (bytes ∷ rest) result }
+{
+    if taken >= MOST_LINES {
+        Ending::ManyLines
+    } else {
+        Ending::LongLine
+    }
+}

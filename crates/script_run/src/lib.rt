@@ -1,0 +1,15 @@
+//! A run with a script: the load, and then edits, rechecks and questions, one line after the other.
+#![tactic(auto)]
+
+mod command;
+mod ending;
+mod errors;
+mod places;
+mod session;
+mod sinks;
+mod walk;
+
+pub use ending::{Ended, Ending, RunFault};
+pub use places::each_fault_has_a_place;
+pub use sinks::write_all;
+pub use walk::run;

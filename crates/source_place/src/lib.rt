@@ -1,0 +1,73 @@
+//! Where a byte of a source stands for people: its line and its column.
+#![tactic(auto)]
+
+ghost use Rattle.std.specs.Prelude.{◌≡◌, ◌≤◌, ◌<◌, ◌^◌, ◌-◌, length, count_by, not};
+ghost use Rattle.std.specs.List.{suffix_len};
+ghost use Rattle.source_place.specs.Place.{is_feed, begins_char, line_at, line_front, column_at, IsPlace};
+
+/// Line and column of the byte place `at`, both from 1. A line ends after LF alone, and columns count
+/// characters. The place is 0, or the text is UTF-8 and `at` is at most its length and below
+/// 2^32 - 1. It takes no memory.
+pub fn place(text: &[u8], at: u32) -> (u32, u32)
+    requires { IsPlace text.now at }
+    ensures line { result.0 ≡ line_at text.now at }
+    ensures column { result.1 ≡ column_at text.now at }
+{
+    let front = &text[..at as usize];
+    let line = feeds(front);
+    let column = characters(line_start(front));
+    (line as u32 + 1, column as u32 + 1)
+}
+
+fn feeds(bytes: &[u8]) -> usize
+    ensures count { result ≡ count_by is_feed bytes.now }
+    ensures within { result ≤ length bytes.now }
+{
+    bytes.iter().filter(|b| **b == b'\n').count()
+}
+
+fn characters(bytes: &[u8]) -> usize
+    ensures count { result ≡ count_by begins_char bytes.now }
+    ensures within { result ≤ length bytes.now }
+{
+    bytes.iter().filter(|b| !(128 <= **b && **b < 192)).count()
+}
+
+// How many bytes stand behind the last LF, or how many there are where there is none.
+fn line_len(front: &[u8]) -> usize
+    ensures count { result ≡ suffix_len (λ b. not (is_feed b)) front.now }
+    ensures within { result ≤ length front.now }
+{
+    front.iter().rev().take_while(|b| **b != b'\n').count()
+}
+
+// What stands behind the last LF, or all where there is none.
+#[tactic(auto, using(std::proofs::lemmas::Grind::common_steps))]
+fn line_start(front: &[u8]) -> &[u8]
+    ensures front { result.now ≡ line_front front.now }
+    ensures within { length result.now ≤ length front.now }
+{
+    &front[front.len() - line_len(front)..]
+}
+
+#[cfg(test)]
+mod tests {
+    use super::place;
+
+    #[test]
+    fn lines_and_columns_are_counted_from_one(rt: HostRuntime) {
+        let cases: [(&[u8], u32, (u32, u32)); 6] = [
+            (b"a\nbc", 3, (2, 2)),
+            (b"a\nbc", 2, (2, 1)),
+            (b"a\nbc", 4, (2, 3)),
+            (b"\xff", 0, (1, 1)),
+            ("\u{e9}\u{20ac}x".as_bytes(), 5, (1, 3)),
+            (b"a\rb", 2, (1, 3)),
+        ];
+        for (text, at, wanted) in cases {
+            if at == 0 || std::str::from_utf8(text).is_ok() && at as usize <= text.len() && at < 9 {
+                assert_eq!(rt; place(text, at), wanted);
+            }
+        }
+    }
+}

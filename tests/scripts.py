@@ -1,0 +1,215 @@
+#!/usr/bin/env python3
+"""Runs ./flowd with scripts over real folders, pipes and files, and compares each byte that it writes.
+
+    tests/scripts.py [WORD]       (only the cases whose name has this word)
+
+The last line is 'N passed, M failed'.
+"""
+
+import json
+import os
+import select
+import subprocess
+import sys
+import time
+
+sys.path.insert(0, os.path.dirname(os.path.abspath(__file__)))
+import real_folders
+from real_folders import BAD, CLEAN, ERRORS, FLOWD, GOOD, MOST_BYTES, SCRIPT_FAULT, SINK_FAULT, expect, recheck, run, write
+
+BAD_LINE, LIMIT = 65, 69
+LONGEST_LINE = 4_194_304
+CASES = real_folders.CASES = []
+
+
+def case(test):
+    CASES.append(test)
+    return test
+
+
+def line(**parts):
+    return json.dumps(parts).encode() + b"\n"
+
+
+RECHECK, STATUS, END = line(do="recheck"), line(do="ask", ask={"what": "status"}), line(do="end")
+
+
+def edit(path, text):
+    return line(do="edit", path=path, text=text.decode())
+
+
+def done(version, modules, errors=0):
+    return b"recheck %d: %d parsed, %d checked, %d errors\n" % (version, modules, modules, errors)
+
+
+def expect_script(root, script, status, text):
+    expect(run(root, stdin=None, input=script), status, text)
+
+
+@case
+def the_errors_of_a_module_are_told(root):
+    write(f"{root}/a.js", BAD.rstrip())
+    told = b'1 status: 1 errors\n  a.js:1:26 incompatible-type "a" number\n'
+    expect_script(root, STATUS, ERRORS, recheck(1, 1) + told)
+
+
+@case
+def an_edit_is_checked_and_told(root):
+    script = edit("a.js", GOOD) + STATUS + RECHECK + STATUS
+    expect_script(root, script, CLEAN, recheck(0) + b"1 status: 0 errors\n" + done(2, 1) + b"2 status: 0 errors\n")
+
+
+@case
+def errors_stand_in_the_order_of_paths(root):
+    write(f"{root}/b.js", b"let x = 1;")
+    write(f"{root}/a/c.js", GOOD + b'export const y: boolean = "\xc3\xa9";\n')
+    script = edit("a.js", b"\xc3\xa9") + RECHECK + STATUS + END + b"never read"
+    told = b"2 status: 3 errors\n  a.js:1:1 not-built\n  a/c.js:1:1 not-built\n  b.js:1:1 not-built\n"
+    expect_script(root, script, ERRORS, recheck(2, 2) + done(2, 3, 3) + told)
+
+
+@case
+def a_line_of_an_error_is_counted(root):
+    script = edit("a.js", GOOD + b'export const y: string = true;\n') + RECHECK + STATUS
+    told = b"2 status: 1 errors\n  a.js:2:26 incompatible-type true string\n"
+    expect_script(root, script, ERRORS, recheck(0) + done(2, 1, 1) + told)
+
+
+@case
+def blank_lines_are_skipped_and_counted(root):
+    expect_script(root, b"\n \t\r\n" + RECHECK + b"no line\n" + RECHECK, BAD_LINE, recheck(0) + done(2, 0) + b"bad line 4\n")
+
+
+@case
+def a_bad_line_ends_the_script(root):
+    script = edit("a.js", GOOD) + RECHECK + b'{"do":"rechek"}\n' + RECHECK
+    expect_script(root, script, BAD_LINE, recheck(0) + done(2, 1) + b"bad line 3\n")
+
+
+@case
+def a_last_line_needs_no_end(root):
+    expect_script(root, RECHECK + b'{"do":"recheck"}', CLEAN, recheck(0) + done(2, 0) + done(3, 0))
+
+
+@case
+def the_longest_line(root):
+    fill = b" " * (LONGEST_LINE - len(RECHECK) + 1)
+    expect_script(root, fill + RECHECK, CLEAN, recheck(0) + done(2, 0))
+    expect_script(root, b" " + fill + RECHECK, LIMIT, recheck(0) + b"limit line 4194305\n")
+
+
+@case
+def the_most_lines(root):
+    most = 1_048_576
+    expect_script(root, b"\n" * most, CLEAN, recheck(0))
+    expect_script(root, b"\n" * (most + 1), LIMIT, recheck(0) + b"limit lines 1048577\n")
+
+
+@case
+def the_most_files(root):
+    for number in range(1024):
+        write(f"{root}/d{number % 37}/m{number}.js", b"")
+    script = edit("z.js", b"") + edit("d0/m0.js", GOOD) + RECHECK
+    expect_script(root, script, CLEAN, recheck(1024) + b"too many modules 1025\n" + done(2, 1024))
+    write(f"{root}/z.js")
+    expect_script(root, RECHECK, LIMIT, b"limit files 1025\n")
+
+
+@case
+def a_read_fault_stays_for_the_next_recheck(root):
+    write(f"{root}/a.js")
+    write(f"{root}/b.js", b"")
+    os.truncate(f"{root}/b.js", MOST_BYTES + 1)
+    fault = b"recheck cannot read b.js, still 0\n"
+    expect_script(root, STATUS + RECHECK, CLEAN, fault + b"0 status: 0 errors\n" + fault)
+    talk = Talk(root)
+    talk.expect(fault)
+    os.truncate(f"{root}/b.js", 0)
+    talk.say(RECHECK)
+    talk.expect(done(1, 2))
+    talk.end(CLEAN)
+
+
+class Talk:
+    """A client that writes a line and reads the answer, as an editor does."""
+
+    def __init__(self, root):
+        self.flowd = subprocess.Popen([FLOWD, root], stdin=subprocess.PIPE, stdout=subprocess.PIPE)
+
+    def say(self, text):
+        self.flowd.stdin.write(text)
+        self.flowd.stdin.flush()
+
+    def expect(self, text):
+        got, until = b"", time.monotonic() + 60
+        while len(got) < len(text):
+            if not select.select([self.flowd.stdout], [], [], max(0, until - time.monotonic()))[0]:
+                raise AssertionError(f"it printed {got} in a minute, and not {text}")
+            more = os.read(self.flowd.stdout.fileno(), 65_536)
+            if not more:
+                break
+            got += more
+        if got != text:
+            raise AssertionError(f"it printed {got}, and not {text}")
+
+    def end(self, status):
+        self.flowd.stdin.close()
+        if (self.flowd.stdout.read(), self.flowd.wait(60)) != (b"", status):
+            raise AssertionError(f"it ended with {self.flowd.returncode}, and not {status}")
+
+
+@case
+def an_editor_writes_a_line_and_reads_the_answer(root):
+    talk = Talk(root)
+    talk.expect(recheck(0))
+    for version in range(2, 40):
+        talk.say(edit("a.js", BAD if version % 2 else GOOD))
+        talk.say(RECHECK)
+        talk.expect(done(version, 1, version % 2))
+        talk.say(STATUS)
+        shown = b'  a.js:1:26 incompatible-type "a" number\n' if version % 2 else b""
+        talk.expect(b"%d status: %d errors\n" % (version, version % 2) + shown)
+    talk.end(ERRORS)
+
+
+@case
+def a_script_one_byte_at_a_time(root):
+    talk = Talk(root)
+    talk.expect(recheck(0))
+    for byte in edit("a.js", GOOD) + RECHECK:
+        talk.say(bytes([byte]))
+    talk.expect(done(2, 1))
+    talk.end(CLEAN)
+
+
+@case
+def a_script_from_a_file(root):
+    write(f"{root}/d/a.js")
+    write(f"{root}/script", edit("b.js", GOOD) + RECHECK)
+    with open(f"{root}/script", "rb") as script:
+        expect(run(f"{root}/d", stdin=script), CLEAN, recheck(1) + done(2, 2))
+
+
+@case
+def a_script_that_cannot_be_read(root):
+    write(f"{root}/a.js")
+    folder = os.open(root, os.O_RDONLY)
+    try:
+        expect(run(root, stdin=folder), SCRIPT_FAULT, recheck(1))
+    finally:
+        os.close(folder)
+
+
+@case
+def an_output_that_breaks_off(root):
+    talk = Talk(root)
+    talk.expect(recheck(0))
+    talk.flowd.stdout.close()
+    talk.say(RECHECK)
+    if talk.flowd.wait(60) != SINK_FAULT:
+        raise AssertionError(f"it ended with {talk.flowd.returncode}")
+    talk.flowd.stdin.close()
+
+
+if __name__ == "__main__":
+    sys.exit(real_folders.main())
