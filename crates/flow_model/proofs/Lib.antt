@@ -1,6 +1,5 @@
 pub mod DistinctNames
 pub mod LineReading
 pub mod Loops
-pub mod Reserved
 pub mod SourceLines
 pub mod SourceReading

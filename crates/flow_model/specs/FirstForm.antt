@@ -3,6 +3,7 @@ use Rattle.std.specs.Prelude.{◌≡◌, ℕ, ◌==◌, ◌&&◌, ◌||◌, ◌�
 use Rattle.std.specs.List.{list_all, list_any, AllByRecursion}
 use Rattle.std.specs.Cmp.Lexicographic.{pointwise}
 use Rattle.flow_values.specs.Path.{Bytes}
+use Rattle.js_token.specs.Words.{is_reserved}
 use Rattle.flow_model.specs.declared.kind.Kind.{Kind}
 use Rattle.flow_model.specs.declared.kind.Kind.TheVariants.{Number, Str, Boolean}
 
@@ -31,43 +32,10 @@ is_plain b = nat_le 32 b && nat_le b 126 && not (b == 34) && not (b == 92)
 abbrev pub is_among : Bytes → List Bytes → Bool
 is_among name words = list_any (λ word. same_bytes word name) words
 
--- the reserved words, by their lengths
-unfoldable pub RESERVED_2 : List Bytes
-RESERVED_2 = codes "do" ∷ codes "if" ∷ codes "in" ∷ []
-
-unfoldable pub RESERVED_3 : List Bytes
-RESERVED_3 = codes "for" ∷ codes "let" ∷ codes "new" ∷ codes "try" ∷ codes "var" ∷ []
-
-unfoldable pub RESERVED_4 : List Bytes
-RESERVED_4 = codes "case" ∷ codes "else" ∷ codes "enum" ∷ codes "null" ∷ codes "this" ∷ codes "true" ∷ codes "void" ∷ codes "with" ∷ []
-
-unfoldable pub RESERVED_5 : List Bytes
-RESERVED_5 =
-    codes "await" ∷ codes "break" ∷ codes "catch" ∷ codes "class" ∷ codes "const" ∷ codes "false" ∷ codes "super" ∷ codes "throw" ∷ codes "while" ∷ codes "yield" ∷ []
-
-unfoldable pub RESERVED_6 : List Bytes
-RESERVED_6 =
-    codes "delete" ∷ codes "export" ∷ codes "import" ∷ codes "public" ∷ codes "return" ∷ codes "static" ∷ codes "switch" ∷ codes "typeof" ∷ []
-
-unfoldable pub RESERVED_7 : List Bytes
-RESERVED_7 = codes "default" ∷ codes "extends" ∷ codes "finally" ∷ codes "package" ∷ codes "private" ∷ []
-
-unfoldable pub RESERVED_8 : List Bytes
-RESERVED_8 = codes "continue" ∷ codes "debugger" ∷ codes "function" ∷ []
-
-unfoldable pub RESERVED_9 : List Bytes
-RESERVED_9 = codes "interface" ∷ codes "protected" ∷ []
-
-unfoldable pub RESERVED_10 : List Bytes
-RESERVED_10 = codes "implements" ∷ codes "instanceof" ∷ []
-
-unfoldable pub RESERVED : List Bytes
-RESERVED = RESERVED_2 ++ (RESERVED_3 ++ (RESERVED_4 ++ (RESERVED_5 ++ (RESERVED_6 ++ (RESERVED_7 ++ (RESERVED_8 ++ (RESERVED_9 ++ RESERVED_10)))))))
-
 -- a letter, `_` or `$`, then such and digits, and no reserved word
 abbrev pub is_name : Bytes → Bool
 is_name [] = false
-is_name (b ∷ bytes) = starts_name b && list_all goes_on_name bytes && not (is_among (b ∷ bytes) RESERVED)
+is_name (b ∷ bytes) = starts_name b && list_all goes_on_name bytes && not (is_reserved (b ∷ bytes))
 
 -- each name differs from the later ones
 abbrev pub are_distinct : List Bytes → Bool
