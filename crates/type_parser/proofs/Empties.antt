@@ -2,8 +2,8 @@
 use Rattle.std.proofs.Common.{◌≡◌, refl, cond, sym, ◌∙◌, ap, ℕ, suc, arith, List, [], ◌∷◌, Bool, true, false, not, length}
 use Rattle.std.specs.Prelude.{map, ◌==◌}
 use Rattle.std.proofs.lemmas.Bool.Decides.{nat_tests}
-use Rattle.js_grammar.specs.Types.{Ty, Params, no_param, more_param, Param, Types, no_type, more_type, has_types, Props, no_prop, more_prop, Prop, Ending, bare, comma}
-use Rattle.js_grammar.specs.Machine.{Stack, Open, Step, go, fault, closed, close_at, ending_of}
+use Rattle.js_grammar.specs.Types.{Ty, Params, no_param, more_param, Param, Types, no_type, more_type, has_types, Props, no_prop, more_prop, Prop, bare, comma}
+use Rattle.js_grammar.specs.Machine.{Stack, Open, go, fault, closed, close_at, ending_of}
 use Rattle.type_tree.specs.View.{type_view, param_view, prop_view, params_view, types_view, props_view, params_from, types_from, props_from}
 use Rattle.type_tree.specs.declared.types.TypeTree.{TypeTree}
 use Rattle.type_tree.specs.declared.types.ParamTree.{ParamTree}

@@ -1,5 +1,5 @@
 -- A step that is known for every stack, at the stack that there is.
-use Rattle.std.proofs.Common.{◌≡◌, refl, sym, ◌∙◌, ap, List, [], ◌∷◌, ◌++◌, Result, Ok, Err}
+use Rattle.std.proofs.Common.{◌≡◌, ◌∙◌, ap, List, [], ◌∷◌, ◌++◌, Result, Ok, Err}
 use Rattle.std.specs.Prelude.{IfOk}
 use Rattle.js_grammar.specs.Machine.{Stack, Step}
 use Rattle.type_parser.specs.State.{Gives, turn_view, stack_view, frame_view}

@@ -1,5 +1,5 @@
 -- The open entries are a stack.
-use Rattle.std.proofs.Common.{◌≡◌, refl, sym, ◌∙◌, ap, ℕ, ◌+◌, arith, List, [], ◌∷◌, ◌++◌, Bool, length}
+use Rattle.std.proofs.Common.{◌≡◌, refl, ◌∙◌, ◌+◌, arith, List, [], ◌∷◌, ◌++◌, Bool, length}
 use Rattle.js_grammar.specs.Nesting.{Opened}
 use Rattle.type_parser.specs.Nests.{piled, opened_view}
 

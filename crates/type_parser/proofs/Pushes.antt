@@ -2,13 +2,13 @@
 use Rattle.std.proofs.Common.{◌≡◌, refl, cond, sym, ◌∙◌, ap, ℕ, suc, ◌+◌, arith, add-one, List, [], ◌∷◌, ◌++◌, Bool, true, false, not, length}
 use Rattle.std.specs.Prelude.{map, ◌==◌}
 use Rattle.std.proofs.lemmas.Bool.Decides.{nat_tests}
-use Rattle.js_grammar.specs.Types.{Places, no_place, more_place, Ty, Pres, no_pre, more_pre, Pre, Params, no_param, more_param, Param, Types, no_type, more_type, Props, no_prop, more_prop, Prop}
+use Rattle.js_grammar.specs.Types.{Places, no_place, more_place, Pres, no_pre, more_pre, Params, no_param, more_param, Types, no_type, more_type, Props, no_prop, more_prop}
 use Rattle.type_tree.specs.View.{type_view, pre_view, param_view, prop_view, places_view, pres_view, params_view, types_view, props_view, places_from, pres_from, params_from, types_from, props_from}
 use Rattle.type_tree.specs.declared.types.TypeTree.{TypeTree}
 use Rattle.type_tree.specs.declared.types.PreTree.{PreTree}
 use Rattle.type_tree.specs.declared.types.ParamTree.{ParamTree}
 use Rattle.type_tree.specs.declared.types.PropTree.{PropTree}
-use Rattle.js_grammar.specs.Machine.{Stack, Open, can_fun, Frame as Form}
+use Rattle.js_grammar.specs.Machine.{Stack, can_fun, Frame as Form}
 use Rattle.type_parser.specs.State.{frame_view, stacked, stack_view}
 use Rattle.type_parser.specs.declared.state.Frame.{Frame}
 

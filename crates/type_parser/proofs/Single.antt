@@ -1,7 +1,7 @@
 -- Whether a group is one type.
-use Rattle.std.proofs.Common.{◌≡◌, refl, sym, ◌∙◌, ap, subst, ℕ, suc, arith, List, [], ◌∷◌, ◌++◌, Bool, true, false, not, length, Option, Some, None, rules}
+use Rattle.std.proofs.Common.{◌≡◌, refl, sym, ◌∙◌, ap, subst, List, [], ◌∷◌, ◌++◌, Bool, true, false, length, Some, None, rules}
 use Rattle.std.specs.Prelude.{◌==◌}
-use Rattle.js_grammar.specs.Types.{Ty, Params, no_param, more_param, Param, plain, named}
+use Rattle.js_grammar.specs.Types.{Params, no_param, more_param, Param, plain, named}
 use Rattle.type_tree.specs.View.{type_view, param_view, params_view}
 use Rattle.type_tree.specs.declared.types.TypeTree.{TypeTree}
 use Rattle.type_tree.specs.declared.types.NamedParam.{NamedParam, out-NamedParam}

@@ -1,15 +1,13 @@
 -- One token of the list, and then the rest.
-use Rattle.std.proofs.Common.{◌≡◌, refl, sym, ◌∙◌, ap, subst, ℕ, suc, zero, ◌+◌, ◌<◌, ◌≤◌, arith, List, [], ◌∷◌, ◌++◌, Bool, true, false, length, drop, get_or, Result, Ok, Err, drop-cons, add-one, if◌then◌else◌}
-use Rattle.std.specs.Prelude.{map}
+use Rattle.std.proofs.Common.{◌≡◌, refl, sym, ◌∙◌, ap, subst, ℕ, suc, zero, ◌+◌, ◌<◌, ◌≤◌, List, [], ◌∷◌, Bool, true, false, length, drop, get_or, Result, Ok, Err, drop-cons, add-one}
 use Rattle.js_token.specs.declared.token.Token.{Token}
 use Rattle.js_token.specs.declared.token.TokenKind.{TokenKind}
 use Rattle.js_grammar.specs.Types.{Ty}
 use Rattle.js_grammar.specs.TypeSpelling.{Tokens}
 use Rattle.js_grammar.specs.Nesting.{Nest, nest}
-use Rattle.js_grammar.specs.Machine.{Stack, Mode, Step, fault, go, done, resume, step, end_mark, Outcome, whole, faulty}
+use Rattle.js_grammar.specs.Machine.{Stack, Mode, Step, fault, go, done, resume, step, end_mark, whole, faulty}
 use Rattle.type_tree.specs.declared.types.TypeTree.{TypeTree}
 use Rattle.type_tree.specs.View.{type_view}
-use Rattle.type_parser.specs.State.{turn_view, stack_view}
 use Rattle.type_parser.specs.Within.{is_deep, run_end, run_within, read_within}
 use Rattle.type_parser.specs.Reading.{kinds, Gets, Ends, Reads}
 use Rattle.type_parser.specs.declared.read.ParseFault.{ParseFault}

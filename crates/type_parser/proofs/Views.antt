@@ -1,5 +1,5 @@
 -- A node's first number is its tree's.
-use Rattle.std.proofs.Common.{◌≡◌, refl, ℕ, rules}
+use Rattle.std.proofs.Common.{◌≡◌, rules}
 use Rattle.js_grammar.specs.Machine.{start_base}
 use Rattle.type_tree.specs.View.{base_view}
 use Rattle.type_tree.specs.declared.types.BaseTree.{BaseTree, out-BaseTree}

@@ -1,14 +1,13 @@
 -- What reading up to the limit of nesting answers, in the words of the definition.
-use Rattle.std.proofs.Common.{◌≡◌, refl, sym, ◌∙◌, ap, subst, ℕ, suc, ◌≤◌, ◌<◌, nat_lt, arith, Bool, true, false, List, [], ◌∷◌, ◌++◌, if◌then◌else◌, append-nil}
+use Rattle.std.proofs.Common.{◌≡◌, refl, sym, ◌∙◌, ap, subst, ℕ, suc, ◌≤◌, nat_lt, arith, Bool, true, false, [], ◌∷◌, ◌++◌}
 use Rattle.std.proofs.lemmas.Bool.Decides.{nat_tests}
 use Rattle.js_token.specs.declared.token.TokenKind.{TokenKind}
-use Rattle.js_grammar.specs.Types.{Ty}
 use Rattle.js_grammar.specs.TypeSpelling.{Tokens}
-use Rattle.js_grammar.specs.Nesting.{Nest, nest, no_nest, height, max_nesting, StaysWithin, WithinLimit}
+use Rattle.js_grammar.specs.Nesting.{Nest, nest, no_nest, height, max_nesting, StaysWithin}
 use Rattle.js_grammar.specs.Machine.{Stack, Mode, want, Step, fault, go, done, step, end_mark, run, resume, read_tokens, Outcome, faulty, whole}
 use Rattle.js_grammar.specs.Reads.{Finds, Faults}
-use Rattle.js_grammar.proofs.Main.{EndsWithin, Says, reads_types}
-use Rattle.type_parser.specs.Within.{is_deep, run_end, run_within, read_within}
+use Rattle.js_grammar.proofs.Main.{Says, reads_types}
+use Rattle.type_parser.specs.Within.{is_deep, run_within, read_within}
 
 -- with more tokens left
 abbrev onto : Tokens → Outcome → Outcome

@@ -2,7 +2,7 @@
 use Rattle.std.specs.Prelude.{◌≡◌, ℕ, ◌≤◌, Bool, List, length, drop, map, Result, Ok, Err}
 use Rattle.js_token.specs.declared.token.Token.{Token}
 use Rattle.js_grammar.specs.TypeSpelling.{Tokens}
-use Rattle.js_grammar.specs.Machine.{Stack, Mode, Outcome, whole, faulty}
+use Rattle.js_grammar.specs.Machine.{Stack, Mode, whole, faulty}
 use Rattle.js_grammar.specs.Reads.{Finds, Faults}
 use Rattle.type_tree.specs.declared.types.TypeTree.{TypeTree}
 use Rattle.type_tree.specs.View.{type_view}

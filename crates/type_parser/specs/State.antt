@@ -1,6 +1,6 @@
 -- What the reader's state stands for.
-use Rattle.std.specs.Prelude.{◌≡◌, ℕ, suc, Bool, true, false, List, [], ◌∷◌, Option, Some, None}
-use Rattle.js_grammar.specs.Types.{Places, no_place, more_place, Base, pre, post, more_pre, Ty, Params, no_param, more_param, Param, plain}
+use Rattle.std.specs.Prelude.{◌≡◌, ℕ, suc, Bool, false, List, [], ◌∷◌, Option, Some, None}
+use Rattle.js_grammar.specs.Types.{Places, no_place, more_place, Base, pre, post, more_pre, Ty, Params, no_param, more_param, plain}
 use Rattle.js_grammar.specs.Machine.{Open, open_at, start_base, Frame as Form, in_array, in_group, in_named, in_result, in_tuple, in_prop, Mode as Phase, want, want_pre, after_base, after_bracket, after_array, group_start, group_name, group_mark, closed, tuple_start, object_start, after_dots, after_sign, after_key, after_mark, Stack, Step, fault, go, done}
 use Rattle.type_tree.specs.declared.types.TypeTree.{TypeTree}
 use Rattle.type_tree.specs.View.{type_view, base_view, places_view, pres_view, params_view, types_view, props_view, sign_view, key_view}

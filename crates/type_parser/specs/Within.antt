@@ -1,5 +1,5 @@
 -- Reading up to the limit of nesting: the token that would pass it is read as the end of the tokens.
-use Rattle.std.specs.Prelude.{ℕ, suc, nat_lt, Bool, List, [], ◌∷◌, if◌then◌else◌}
+use Rattle.std.specs.Prelude.{ℕ, suc, nat_lt, Bool, [], ◌∷◌, if◌then◌else◌}
 use Rattle.js_grammar.specs.TypeSpelling.{Tokens}
 use Rattle.js_grammar.specs.Nesting.{Nest, nest, no_nest, height, max_nesting}
 use Rattle.js_grammar.specs.Machine.{Stack, Mode, want, step, end_mark, resume, Outcome, faulty}

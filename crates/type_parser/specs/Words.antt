@@ -1,5 +1,4 @@
 -- What a word is where a type may begin.
-use Rattle.std.specs.Prelude.{Bool, true, false}
 use Rattle.js_grammar.specs.Machine.{TypeWord as Class, type_name, null_word, void_word, truth_of, array_word, other_word}
 use Rattle.type_parser.specs.declared.words.TypeWord.{TypeWord}
 use Rattle.type_parser.specs.declared.words.TypeWord.TheVariants.{Name, Null, Void, Truth, Array, Other}

@@ -1,8 +1,8 @@
 // The forms of a type, token by token.
 ghost use Rattle.std.specs.Prelude.{◌≡◌, ◌<◌, IfOk, false};
-ghost use Rattle.js_grammar.specs.Types.{base, no_place, no_pre, no_param, no_type, no_prop};
+ghost use Rattle.js_grammar.specs.Types.{base, fun, plain, named as named_param, prop, more_param, more_type, more_prop, no_place, no_pre, no_param, no_type, no_prop};
 ghost use Rattle.js_grammar.specs.Machine.{open_at, after_base, fresh as fresh_at, finish, after_param as param_step, after_type as element_step, after_element as argument_step, after_prop as row_step, after_pres as member_step, after_core as core_step, give as give_step, base_step, word_step, pre_step, want_step, can_fun as may_stand};
-ghost use Rattle.type_tree.specs.View.{type_view, core_view, base_view, form_view, places_view, params_view, types_view, props_view};
+ghost use Rattle.type_tree.specs.View.{type_view, core_view, base_view, form_view, places_view, params_view, types_view, props_view, sign_view, key_view};
 ghost use Rattle.type_parser.specs.State.{open_view, turn_view, stack_view, mode_view, Gives};
 
 use crate::state::{
@@ -140,6 +140,98 @@ fn after_prop(alloc: Global, at: usize, object: Object, token: &TokenKind) -> Tu
     }
 }
 
+/// A type without a name joins the parameters of a group.
+#[tactic(auto, using(crate::proofs::Pushes::pushes))]
+fn add_plain(can: bool, mut group: Group, ty: TypeTree, token: &TokenKind) -> Result<Turn, NoMemory>
+    ensures { IfOk result (λ turn. Gives turn (λ k. param_step can k (open_view group.open) group.first (more_param (params_view group.params) (plain (type_view ty))) token.now)) }
+{
+    group.params.push(ParamTree::plain(ty))?;
+    Ok(after_param(can, group, token))
+}
+
+/// A type joins the parameters of a group under its name.
+#[tactic(auto, using(crate::proofs::Pushes::pushes))]
+fn add_named(
+    can: bool,
+    at: usize,
+    named: GroupName,
+    optional: bool,
+    ty: TypeTree,
+    token: &TokenKind,
+) -> Result<Turn, NoMemory>
+    ensures { IfOk result (λ turn. Gives turn (λ k. param_step can k (open_view named.group.open) named.group.first (more_param (params_view named.group.params) (named_param named.start at named.name optional (type_view ty))) token.now)) }
+{
+    let GroupName {
+        mut group,
+        start,
+        name,
+    } = named;
+    group
+        .params
+        .push(ParamTree::named(start, at, name, optional, ty))?;
+    Ok(after_param(can, group, token))
+}
+
+/// A type joins a tuple.
+#[tactic(auto, using(crate::proofs::Pushes::pushes))]
+fn add_element(
+    alloc: Global,
+    at: usize,
+    mut tuple: Tuple,
+    ty: TypeTree,
+    token: &TokenKind,
+) -> Result<Turn, NoMemory>
+    requires { at < usize.MAX }
+    ensures { IfOk result (λ turn. Gives turn (λ k. element_step at k (open_view tuple.open) tuple.first (more_type (types_view tuple.types) (type_view ty)) token.now)) }
+{
+    tuple.types.push(ty)?;
+    Ok(after_type(alloc, at, tuple, token))
+}
+
+/// A type joins an object under its key.
+#[tactic(auto, using(crate::proofs::Pushes::pushes))]
+fn add_prop(
+    alloc: Global,
+    at: usize,
+    keyed: Keyed,
+    optional: bool,
+    ty: TypeTree,
+    token: &TokenKind,
+) -> Result<Turn, NoMemory>
+    requires { at < usize.MAX }
+    ensures { IfOk result (λ turn. Gives turn (λ k. row_step at k (open_view keyed.signed.object.open) keyed.signed.object.first (more_prop (props_view keyed.signed.object.props) (prop keyed.signed.start at (sign_view keyed.signed.sign) (key_view keyed.key) optional (type_view ty))) token.now)) }
+{
+    let Keyed { signed, key } = keyed;
+    let Signed {
+        mut object,
+        start,
+        sign,
+    } = signed;
+    object
+        .props
+        .push(PropTree::new(start, at, sign, key, optional, ty))?;
+    Ok(after_prop(alloc, at, object, token))
+}
+
+/// A function type is whole with its result, and ends the union that it stands in.
+fn close_function(
+    alloc: Global,
+    at: usize,
+    group: Group,
+    comma: bool,
+    output: TypeTree,
+) -> Result<TypeTree, NoMemory>
+    ensures { IfOk result (λ t. type_view t ≡ finish at (open_view group.open) (fun group.first at (params_view group.params) comma (type_view output))) }
+{
+    let Group {
+        open,
+        first,
+        params,
+    } = group;
+    let core = CoreTree::function(alloc, first, at, params, comma, output)?;
+    finish_union(open, at, core)
+}
+
 /// A type is whole, and the token at this place comes after it.
 #[tactic(auto, using(crate::proofs::Pushes::pushes))]
 pub fn give(
@@ -156,70 +248,15 @@ pub fn give(
     let mut ty = whole;
     'outwards: while let Some(frame) = stack.pop() {
         match frame {
-            Frame::Output(group, comma) => {
-                let Group {
-                    open,
-                    first,
-                    params,
-                } = group;
-                let core = CoreTree::function(alloc, first, at, params, comma, ty)?;
-                ty = finish_union(open, at, core)?;
-            }
+            Frame::Output(group, comma) => ty = close_function(alloc, at, group, comma, ty)?,
             Frame::Array(array) => return after_element(alloc, at, array, ty, token),
-            Frame::Group(group) => {
-                let Group {
-                    open,
-                    first,
-                    mut params,
-                } = group;
-                params.push(ParamTree::plain(ty))?;
-                let group = Group {
-                    open,
-                    first,
-                    params,
-                };
-                return Ok(after_param(can_fun(plain, stack), group, token));
-            }
+            Frame::Group(group) => return add_plain(can_fun(plain, stack), group, ty, token),
             Frame::Named(named, optional) => {
-                let GroupName { group, start, name } = named;
-                let Group {
-                    open,
-                    first,
-                    mut params,
-                } = group;
-                params.push(ParamTree::named(start, at, name, optional, ty))?;
-                let group = Group {
-                    open,
-                    first,
-                    params,
-                };
-                return Ok(after_param(can_fun(plain, stack), group, token));
+                return add_named(can_fun(plain, stack), at, named, optional, ty, token);
             }
-            Frame::Tuple(tuple) => {
-                let Tuple {
-                    open,
-                    first,
-                    mut types,
-                } = tuple;
-                types.push(ty)?;
-                let tuple = Tuple { open, first, types };
-                return Ok(after_type(alloc, at, tuple, token));
-            }
+            Frame::Tuple(tuple) => return add_element(alloc, at, tuple, ty, token),
             Frame::Prop(keyed, optional) => {
-                let Keyed { signed, key } = keyed;
-                let Signed {
-                    object,
-                    start,
-                    sign,
-                } = signed;
-                let Object {
-                    open,
-                    first,
-                    mut props,
-                } = object;
-                props.push(PropTree::new(start, at, sign, key, optional, ty))?;
-                let object = Object { open, first, props };
-                return Ok(after_prop(alloc, at, object, token));
+                return add_prop(alloc, at, keyed, optional, ty, token);
             }
         }
     }

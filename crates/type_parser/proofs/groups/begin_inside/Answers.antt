@@ -1,6 +1,5 @@
-use Rattle.std.proofs.Common.{◌≡◌, ap}
+use Rattle.std.proofs.Common.{ap}
 use Rattle.js_grammar.specs.Machine.{want_step}
-use Rattle.type_parser.specs.State.{stack_view}
 use Rattle.type_parser.proofs.Given.{ok_given, pushed}
 use Rattle.type_parser.proofs.groups.begin_inside.Goals as goal
 

@@ -1,4 +1,4 @@
-use Rattle.std.proofs.Common.{◌≡◌, refl, sym, ◌∙◌, ap, subst, ℕ, ◌+◌, ◌≤◌, ◌<◌, length, drop, arith, true, false, List}
+use Rattle.std.proofs.Common.{◌≡◌, sym, ◌∙◌, ap, subst, ◌+◌, length, drop, arith}
 use Rattle.type_parser.specs.State.{stack_view, mode_view, turn_view}
 use Rattle.type_parser.specs.Nests.{nest_view}
 use Rattle.type_parser.specs.Within.{is_deep, run_end, run_within, read_within}
