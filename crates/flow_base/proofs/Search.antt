@@ -12,7 +12,7 @@ use Rattle.std.specs.declared.cmp.Ordering.TheVariants.{Less, Equal, Greater}
 use Rattle.std.proofs.lemmas.Bool.{cases_Bool, cases_lt}
 use Rattle.std.proofs.lemmas.List.Sorted.{searchable_from_sorted}
 use Rattle.std.proofs.lemmas.Map.Lookups.{exact_bytes}
-use Rattle.flow_values.proofs.Rising.{sorted_from_rising}
+pub use Rattle.flow_values.proofs.Rising.{sorted_from_rising}
 use Rattle.flow_base.specs.Program.{Bytes, Program, paths_of, IsRising, text_at}
 use Rattle.flow_base.specs.Rising.{IsBelowAll, below_all, found_itself, found_behind, not_below_itself, rising_rest}
 
