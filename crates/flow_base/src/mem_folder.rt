@@ -1,11 +1,11 @@
-ghost use Rattle.std.specs.Prelude.{◌≡◌, ℕ, ◌<◌, ◌≤◌, ◌^◌, IsTrue, ◌↔◌, IsSome, IfSome, IfOk, Some, MatchOption, length, [], ◌∷◌, ◌++◌};
+ghost use Rattle.std.specs.Prelude.{◌≡◌, ℕ, ◌<◌, ◌≤◌, ◌^◌, IsTrue, ◌↔◌, IsSome, IfSome, IfOk, Some, length, slice_get};
+ghost use Rattle.std.specs.Option.{option_map, option_and_then};
 ghost use Rattle.std.proofs.Common.{lit<};
 ghost use Rattle.flow_base.specs.Program.{IsRising, paths_of, text_at};
 ghost use Rattle.flow_base.specs.declared.outside.LastFault.TheVariants.{Never};
 
 use crate::{Folder, FolderFault, List, NoMemory, Path, Text};
 use std::alloc::Global;
-use std::cmp::Ordering;
 use std::marker::Model;
 
 /// A folder in memory, which tells its program and never fails. A contract sees the program.
@@ -43,16 +43,7 @@ impl MemFolder {
 fn has_rising_paths(rows: &[(Path, Text)]) -> bool
     ensures { IsTrue result ↔ IsRising (paths_of rows.now) }
 {
-    let mut rest = rows;
-    while let [first, more @ ..] = rest {
-        if let [second, ..] = more {
-            if first.0.as_bytes().cmp(second.0.as_bytes()) != Ordering::Less {
-                return false;
-            }
-        }
-        rest = more;
-    }
-    true
+    rows.is_sorted_by(|row, next| row.0 < next.0)
 }
 
 fn listed(alloc: Global, rows: &[(Path, Text)]) -> Result<List<Path>, NoMemory>
@@ -65,33 +56,22 @@ fn listed(alloc: Global, rows: &[(Path, Text)]) -> Result<List<Path>, NoMemory>
     Ok(paths)
 }
 
-// The text of a path among rows whose paths are rising, by halving.
-#[tactic(auto, using(crate::proofs::Search::found_before, crate::proofs::Search::found_at, crate::proofs::Search::found_after, crate::proofs::Search::rising_front, crate::proofs::Search::rising_after))]
+// Where a path stands among rows whose paths rise.
+fn place_of(rows: &[(Path, Text)], path: &Path) -> Option<usize>
+    requires { IsRising (paths_of rows.now) }
+    ensures text { text_at rows.now path.now ≡ option_and_then (λ at. option_map (λ row. row.1) (slice_get rows.now at)) result }
+    ensures within { IfSome result (λ at. at < length rows.now) }
+{
+    rows.binary_search_by(|row| row.0.cmp(path)).ok()
+}
+
 fn found(rows: &[(Path, Text)], path: &Path) -> Result<Option<Text>, NoMemory>
     requires { IsRising (paths_of rows.now) }
     ensures { IfOk result (λ text. text ≡ text_at rows.now path.now) }
 {
-    let mut rest = rows;
-    while let Some((front, middle, after)) = halves(rest) {
-        match middle.0.as_bytes().cmp(path.as_bytes()) {
-            Ordering::Less => rest = after,
-            Ordering::Equal => return Ok(Some(middle.1.share()?)),
-            Ordering::Greater => rest = front,
-        }
-    }
-    Ok(None)
-}
-
-// The row in the middle, between those before it and those after it.
-fn halves<T>(rows: &[T]) -> Option<(&[T], &T, &[T])>
-    ensures rows { MatchOption result (rows.now ≡ []) (λ cut. rows.now ≡ cut.0.now ++ cut.1.now ∷ cut.2.now) }
-    ensures front { IfSome result (λ cut. length cut.0.now < length rows.now) }
-    ensures after { IfSome result (λ cut. length cut.2.now < length rows.now) }
-{
-    let (front, back) = rows.split_at(rows.len() / 2);
-    match back {
-        [] => None,
-        [middle, after @ ..] => Some((front, middle, after)),
+    match place_of(rows, path) {
+        Some(at) => Ok(Some(rows[at].1.share()?)),
+        None => Ok(None),
     }
 }
 

@@ -16,7 +16,8 @@ use Rattle.js_token.specs.Marks.{spelling}
 use Rattle.lex_pieces.specs.declared.piece.Piece.{Piece}
 use Rattle.lex_pieces.specs.declared.start.Start.{Start}
 use Rattle.lex_pieces.specs.declared.start.Start.TheVariants.{Blank, Word, Digit, Quote, Dot, Slash, Mark}
-use Rattle.lex_pieces.specs.Characters.{is_blank_char, starts_word, continues_word, is_quote, goes_on}
+use Rattle.lex_pieces.specs.Characters.{is_blank_char, is_quote, goes_on}
+use Rattle.source_characters.specs.Words.{starts_word, continues_word}
 use Rattle.lex_pieces.specs.Starts.{start_of, Starts}
 use Rattle.lex_pieces.specs.Pieces.{IsPiece, IsBlank, BeginsNoPiece}
 use Rattle.lex_pieces.specs.Strings.{IsStringRead}

@@ -1,4 +1,3 @@
-pub mod Ascii
 pub mod Closing
 pub mod CommentLemmas
 pub mod Encoding

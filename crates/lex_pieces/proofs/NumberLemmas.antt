@@ -7,7 +7,8 @@ use Rattle.std.proofs.lemmas.List.{take-append-drop, drop_at, length-take-le, ni
 use Rattle.std.proofs.lemmas.List.Sums.{prefix_len-le-length}
 use Rattle.unicode_ident.proofs.IdentLemmas.{is_xid_continue-ascii}
 use Rattle.js_token.specs.Words.{is_whole}
-use Rattle.lex_pieces.specs.Characters.{goes_on, continues_word}
+use Rattle.lex_pieces.specs.Characters.{goes_on}
+use Rattle.source_characters.specs.Words.{continues_word}
 use Rattle.lex_pieces.specs.Numbers.{AreDigits, is_exponent_mark, IsExponent, IsMantissa, IsDecimal, base_of, IsInBase, IsNumber}
 use Rattle.lex_pieces.specs.Escapes.{begins_with}
 use Rattle.lex_pieces.specs.Reading.{digits_len, whole_len, fraction_len, sign_len, signed_len, exponent_len, mantissa_len, decimal_len, digits_in, based_len, plain_len, number_len}

@@ -6,7 +6,8 @@ use Rattle.std.proofs.lemmas.Bool.{and_parts, and_left, and_right, or_cases, or_
 use Rattle.unicode_ident.proofs.Computing.{unicode_ident}
 use Rattle.unicode_ident.proofs.IdentLemmas.{is_xid_start-ascii}
 use Rattle.lex_pieces.specs.declared.start.Start.TheVariants.{Blank, Word, Digit, Quote, Dot, Slash, Mark}
-use Rattle.lex_pieces.specs.Characters.{is_blank_char, starts_word}
+use Rattle.lex_pieces.specs.Characters.{is_blank_char}
+use Rattle.source_characters.specs.Words.{starts_word}
 use Rattle.lex_pieces.specs.Starts.{start_of}
 
 -- an ASCII character that is no letter, `$` or `_` begins no word

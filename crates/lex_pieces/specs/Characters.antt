@@ -1,20 +1,12 @@
--- Which characters begin and go on the pieces of a source.
+-- Which characters are blanks, end lines and begin strings.
 use Rattle.std.specs.Prelude.{ℕ, Bool, false, ◌||◌, ◌==◌, List, [], ◌∷◌}
 use Rattle.std.specs.Char.{is_ascii_digit}
 use Rattle.std.specs.Int.{is_in_range}
-use Rattle.unicode_ident.specs.Ident.{is_xid_start, is_xid_continue}
+use Rattle.source_characters.specs.Words.{continues_word}
 
 -- tab, LF, VT, FF, CR, space, no-break space, line and paragraph separator, byte order mark
 abbrev pub is_blank_char : ℕ → Bool
 is_blank_char c = is_in_range 9 13 c || (c == 0x20) || (c == 0xA0) || (c == 0x2028) || (c == 0x2029) || (c == 0xFEFF)
-
--- `$`, `_` or XID_Start
-abbrev pub starts_word : ℕ → Bool
-starts_word c = (c == 36) || (c == 95) || is_xid_start c
-
--- `$`, `_` or XID_Continue
-abbrev pub continues_word : ℕ → Bool
-continues_word c = (c == 36) || (c == 95) || is_xid_continue c
 
 -- the text begins with a digit, or with a character that may go on a word
 abbrev pub goes_on : List ℕ → Bool

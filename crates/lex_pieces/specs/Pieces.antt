@@ -5,7 +5,8 @@ use Rattle.std.specs.Str.{encode_utf8_all}
 use Rattle.js_token.specs.declared.token.TokenKind.{TokenKind}
 use Rattle.js_token.specs.declared.token.TokenKind.TheVariants.{Name, Number, Str, Punct}
 use Rattle.js_token.specs.Marks.{spelling}
-use Rattle.lex_pieces.specs.Characters.{is_blank_char, starts_word, continues_word, LF}
+use Rattle.lex_pieces.specs.Characters.{is_blank_char, LF}
+use Rattle.source_characters.specs.Words.{starts_word, continues_word}
 use Rattle.lex_pieces.specs.Numbers.{IsNumber}
 use Rattle.lex_pieces.specs.Strings.{IsString}
 

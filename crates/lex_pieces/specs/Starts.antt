@@ -3,7 +3,8 @@ use Rattle.std.specs.Prelude.{◌≡◌, ℕ, ◌==◌, List, [], ◌∷◌, if�
 use Rattle.std.specs.Char.{is_ascii_digit}
 use Rattle.lex_pieces.specs.declared.start.Start.{Start}
 use Rattle.lex_pieces.specs.declared.start.Start.TheVariants.{Blank, Word, Digit, Quote, Dot, Slash, Mark}
-use Rattle.lex_pieces.specs.Characters.{is_blank_char, starts_word, is_quote}
+use Rattle.lex_pieces.specs.Characters.{is_blank_char, is_quote}
+use Rattle.source_characters.specs.Words.{starts_word}
 
 unfoldable pub start_of : ℕ → Start
 start_of c = if is_blank_char c then Blank else if starts_word c then Word else if is_ascii_digit c then Digit

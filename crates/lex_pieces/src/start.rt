@@ -1,7 +1,8 @@
 ghost use Rattle.std.specs.Prelude.{◌≡◌};
 ghost use Rattle.lex_pieces.specs.Starts.{start_of};
 
-use crate::characters::{is_blank, is_quote, starts_word};
+use crate::characters::{is_blank, is_quote};
+use source_characters::starts_word;
 
 /// What a piece that begins with a character can be.
 #[derive(Clone, Copy, Debug, PartialEq, Eq)]

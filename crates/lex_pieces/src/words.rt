@@ -1,10 +1,10 @@
 ghost use Rattle.std.specs.Prelude.{◌≡◌, ◌≤◌, length, IfOk};
 ghost use Rattle.std.specs.List.{prefix_len};
 ghost use Rattle.std.specs.Str.{encode_utf8_all};
-ghost use Rattle.lex_pieces.specs.Characters.{continues_word};
+ghost use Rattle.source_characters.specs.Words.{continues_word};
 
-use crate::characters::continues_word;
 use flow_values::{NoMemory, Text};
+use source_characters::continues_word;
 use std::alloc::Global;
 
 /// How many characters at the front of a text may go on a word.

@@ -1,9 +1,9 @@
 -- Editing a row: the paths stay in rising order, other rows stay, and the place where it happens.
-use Rattle.std.proofs.Common.{◌≡◌, ◌≢◌, ◌⊎◌, ℕ, zero, suc, ◌+◌, ◌<◌, ◌≤◌, List, [], ◌∷◌, length, get_or, set, Some, Result, Ok, Err, IfOk, IfErr, refl, sym, ap, ◌∙◌, subst, inl, inr, if◌then◌else◌, arith, length-set}
+use Rattle.std.proofs.Common.{◌≡◌, ◌≢◌, ◌⊎◌, ℕ, zero, suc, ◌<◌, ◌≤◌, List, [], ◌∷◌, length, get_or, set, Some, Result, Ok, Err, IfOk, IfErr, refl, sym, ap, ◌∙◌, subst, inl, inr, if◌then◌else◌, arith, length-set}
 use Rattle.std.specs.Prelude.{nat_eq}
 use Rattle.std.specs.List.{insert, AllWithin, HoldsAt}
-use Rattle.std.specs.List.Sorted.{IsBinarySearchResult, IsSearchInRange, IsSortedBy}
-use Rattle.std.specs.Ordering.{nat_cmp, ordering_reverse, match_ordering, is_lt}
+use Rattle.std.specs.List.Sorted.{IsBinarySearchResult, IsSearchInRange}
+use Rattle.std.specs.Ordering.{nat_cmp, ordering_reverse, match_ordering}
 use Rattle.std.specs.Cmp.Lexicographic.{slice_cmp, pointwise, nat_list_cmp_total, bytes_decides}
 use Rattle.std.specs.declared.cmp.Ordering.{Ordering}
 use Rattle.std.specs.declared.cmp.Ordering.TheVariants.{Less, Equal, Greater}
@@ -11,6 +11,7 @@ use Rattle.std.proofs.lemmas.Bool.{cases_Bool}
 use Rattle.std.proofs.lemmas.Map.Lookups.{exact_bytes}
 use Rattle.std.proofs.lemmas.List.Edits.{length-insert}
 use Rattle.std.proofs.lemmas.List.Sorted.{searchable_from_sorted}
+use Rattle.flow_base.proofs.Search.{below_at, sorted_from_rising}
 use Rattle.flow_base.specs.Program.{Bytes, Program, paths_of, IsRising}
 use Rattle.flow_base.specs.Rising.{IsBelowAll, below_all, rising_rest, not_below_itself}
 use Rattle.recheck_run.specs.declared.edits.Wanted.{Wanted}
@@ -124,11 +125,6 @@ edited_elsewhere (row ∷ rows) path wanted other differs = elim (which (Cmp pat
 
 -- ---- the place of an edit
 
-below_at : (low : Bytes) (rows : Rows) (at : ℕ) (d : Bytes × Wanted) → at < length rows → IsBelowAll low (paths rows) → Cmp low (get_or rows at d).0 ≡ Less
-below_at low [] at d within all = absurd (omega arith)
-below_at low (row ∷ rows) zero d within all = all.0
-below_at low (row ∷ rows) (suc at) d within all = below_at low rows at d (omega arith) all.1
-
 abbrev IsPath : Ordering → Bytes → Bytes × Wanted → Type 0
 IsPath o path row = Cmp row.0 path ≡ o
 
@@ -137,7 +133,7 @@ set_there [] path at rising within holds wanted = absurd (omega arith)
 set_there (row ∷ rows) path zero rising within holds wanted = edited_by row rows path wanted Equal (turned row.0 path Equal (holds row))
 set_there (row ∷ rows) path (suc at) rising within holds wanted =
     let inside : at < length rows = omega arith in
-    let low = below_at row.0 rows at row inside (below_all row.0 (paths rows) rising) in
+    let low = below_at (λ row. row.0) row.0 rows at row inside (below_all row.0 (paths rows) rising) in
     let below : Cmp row.0 path ≡ Less = subst (λ (p : Bytes). Cmp row.0 p ≡ Less) (exact_bytes (get_or rows at row).0 path (holds row)) low in
     edited_by row rows path wanted Greater (turned row.0 path Less below)
     ∙ ap (λ (l : Rows). row ∷ l) (set_there rows path at (rising_rest row.0 (paths rows) rising) inside (λ d. holds d) wanted)
@@ -153,19 +149,13 @@ insert_there (row ∷ rows) path (suc at) within below above wanted =
     insert_there rows path at (omega arith) (λ k d low high. below (suc k) d (omega arith) (omega arith)) (λ k d low high. above (suc k) d (omega arith) (omega arith)) wanted
     )
 
-in_order : (rows : Rows) → IsRising (paths rows) → IsSortedBy (λ a b. is_lt (Cmp a.0 b.0)) rows
-in_order [] rising k d low high = absurd (omega arith)
-in_order (row ∷ []) rising k d low high = absurd (omega arith)
-in_order (row ∷ next ∷ rows) rising zero d low high = ap is_lt (turned row.0 next.0 Less rising.0)
-in_order (row ∷ next ∷ rows) rising (suc k) d low high = let n : suc k + 1 ≡ suc (k + 1) = omega arith in rw n (in_order (next ∷ rows) rising.1 k d (omega arith) (omega arith))
-
 module _ (rows : Rows) (rising : IsRising (paths rows)) (path : Bytes) where
   -- a binary search ends at the path's row, or where it would go
   pub searched : (r : Result ℕ ℕ) → IsSearchInRange r (length rows) → IsBinarySearchResult (λ row. Cmp row.0 path) rows r
       → record { there : IfOk r (IsPlaceOf rows path); missing : IfErr r (IsGapFor rows path) }
   searched (Ok at) within found = record { there = record { within = within; edits = set_there rows path at rising within found }; missing = tt }
   searched (Err at) within found =
-      let parted = found (searchable_from_sorted nat_list_cmp_total (λ row. row.0) rows path (in_order rows rising)) in
+      let parted = found (searchable_from_sorted nat_list_cmp_total (λ row. row.0) rows path (sorted_from_rising (λ row. row.0) rows rising)) in
       record { there = tt; missing = record { within = within; edits = insert_there rows path at within parted.0 parted.1 } }
 
 -- ---- the edited rows are such as a caller may keep

@@ -10,7 +10,7 @@ use Rattle.recheck_run.specs.declared.edits.Wanted.{Wanted}
 use Rattle.recheck_run.specs.declared.edits.Wanted.TheVariants as take
 use Rattle.recheck_run.specs.declared.reading.Unread.{Unread}
 use Rattle.recheck_run.specs.declared.reading.Unread.TheVariants.{At, NoMemory}
-use Rattle.recheck_run.specs.Wanted.{Rows, paths, taken, MayBecome, IsTouched}
+use Rattle.recheck_run.specs.Wanted.{Rows, MayBecome, IsTouched}
 
 -- a row gives this text, where the folder holds what it tells
 abbrev pub Gives : Option Program → Bytes × Wanted → Option Bytes → Type 0

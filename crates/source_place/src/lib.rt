@@ -3,7 +3,9 @@
 
 ghost use Rattle.std.specs.Prelude.{◌≡◌, ◌≤◌, ◌<◌, ◌^◌, ◌-◌, length, count_by, not};
 ghost use Rattle.std.specs.List.{suffix_len};
-ghost use Rattle.source_place.specs.Place.{is_feed, begins_char, line_at, line_front, column_at, IsPlace};
+ghost use Rattle.source_place.specs.Place.{is_feed, line_at, line_front, column_at, IsPlace};
+
+use source_characters::char_count;
 
 /// Line and column of the byte place `at`, both from 1. A line ends after LF alone, and columns count
 /// characters. The place is 0, or the text is UTF-8 and `at` is at most its length and below
@@ -15,7 +17,7 @@ pub fn place(text: &[u8], at: u32) -> (u32, u32)
 {
     let front = &text[..at as usize];
     let line = feeds(front);
-    let column = characters(line_start(front));
+    let column = char_count(line_start(front));
     (line as u32 + 1, column as u32 + 1)
 }
 
@@ -24,13 +26,6 @@ fn feeds(bytes: &[u8]) -> usize
     ensures within { result ≤ length bytes.now }
 {
     bytes.iter().filter(|b| **b == b'\n').count()
-}
-
-fn characters(bytes: &[u8]) -> usize
-    ensures count { result ≡ count_by begins_char bytes.now }
-    ensures within { result ≤ length bytes.now }
-{
-    bytes.iter().filter(|b| !(128 <= **b && **b < 192)).count()
 }
 
 // How many bytes stand behind the last LF, or how many there are where there is none.

@@ -1,24 +1,13 @@
 //! Types as text in a line for people.
 ghost use Rattle.std.specs.Prelude.{◌≡◌, ◌≤◌, ◌++◌, length, take, IfOk, OnOk};
-ghost use Rattle.type_terms.specs.Word.{begins_char, char_count, first_chars, cut};
+ghost use Rattle.type_terms.specs.Word.{first_chars, cut};
 ghost use Rattle.type_terms.specs.Show.{brief};
 
 use crate::show;
 use flow_values::{NoMemory, Text};
+use source_characters::{begins_char, char_count};
 use std::alloc::Global;
 use type_values::FlowType;
-
-fn begins_char(b: u8) -> bool
-    ensures { result ≡ begins_char b }
-{
-    b < 128 || b >= 192
-}
-
-fn char_count(text: &[u8]) -> usize
-    ensures { result ≡ char_count text.now }
-{
-    text.iter().filter(|b| begins_char(**b)).count()
-}
 
 // How many bytes the first `count` characters have.
 #[tactic(auto, using(crate::proofs::CutLemmas::begins_next, crate::proofs::CutLemmas::continues_next, crate::proofs::CutLemmas::ends_full, crate::proofs::CutLemmas::ends_all))]
