@@ -19,23 +19,30 @@ on_is (Some false) is = cc
 
 pub table_marks : (rows : List Row) (types : List FlowType) (edges : List (List ℕ)) (marks : List Bool) (place : Key → Option ℕ) → ((key : Key) → place key ≡ place_of rows key) → types ≡ map row_type rows →
     edges ≡ map (λ t. places_of place (names_of t)) types → AreCycleMarks edges marks → (key : Key) →
-    (unwrap_or (option_and_then (slice_get marks) (place key)) false ≡ true → IsCyclic rows key) × (IsCyclic rows key → unwrap_or (option_and_then (slice_get marks) (place key)) false ≡ true)
+    (unwrap_or (option_and_then (slice_get marks) (place key)) false ≡ true → IsCyclic (alias_type rows) key) × (IsCyclic (alias_type rows) key → unwrap_or (option_and_then (slice_get marks) (place key)) false ≡ true)
 table_marks rows types edges marks place same is_types is_edges right key = (sound, complete)
   where
     whole : edges ≡ map (λ t. places_of place (names_of t)) (map row_type rows)
     whole = is_edges ∙ ap (map (λ t. places_of place (names_of t))) is_types
 
-    sound : unwrap_or (option_and_then (slice_get marks) (place key)) false ≡ true → IsCyclic rows key
+    sound : unwrap_or (option_and_then (slice_get marks) (place key)) false ≡ true → IsCyclic (alias_type rows) key
     sound on = go (place key) refl on
       where
-        go : (o : Option ℕ) → place key ≡ o → unwrap_or (option_and_then (slice_get marks) o) false ≡ true → IsCyclic rows key
+        go : (o : Option ℕ) → place key ≡ o → unwrap_or (option_and_then (slice_get marks) o) false ≡ true → IsCyclic (alias_type rows) key
         go None at is = cc
         go (Some i) at is = place_cyclic rows place same key i at (subst (λ (e : List (List ℕ)). IsOnCycle e i) whole (right.sound i (on_is (slice_get marks i) is)))
 
-    complete : IsCyclic rows key → unwrap_or (option_and_then (slice_get marks) (place key)) false ≡ true
+    complete : IsCyclic (alias_type rows) key → unwrap_or (option_and_then (slice_get marks) (place key)) false ≡ true
     complete cycle =
         let c = cyclic_place rows place same key cycle in
         ap (λ o. unwrap_or (option_and_then (slice_get marks) o) false) c.1 ∙ ap (λ o. unwrap_or o false) (right.complete c.0 (subst (λ (e : List (List ℕ)). IsOnCycle e c.0) (sym whole) c.2))
+
+-- so each alias on a cycle of the table's own aliases is marked
+pub table_marked : (rows : List Row) (types : List FlowType) (marks : List Bool) (place : Key → Option ℕ) → ((key : Key) → option_and_then (slice_get types) (place key) ≡ alias_type rows key) →
+    ((key : Key) → (unwrap_or (option_and_then (slice_get marks) (place key)) false ≡ true → IsCyclic (alias_type rows) key) × (IsCyclic (alias_type rows) key → unwrap_or (option_and_then (slice_get marks) (place key)) false ≡ true)) →
+    (key : Key) → IsCyclic (λ k. option_and_then (slice_get types) (place k)) key → unwrap_or (option_and_then (slice_get marks) (place key)) false ≡ true
+table_marked rows types marks place same right key cycle =
+    (right key).1 (subst (λ (own : Key → Option FlowType). IsCyclic own key) (λ i k. same k i) cycle)
 
 at_index : {A : Type 0} (xs : List A) (k : ℕ) (d : A) → k < length xs → slice_get xs k ≡ Some (get_or xs k d)
 at_index [] k d few = absurd (omega arith)

@@ -40,9 +40,9 @@ abbrev pub names_of : FlowType → List Key
 names_of = fold-FlowType (List Key) (Unit {0}) (Unit {0}) level_names (λ _. tt) (λ _. tt)
 
 -- the type of the alias a has the name b in no constructor but unions
-abbrev pub Step : List Row → Key → Key → Type 0
-Step rows a b = (t : FlowType) × (alias_type rows a ≡ Some t) × Contains (names_of t) b
+abbrev pub Step : (Key → Option FlowType) → Key → Key → Type 0
+Step types a b = (t : FlowType) × (types a ≡ Some t) × Contains (names_of t) b
 
 -- one step or more lead from an alias back to it
-abbrev pub IsCyclic : List Row → Key → Type 0
-IsCyclic rows a = (b : Key) × Step rows a b × Leads (Step rows) b a
+abbrev pub IsCyclic : (Key → Option FlowType) → Key → Type 0
+IsCyclic types a = (b : Key) × Step types a b × Leads (Step types) b a
