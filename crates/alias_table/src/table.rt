@@ -1,6 +1,6 @@
 ghost use Rattle.std.specs.Prelude.{◌≡◌, ◌++◌, ◌<◌, ◌↔◌, List, ℕ, map, length, slice_get, unwrap_or, false, IsTrue, OnOk, IfOk};
 ghost use Rattle.std.specs.List.{flat_map};
-ghost use Rattle.alias_table.specs.Aliases.{Key, Row, names_of, row_type, alias_type, IsCyclic};
+ghost use Rattle.alias_table.specs.Aliases.{Key, Row, names_of, row_type, alias_type, IsCyclic, AreMarked};
 ghost use Rattle.alias_table.specs.Indexing.{place_at, places_of, type_in, mark_in};
 
 use crate::index::{Modules, index, place};
@@ -72,7 +72,7 @@ pub struct AliasTable {
     modules: Modules,
     types: List<FlowType>,
     marks: Vec<bool>,
-    ghost marked: { (key : Key) → IsCyclic (type_in modules types) key → IsTrue (mark_in modules marks.items key) },
+    ghost marked: { AreMarked (type_in modules types) (mark_in modules marks.items) },
 }
 
 impl AliasTable {

@@ -17,8 +17,6 @@ returns-clause-marks c = λ key. table_marks c.args.rows.now c.in_ok-types.types
 
 pub invariant_of-result : goal.invariant_of-result
 invariant_of-result c = record {
-  marked = table_marked c.args.rows.now c.in_ok-types.types c.in_ok-marks.marks.items (place_at c.in_ok-modules.modules)
-    (table_type c.args.rows.now c.in_ok-types.types (place_at c.in_ok-modules.modules) c.in_ok-modules.ensures c.in_ok-types.ensures)
-    (λ key. table_marks c.args.rows.now c.in_ok-types.types c.as_slice-2.result.now c.in_ok-marks.marks.items (place_at c.in_ok-modules.modules) c.in_ok-modules.ensures c.in_ok-types.ensures
-    (c.as_slice-2.ensures ∙ c.in_ok-edges.ensures ∙ ap (map (λ t. places_of (place_at c.in_ok-modules.modules) (names_of t))) c.as_slice.ensures) c.in_ok-marks.ensures key);
+  marked = table_marked c.args.rows.now c.in_ok-types.types c.as_slice-2.result.now c.in_ok-marks.marks.items (place_at c.in_ok-modules.modules) c.in_ok-modules.ensures c.in_ok-types.ensures
+      (c.as_slice-2.ensures ∙ c.in_ok-edges.ensures ∙ ap (map (λ t. places_of (place_at c.in_ok-modules.modules) (names_of t))) c.as_slice.ensures) c.in_ok-marks.ensures;
 }
