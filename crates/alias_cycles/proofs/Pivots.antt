@@ -6,7 +6,7 @@ use Rattle.alias_cycles.specs.Searching.{Within, HasFound, AreReversed, Marks, P
 use Rattle.alias_cycles.proofs.Lists.{none_some, only_has}
 use Rattle.alias_cycles.proofs.Searches.{joined, ends_in}
 
-on_or_off : (ms : List Bool) (x : ℕ) → IsOn ms x ⊎ ¬ (IsOn ms x)
+pub on_or_off : (ms : List Bool) (x : ℕ) → IsOn ms x ⊎ ¬ (IsOn ms x)
 on_or_off ms x = go (slice_get ms x) refl
   where
     go : (o : Option Bool) → slice_get ms x ≡ o → IsOn ms x ⊎ ¬ (IsOn ms x)

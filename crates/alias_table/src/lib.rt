@@ -5,7 +5,7 @@ mod index;
 mod opening;
 mod table;
 
-pub use opening::{has_one_list_of_members, members};
+pub use opening::{has_members, has_one_list_of_members, members};
 pub use table::AliasTable;
 
 #[cfg(test)]

@@ -1,5 +1,5 @@
 ghost use Rattle.std.specs.Prelude.{◌≡◌, ◌++◌, ◌∷◌, [], List, ℕ, reverse, MatchOption, OnOk, IfOk};
-ghost use Rattle.alias_table.specs.Members.{opened, AreMembers};
+ghost use Rattle.alias_table.specs.Members.{opened, AreMembers, HasMembers};
 ghost use Rattle.alias_table.specs.Table.{unfolded};
 ghost use Rattle.type_values.specs.declared.types.FlowType.{FlowType};
 
@@ -54,14 +54,17 @@ pub fn members(alloc: Global, table: &AliasTable, t: &FlowType) -> Result<List<F
     let mut waiting = List::new(alloc);
     let mut found = List::new(alloc);
     waiting.push(t.copy(alloc)?)?;
-    for _ in 0..u64::MAX {
-        match waiting.pop() {
-            None => return Ok(found),
-            Some(next) => open_type(alloc, table, next, &mut waiting, &mut found)?,
-        }
+    while let Some(next) = waiting.pop() {
+        open_type(alloc, table, next, &mut waiting, &mut found)?;
     }
-    Err(NoMemory)
+    Ok(found)
 }
+
+/// A law: each type has a list of members. Unfolding ends in every table, whatever cycles its rows
+/// have.
+pub fn has_members(table: &AliasTable)
+    ensures { (t : FlowType) → HasMembers (unfolded table.now) (t ∷ []) }
+{}
 
 /// A law: a type has no two different lists of members.
 pub fn has_one_list_of_members(table: &AliasTable, t: &FlowType)

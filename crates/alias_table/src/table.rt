@@ -1,8 +1,7 @@
 ghost use Rattle.std.specs.Prelude.{◌≡◌, ◌++◌, ◌<◌, ◌↔◌, List, ℕ, map, length, slice_get, unwrap_or, false, IsTrue, OnOk, IfOk};
 ghost use Rattle.std.specs.List.{flat_map};
-ghost use Rattle.alias_table.specs.Aliases.{Key, Row, names_of, row_type, alias_type, IsCyclic};
-ghost use Rattle.alias_table.specs.Indexing.{place_at, places_of};
-ghost use Rattle.alias_table.specs.Table.{alias_of, is_marked, unfolded};
+ghost use Rattle.alias_table.specs.Aliases.{Key, Row, names_of, row_type, alias_type, IsCyclic, AreMarked};
+ghost use Rattle.alias_table.specs.Indexing.{place_at, places_of, type_in, mark_in};
 
 use crate::index::{Modules, index, place};
 use alias_cycles::mark_cycles;
@@ -73,9 +72,12 @@ pub struct AliasTable {
     modules: Modules,
     types: List<FlowType>,
     marks: Vec<bool>,
+    ghost marked: { AreMarked (type_in modules types) (mark_in modules marks.items) },
 }
 
 impl AliasTable {
+    ghost use Rattle.alias_table.specs.Table.{alias_of, is_marked, unfolded};
+
     /// A table of these rows: module, name and type. The first row of a module and name counts.
     /// An alias is marked exactly where following names and the members of unions from it, and
     /// nothing else, leads back to it.
@@ -85,7 +87,7 @@ impl AliasTable {
     /// `NoMemory` where memory is refused.
     pub fn build(alloc: Global, rows: &[(Path, Text, FlowType)]) -> Result<AliasTable, NoMemory>
         ensures types { IfOk result (λ table. (key : Key) → alias_of table key ≡ alias_type rows.now key) }
-        ensures marks { IfOk result (λ table. (key : Key) → IsTrue (is_marked table key) ↔ IsCyclic rows.now key) }
+        ensures marks { IfOk result (λ table. (key : Key) → IsTrue (is_marked table key) ↔ IsCyclic (alias_type rows.now) key) }
     {
         let modules = index(alloc, rows)?;
         let types = types_of(alloc, rows)?;
