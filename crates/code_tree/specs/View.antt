@@ -1,0 +1,1 @@
+-- The tree of an expression or a statement that a value of the code stands for.
