@@ -1,2 +1,3 @@
+pub mod CodeLists
 pub mod Lists
 pub mod TypeLists
