@@ -93,6 +93,20 @@ impl Tail {
         self.put(TokenKind::Name(text))
     }
 
+    /// Puts a word of the grammar before the others, or not.
+    ///
+    /// # Errors
+    ///
+    /// `NoMemory` where memory is refused.
+    pub fn word_if(&mut self, wanted: bool, word: &[u8]) -> Result<(), NoMemory>
+        ensures { OnOk result (self.new ≡ opt wanted (Name word.now) self.old) }
+    {
+        if wanted {
+            self.word(word)?;
+        }
+        Ok(())
+    }
+
     /// Puts `true` or `false` before the others.
     ///
     /// # Errors
