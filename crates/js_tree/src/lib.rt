@@ -10,3 +10,4 @@ pub use items::{
     Module,
 };
 
+pub use spelling::spell;
