@@ -2,6 +2,8 @@
 //! What tree of the grammar a value stands for is `expr_view` of `specs/View.antt`.
 #![tactic(auto)]
 
+mod expressions;
+mod statements;
 mod types;
 
 pub use types::{
