@@ -21,11 +21,11 @@ use std::alloc::Global;
 /// # Errors
 ///
 /// `NoMemory` where memory is refused.
-pub fn spell(alloc: Global, module: &Module) -> Result<List<TokenKind>, NoMemory>
-    ensures { IfOk result (λ kinds. kinds ≡ spell_module (module_view module.now)) }
+pub fn spell(alloc: Global, tree: &Module) -> Result<List<TokenKind>, NoMemory>
+    ensures { IfOk result (λ kinds. kinds ≡ spell_module (module_view tree.now)) }
 {
     let mut tail = Tail::new(alloc);
-    spell_items(module.items.as_slice(), &mut tail)?;
+    spell_items(tree.items.as_slice(), &mut tail)?;
     Ok(tail.into_list())
 }
 
