@@ -169,11 +169,7 @@ impl ExprForm {
     /// # Errors
     ///
     /// `NoMemory` where memory is refused.
-    pub fn arrow(
-        alloc: Global,
-        signature: Signature,
-        body: ArrowBody,
-    ) -> Result<ExprForm, NoMemory>
+    pub fn arrow(alloc: Global, signature: Signature, body: ArrowBody) -> Result<ExprForm, NoMemory>
         ensures { IfOk result (λ form. expr_form_view form ≡ arrow (signature_view signature) (arrow_body_view body)) }
     {
         let arrow = ArrowExpr { signature, body };

@@ -202,10 +202,7 @@ pub enum LinkForm {
     /// `[e]`
     Index(Expr),
     /// `(a, b)`, with a comma behind the last or not.
-    Call {
-        arguments: List<Expr>,
-        comma: bool,
-    },
+    Call { arguments: List<Expr>, comma: bool },
 }
 
 /// An operator and its right side, or `as` and a type.
@@ -221,10 +218,7 @@ pub struct Operand {
 #[cycle(code)]
 #[derive(Drop)]
 pub enum OperandForm {
-    Right {
-        operator: Operator,
-        side: Expr,
-    },
+    Right { operator: Operator, side: Expr },
     /// `as T`
     As(TypeTree),
 }
@@ -245,10 +239,7 @@ pub enum FieldForm {
     /// `name`
     Shorthand(Text),
     /// `key: value`
-    Valued {
-        key: Key,
-        value: Expr,
-    },
+    Valued { key: Key, value: Expr },
 }
 
 /// `test ? branch :`
