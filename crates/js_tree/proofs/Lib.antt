@@ -1,0 +1,4 @@
+pub mod CodeLists
+pub mod ItemLists
+pub mod Lists
+pub mod TypeLists
