@@ -1,0 +1,4 @@
+pub mod Frames
+pub mod Ladder
+pub mod Machine
+pub mod Law
