@@ -1,2 +1,4 @@
 pub mod Ladder
 pub mod Embedded
+pub mod Begins
+pub mod Parameters
