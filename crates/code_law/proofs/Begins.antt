@@ -1,18 +1,17 @@
 -- How expressions begin: behind an open bracket they are read as where any expression may begin.
-use Rattle.std.proofs.Common.{◌≡◌, refl, sym, ◌∙◌, ap, ◌⊎◌, inl, inr, ℕ, suc, Bool, true, false, [], ◌∷◌, if◌then◌else◌}
-use Rattle.js_token.specs.Words.{is_reserved}
+use Rattle.std.proofs.Common.{◌≡◌, refl, sym, ◌∙◌, ap, ◌⊎◌, inl, inr, ℕ, suc, Bool, true, false, [], ◌∷◌}
 use Rattle.js_token.specs.declared.token.TokenKind.{TokenKind}
 use Rattle.js_token.specs.declared.token.TokenKind.TheVariants.{Name, Number, Str, Punct}
-use Rattle.js_token.specs.declared.punct.Punct.TheVariants.{OpenBrace, CloseBrace, OpenParen, CloseParen, OpenBracket, CloseBracket, Comma, Colon, Question, Plus, Minus, Bang}
+use Rattle.js_token.specs.declared.punct.Punct.TheVariants.{OpenBrace, OpenParen, CloseParen, OpenBracket, CloseBracket, Colon, Question, Plus, Minus, Bang}
 use Rattle.js_grammar.specs.Words.{Bytes, IsName}
 use Rattle.js_grammar.specs.TypeSpelling.{Tokens}
 use Rattle.js_grammar.specs.Machine.{first}
-use Rattle.js_grammar.specs.Code.{Prefix, negation, minus_sign, plus_sign, kind_of, Prefixes, no_prefix, more_prefix, Operator, Ex, ex, ExForm, variable, number, text, truth_value, null_value, parens, elements, fields, function_ex, postfixed, prefixed, chain, cond, arrow, Exs, Link, link, member, index, call, Links, no_link, more_link, Operand, operand, right_side, as_type, Operands, no_operand, more_operand, Arm, arm, Arms, no_arm, more_arm, Function, function, sig, nullish, or, and, strict_equal, strict_not_equal, loose_equal, loose_not_equal, less, greater, less_or_equal, greater_or_equal, add, subtract, multiply, divide, remainder, has_arms}
+use Rattle.js_grammar.specs.Code.{Prefix, negation, minus_sign, plus_sign, kind_of, Prefixes, no_prefix, more_prefix, Operator, Ex, ex, ExForm, variable, number, text, truth_value, null_value, parens, elements, fields, function_ex, postfixed, prefixed, chain, cond, arrow, Exs, Link, link, member, index, call, Links, no_link, more_link, Operand, operand, right_side, as_type, Operands, no_operand, more_operand, arm, Arms, no_arm, more_arm, function, sig, nullish, or, and, strict_equal, strict_not_equal, loose_equal, loose_not_equal, less, greater, less_or_equal, greater_or_equal, add, subtract, multiply, divide, remainder, has_arms}
 use Rattle.js_grammar.specs.CodeSpelling.{prefix_token, mark_of, spell_prefixes, spell_ex, spell_ex_form, spell_links, spell_link, spell_operands, spell_operand, spell_arms, spell_arm}
-use Rattle.js_grammar.specs.CodePlaces.{stop_ex, stop_arms, stop_prefixes}
-use Rattle.js_grammar.specs.CodeFits.{BeginsNot, FitsEx, FitsExForm, FitsArms, FitsArm}
-use Rattle.code_law.specs.Frames.{Row, array_row, call_row, in_parens, in_row, in_branch, Mode, want, row_start, paren_start, paren_word, body_start, Stack, Step, go}
-use Rattle.code_law.specs.Machine.{want_step, row_step, body_step, step, Outcome, resume, run}
+use Rattle.js_grammar.specs.CodePlaces.{stop_ex}
+use Rattle.js_grammar.specs.CodeFits.{BeginsNot, FitsEx, FitsExForm, FitsArms}
+use Rattle.code_law.specs.Frames.{Row, array_row, call_row, in_parens, in_row, Mode, want, row_start, paren_start, body_start, Stack}
+use Rattle.code_law.specs.Machine.{want_step, row_step, body_step, step, resume, run}
 
 no_true : {A : Type 0} → false ≡ true → A
 no_true e = absurd (let f : false ≡ true = e in cc)

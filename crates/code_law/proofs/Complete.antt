@@ -1,6 +1,5 @@
 -- Each expression's spelling is read as that expression, where a token follows that doesn't go on it.
-use Rattle.std.proofs.Common.{◌≡◌, refl, sym, ◌∙◌, ap, ap₂, ℕ, suc, ◌≤◌, Bool, true, false, [], ◌∷◌, codes, if◌then◌else◌, arith}
-use Rattle.js_token.specs.Words.{is_reserved}
+use Rattle.std.proofs.Common.{◌≡◌, refl, sym, ◌∙◌, ap, ap₂, ℕ, suc, ◌≤◌, Bool, true, false, [], ◌∷◌, codes, arith}
 use Rattle.js_token.specs.declared.token.TokenKind.{TokenKind}
 use Rattle.js_token.specs.declared.token.TokenKind.TheVariants.{Name, Punct}
 use Rattle.js_token.specs.declared.punct.Punct.TheVariants.{CloseBrace, CloseParen, CloseBracket, Comma, Colon, Question}
@@ -9,13 +8,13 @@ use Rattle.js_grammar.specs.Types.{word_key, text_key, Key, key}
 use Rattle.js_grammar.specs.TypeSpelling.{Tokens, opt, spell, spell_key}
 use Rattle.js_grammar.specs.TypeFits.{bump, stop, FitsKey, CommaFits}
 use Rattle.js_grammar.specs.Machine.{first}
-use Rattle.js_grammar.specs.Code.{Prefix, negation, minus_sign, plus_sign, kind_of, Prefixes, no_prefix, more_prefix, Level, relation_level, rank, operand_rank, level_of, Operator, Sig, sig, primary_rank, Ex, ex, ExForm, variable, number, text, truth_value, null_value, parens, elements, fields, function_ex, postfixed, prefixed, chain, cond, arrow, Exs, no_ex, more_ex, Link, link, LinkForm, member, index, call, Links, no_link, more_link, Operand, operand, right_side, as_type, Operands, no_operand, more_operand, Field, field, shorthand, valued, Fields, no_field, more_field, Arm, arm, Arms, no_arm, more_arm, arrow_block, arrow_value, has_exs, has_fields, has_links, form_rank, ex_rank, is_cond}
+use Rattle.js_grammar.specs.Code.{Prefix, negation, minus_sign, plus_sign, kind_of, Prefixes, no_prefix, more_prefix, Level, relation_level, rank, operand_rank, level_of, Operator, Sig, sig, primary_rank, Ex, ex, ExForm, variable, number, text, truth_value, null_value, parens, elements, fields, function_ex, postfixed, prefixed, chain, cond, arrow, Exs, no_ex, more_ex, Link, link, LinkForm, member, index, call, Links, no_link, more_link, operand, right_side, as_type, Operands, no_operand, more_operand, Field, field, shorthand, valued, Fields, no_field, more_field, arm, Arms, no_arm, more_arm, arrow_block, arrow_value, has_exs, has_fields, form_rank, ex_rank, is_cond}
 use Rattle.js_grammar.specs.CodeSpelling.{mark_of, prefix_token, spell_prefixes, spell_ex, spell_ex_form, spell_exs, spell_listed, spell_link, spell_link_form, spell_links, spell_operands, spell_field, spell_fields, spell_entries, spell_arms}
 use Rattle.js_grammar.specs.CodePlaces.{stop_prefixes, stop_sig, stop_ex, stop_ex_form, stop_exs, stop_listed, stop_link, stop_link_form, stop_links, stop_operands, stop_field, stop_fields, stop_entries, stop_arms}
 use Rattle.js_grammar.specs.CodeFits.{FitsPrefixes, FitsEx, FitsExForm, FitsExs, FitsLink, FitsLinkForm, FitsLinks, FitsOperands, FitsField, FitsFields, FitsArms, FitsSig}
-use Rattle.code_law.specs.Frames.{Row, array_row, call_row, cast_type, in_prefix, in_chain, in_last, in_branch, in_parens, in_row, in_index, in_field, in_arrow, Mode, want, after_links, row_start, fields_start, after_word, Stack, Step, go, start_ex, start_sig, start_key}
-use Rattle.code_law.specs.Ladder.{Joint, applies, casts, Turn, joins, ends, turn, joint_level, ask, begin, open_chain, join, settle_at, settle, close_row, close_fields, after_field}
-use Rattle.code_law.specs.Machine.{marked, links_step, linked, field_step, step, Outcome, whole, resume, run, read_expression, go_on}
+use Rattle.code_law.specs.Frames.{Row, array_row, call_row, cast_type, in_prefix, in_chain, in_last, in_branch, in_parens, in_row, in_index, in_field, in_arrow, Mode, want, after_links, row_start, fields_start, after_word, Stack, go, start_ex, start_sig, start_key}
+use Rattle.code_law.specs.Ladder.{Joint, applies, casts, joins, ends, turn, joint_level, ask, begin, open_chain, join, settle_at, settle, close_row, close_fields, after_field}
+use Rattle.code_law.specs.Machine.{marked, linked, field_step, step, whole, run, read_expression, go_on}
 use Rattle.code_law.specs.Law.{HasNoBody, HasNoBodyForm, HasNoBodyExs, HasNoBodyLink, HasNoBodyLinkForm, HasNoBodyLinks, HasNoBodyOperands, HasNoBodyField, HasNoBodyFields, HasNoBodyArms}
 use Rattle.code_law.proofs.Ladder.{hold, tier, tier_ex, floor, rank_below, rank_most, tier_least, tier_of, turn_mark, open_first, open_more, join_opens, chain_ends, prefix_ends, last_ends, arrow_ends, ask_first, arrow_stands, links_end, type_ends}
 use Rattle.code_law.proofs.Embedded.{c_type}
@@ -238,7 +237,7 @@ mutual
   c_form (chain p e no_operand) i h b k a = no_true (h.2)
   c_form (chain p e (more_operand os o)) i h b k a =
       λ l s. c_operands (more_operand os o) p e i k (h.0) (start-of e i (h.1))
-          (c_ex e i (h.1) (b.0) k (let t = tier_least e in let r = h.0 in let q = rank_below p in omega arith)) (h.3) (b.1) a l (omega arith)
+      (c_ex e i (h.1) (b.0) k (let t = tier_least e in let r = h.0 in let q = rank_below p in omega arith)) (h.3) (b.1) a l (omega arith)
   c_form (cond no_arm e) i h b k a = no_true (h.0)
   c_form (cond (more_arm hs y) e) i h b k a =
       λ l s. let q = more_arm hs y in let j = stop_arms q i in let z = stop_ex e j in

@@ -1,14 +1,14 @@
 -- Types inside expressions are read by the machine of types, as it stands.
-use Rattle.std.proofs.Common.{◌≡◌, refl, ◌∙◌, ap, ℕ, suc, Bool, true, false, [], ◌∷◌}
+use Rattle.std.proofs.Common.{◌≡◌, refl, ◌∙◌, ap, ℕ, suc, true, false, [], ◌∷◌}
 use Rattle.js_token.specs.declared.token.TokenKind.{TokenKind}
 use Rattle.js_grammar.specs.Types.{Ty, has_fun}
 use Rattle.js_grammar.specs.TypeSpelling.{Tokens, spell}
 use Rattle.js_grammar.specs.TypeFits.{stop, Fits}
 use Rattle.js_grammar.specs.Machine as ty
 use Rattle.js_grammar.specs.Machine.{first, end_mark}
-use Rattle.js_grammar.proofs.Complete.{goes_on, MayStand, reads_spelling}
+use Rattle.js_grammar.proofs.Complete.{goes_on, reads_spelling}
 use Rattle.js_grammar.proofs.Kept.{FitsMode, FitsStep, kept}
-use Rattle.code_law.specs.Frames.{Waiting, Stack, Mode, typing}
+use Rattle.code_law.specs.Frames.{Waiting, Stack, typing}
 use Rattle.code_law.specs.Machine.{after_type, takes_function, inside, Outcome, faulty, resume, run, go_on}
 
 module _ (z : ℕ) (k : Stack) (w : Waiting) where

@@ -1,15 +1,14 @@
 -- How tight a token binds, and which open forms it ends.
-use Rattle.std.proofs.Common.{◌≡◌, refl, sym, ◌∙◌, ap, ℕ, suc, ◌<◌, ◌≤◌, nat_lt, nat_le, nat_eq, Bool, true, false, [], ◌∷◌, if◌then◌else◌, arith}
+use Rattle.std.proofs.Common.{◌≡◌, refl, ℕ, suc, ◌<◌, ◌≤◌, nat_lt, nat_le, nat_eq, true, false, ◌∷◌, arith}
 use Rattle.std.proofs.lemmas.Bool.Decides.{nat_tests}
-use Rattle.std.specs.Str.{bytes_eq}
 use Rattle.js_token.specs.declared.token.TokenKind.{TokenKind}
-use Rattle.js_token.specs.declared.token.TokenKind.TheVariants.{Name, Punct}
+use Rattle.js_token.specs.declared.token.TokenKind.TheVariants.{Punct}
 use Rattle.js_token.specs.declared.punct.Punct.TheVariants.{OpenParen, OpenBracket, Dot, Arrow as ArrowMark, Bar}
 use Rattle.js_grammar.specs.Code.{Prefixes, Level, nullish_level, or_level, and_level, equal_level, relation_level, sum_level, product_level, rank, operand_rank, Operator, nullish, or, and, strict_equal, strict_not_equal, loose_equal, loose_not_equal, less, greater, less_or_equal, greater_or_equal, add, subtract, multiply, divide, remainder, Ex, ex, ExForm, prefixed, chain, cond, arrow, form_rank, ex_rank, Links, Operands, no_operand, more_operand, operand, right_side, Arms, no_arm, Sig, arrow_value}
 use Rattle.js_grammar.specs.CodeSpelling.{mark_of}
 use Rattle.js_grammar.proofs.Complete.{goes_on}
 use Rattle.code_law.specs.Frames.{in_prefix, in_chain, in_last, in_branch, in_arrow, Stack, go, want, start_ex, start_sig}
-use Rattle.code_law.specs.Ladder.{Joint, applies, casts, Turn, joins, asks, sticks, ends, turn, joint_level, ask, begin, open_chain, join, settle_at, settle}
+use Rattle.code_law.specs.Ladder.{Joint, applies, Turn, joins, asks, sticks, ends, turn, joint_level, ask, begin, open_chain, join, settle_at, settle}
 use Rattle.code_law.specs.Machine.{may_arrow, links_step, linked}
 
 -- the least rank of an expression that the token doesn't go on

@@ -1,13 +1,11 @@
 -- An arrow's parameters and result are read as such.
-use Rattle.std.proofs.Common.{◌≡◌, refl, sym, ◌∙◌, ap, ap₂, ℕ, suc, Bool, true, false, Option, Some, None, [], ◌∷◌, if◌then◌else◌}
-use Rattle.js_token.specs.Words.{is_reserved}
-use Rattle.js_token.specs.declared.token.TokenKind.{TokenKind}
+use Rattle.std.proofs.Common.{◌≡◌, refl, sym, ◌∙◌, ap, ap₂, ℕ, suc, Bool, true, false, Option, Some, None, [], ◌∷◌}
 use Rattle.js_token.specs.declared.token.TokenKind.TheVariants.{Name, Punct}
 use Rattle.js_token.specs.declared.punct.Punct.TheVariants.{CloseParen, Comma, Colon, Question, Arrow as ArrowMark}
 use Rattle.js_grammar.specs.Words.{Bytes, IsName}
-use Rattle.js_grammar.specs.Types.{Ty, has_fun}
+use Rattle.js_grammar.specs.Types.{Ty}
 use Rattle.js_grammar.specs.TypeSpelling.{Tokens, opt, spell}
-use Rattle.js_grammar.specs.TypeFits.{bump, stop, Fits, CommaFits}
+use Rattle.js_grammar.specs.TypeFits.{bump, stop, CommaFits}
 use Rattle.js_grammar.specs.Machine as ty
 use Rattle.js_grammar.specs.Machine.{first}
 use Rattle.js_grammar.specs.Code.{Parameter, parameter, Parameters, no_parameter, more_parameter, has_parameters, Sig, sig}
@@ -15,8 +13,8 @@ use Rattle.js_grammar.specs.CodeSpelling.{spell_annotation, spell_parameter, spe
 use Rattle.js_grammar.specs.CodePlaces.{stop_annotation, stop_parameter, stop_named, stop_parameters, stop_sig}
 use Rattle.js_grammar.specs.CodeFits.{FitsAnnotation, FitsParameter, FitsParameters, FitsSig, AllTyped, IsPlainResult, IsArrowSig, is_some}
 use Rattle.js_grammar.proofs.Complete.{goes_on}
-use Rattle.code_law.specs.Frames.{parameter_type, result_type, in_arrow, Mode, want, paren_start, parameter_start, parameters_end, body_start, typing, Stack, Step, go}
-use Rattle.code_law.specs.Machine.{may_arrow, after_parameter, Outcome, resume, run, go_on}
+use Rattle.code_law.specs.Frames.{parameter_type, result_type, in_arrow, Mode, want, paren_start, parameter_start, parameters_end, body_start, typing, Stack}
+use Rattle.code_law.specs.Machine.{may_arrow, after_parameter, run, go_on}
 use Rattle.code_law.proofs.Embedded.{c_type}
 
 no_true : {A : Type 0} → false ≡ true → A

@@ -1,11 +1,11 @@
 -- A whole expression and the token behind it: which open forms that token ends, and which it begins.
-use Rattle.std.specs.Prelude.{ℕ, suc, nat_lt, nat_le, nat_eq, Bool, true, false, [], ◌∷◌, codes, if◌then◌else◌}
+use Rattle.std.specs.Prelude.{ℕ, suc, nat_lt, nat_le, nat_eq, Bool, false, [], ◌∷◌, codes, if◌then◌else◌}
 use Rattle.std.specs.Str.{bytes_eq}
 use Rattle.js_token.specs.declared.token.TokenKind.{TokenKind}
 use Rattle.js_token.specs.declared.token.TokenKind.TheVariants.{Name, Punct}
 use Rattle.js_token.specs.declared.punct.Punct.TheVariants.{CloseBrace, OpenParen, CloseParen, OpenBracket, CloseBracket, Dot, Comma, Colon, Question, QuestionQuestion, Arrow as ArrowMark, StrictEqual, StrictNotEqual, LooseEqual, LooseNotEqual, LessThan, GreaterThan, LessOrEqual, GreaterOrEqual, Plus, Minus, Star, Slash, Percent, AndAnd, OrOr, Bar}
 use Rattle.js_grammar.specs.Machine as ty
-use Rattle.js_grammar.specs.Code.{Level, rank, operand_rank, relation_level, Operator, nullish, or, and, strict_equal, strict_not_equal, loose_equal, loose_not_equal, less, greater, less_or_equal, greater_or_equal, add, subtract, multiply, divide, remainder, level_of, Ex, ex, form_rank, parens, elements, fields, prefixed, chain, cond, arrow, Exs, more_ex, Links, no_link, more_link, link, index, call, Operands, no_operand, more_operand, operand, right_side, Fields, more_field, field, valued, no_arm, more_arm, arm, arrow_value}
+use Rattle.js_grammar.specs.Code.{Level, rank, operand_rank, relation_level, Operator, nullish, or, and, strict_equal, strict_not_equal, loose_equal, loose_not_equal, less, greater, less_or_equal, greater_or_equal, add, subtract, multiply, divide, remainder, level_of, Ex, ex, form_rank, parens, elements, fields, prefixed, chain, cond, arrow, Exs, more_ex, no_link, more_link, link, index, call, Operands, no_operand, more_operand, operand, right_side, Fields, more_field, field, valued, no_arm, more_arm, arm, arrow_value}
 use Rattle.code_law.specs.Frames.{Row, array_row, call_row, cast_type, in_prefix, in_chain, in_last, in_branch, in_parens, in_row, in_index, in_field, in_arrow, Mode, want, after_links, row_start, fields_start, typing, Stack, Step, fault, go, done, start_ex, start_sig, start_key}
 
 -- what stands between two operands: an operator, or `as` before a type
