@@ -9,7 +9,8 @@ use Rattle.js_grammar.specs.Machine.{first, end_mark}
 use Rattle.js_grammar.proofs.Complete.{goes_on, reads_spelling}
 use Rattle.js_grammar.proofs.Kept.{FitsMode, FitsStep, kept}
 use Rattle.code_law.specs.Frames.{Waiting, Stack, typing}
-use Rattle.code_law.specs.Machine.{after_type, takes_function, inside, Outcome, faulty, resume, run, go_on}
+use Rattle.code_law.specs.Expressions.{after_type, takes_function, inside}
+use Rattle.code_law.specs.Machine.{Outcome, faulty, resume, run, go_on}
 
 module _ (z : ℕ) (k : Stack) (w : Waiting) where
   -- what reading a type that begins at z comes to

@@ -9,7 +9,7 @@ use Rattle.js_grammar.specs.CodeSpelling.{mark_of}
 use Rattle.js_grammar.proofs.Complete.{goes_on}
 use Rattle.code_law.specs.Frames.{in_prefix, in_chain, in_last, in_branch, in_arrow, Stack, go, want, start_ex, start_sig}
 use Rattle.code_law.specs.Ladder.{Joint, applies, Turn, joins, asks, sticks, ends, turn, joint_level, ask, begin, open_chain, join, settle_at, settle}
-use Rattle.code_law.specs.Machine.{may_arrow, links_step, linked}
+use Rattle.code_law.specs.Expressions.{may_arrow, links_step, linked}
 
 -- the least rank of an expression that the token doesn't go on
 abbrev pub hold : Turn → ℕ

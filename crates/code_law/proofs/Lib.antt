@@ -2,4 +2,4 @@ pub mod Ladder
 pub mod Embedded
 pub mod Begins
 pub mod Parameters
-pub mod Complete
+pub mod Statements

@@ -1,23 +1,37 @@
--- What has been read of an expression so far: a stack of open forms and a mode.
-use Rattle.std.specs.Prelude.{ℕ, Bool, List}
+-- What has been read of expressions and statements so far: a stack of open forms and a mode.
+use Rattle.std.specs.Prelude.{ℕ, Bool, List, Option}
 use Rattle.js_grammar.specs.Words.{Bytes}
-use Rattle.js_grammar.specs.Types.{Key, key}
+use Rattle.js_grammar.specs.Types.{Key, key, Ty}
 use Rattle.js_grammar.specs.Machine as ty
-use Rattle.js_grammar.specs.Code.{Prefixes, Level, Operator, Ex, ex, Exs, Links, Operands, Fields, Arms, Sig, sig, Parameters}
+use Rattle.js_grammar.specs.Code.{Prefixes, Level, Operator, Binder, Ex, ex, Exs, Links, Operands, Fields, Arms, Function, function, Sig, sig, Parameters, Block, block, Stmts, Simple, simple, Branches}
 
 -- a list in brackets, with the place of the first: the elements of an array, or the arguments of a call, behind an expression and its links
 pub data Row : Type 0 where
   array_row : ℕ → Row
   call_row : Ex → Links → ℕ → Row
 
+-- whose parameters they are: an arrow's, or those of a function that is a statement or not, with its place and its name
+pub data Owner : Type 0 where
+  of_arrow : Owner
+  of_function : Bool → ℕ → Option Bytes → Owner
+
+-- what is done with an expression that is all of a simple statement, or the right side of an assignment
+pub data Verb : Type 0 where
+  returns : Verb
+  throws : Verb
+  assigns : Ex → Verb
+  evaluates : Verb
+
 -- a type that is read: of a parameter, behind the place of `(`, the parameters before it, its place, its name and a question mark
--- or not; of an arrow's result; or behind `as`, in a chain that began at a place, with its first expression, its operands and the place of `as`
+-- or not; of a result; of a declaration; or behind `as`, in a chain that began at a place, with its first expression, its operands
+-- and the place of `as`
 pub data Waiting : Type 0 where
-  parameter_type : ℕ → Parameters → ℕ → Bytes → Bool → Waiting
-  result_type : ℕ → Parameters → Bool → Waiting
+  parameter_type : Owner → ℕ → Parameters → ℕ → Bytes → Bool → Waiting
+  result_type : Owner → ℕ → Parameters → Bool → Waiting
+  declared_type : ℕ → Binder → Bytes → Waiting
   cast_type : ℕ → Ex → Operands → ℕ → Waiting
 
--- A form that waits for an expression, with the place where it begins.
+-- A form that waits for an expression, a body or a statement, with the place where it begins.
 pub data Frame : Type 0 where
   in_prefix : ℕ → Prefixes → Frame
   -- the operands so far, and the operator behind them at its place
@@ -30,6 +44,16 @@ pub data Frame : Type 0 where
   in_index : Ex → Links → ℕ → Frame
   in_field : ℕ → Fields → Key → Frame
   in_arrow : Sig → Frame
+  in_simple : ℕ → Verb → Frame
+  in_declaration : ℕ → Binder → Bytes → Option Ty → Frame
+  -- an `if` at the second place, behind the branches of a statement that began at the first
+  in_if_test : ℕ → Branches → ℕ → Frame
+  in_loop_test : ℕ → Frame
+  in_if : ℕ → Branches → ℕ → Ex → Frame
+  in_else : ℕ → Branches → Frame
+  in_loop : ℕ → Ex → Frame
+  in_function : Bool → ℕ → Option Bytes → Sig → Frame
+  in_block : ℕ → Stmts → Frame
 
 -- What may come next. A word behind `(` may be a parameter's or a variable, also with `?` behind it: the token behind it tells.
 pub data Mode : Type 0 where
@@ -43,11 +67,25 @@ pub data Mode : Type 0 where
   paren_start : ℕ → Mode
   paren_word : ℕ → ℕ → Bytes → Mode
   paren_mark : ℕ → ℕ → Bytes → ℕ → Mode
-  parameter_start : ℕ → Parameters → Mode
-  parameter_word : ℕ → Parameters → ℕ → Bytes → Mode
-  parameter_mark : ℕ → Parameters → ℕ → Bytes → Mode
-  parameters_end : ℕ → Parameters → Bool → Mode
-  body_start : Mode
+  function_start : Bool → ℕ → Mode
+  parameters_open : Owner → Mode
+  parameter_start : Owner → ℕ → Parameters → Mode
+  parameter_word : Owner → ℕ → Parameters → ℕ → Bytes → Mode
+  parameter_mark : Owner → ℕ → Parameters → ℕ → Bytes → Mode
+  parameters_end : Owner → ℕ → Parameters → Bool → Mode
+  arrow_start : Mode
+  -- an expression that no link follows
+  settled : Ex → Mode
+  statements_start : ℕ → Stmts → Mode
+  after_binder : ℕ → Binder → Mode
+  after_declared : ℕ → Binder → Bytes → Mode
+  after_return : ℕ → Mode
+  after_simple : Simple → Mode
+  after_if : ℕ → Branches → ℕ → Mode
+  after_while : ℕ → Mode
+  want_body : Mode
+  after_branch : ℕ → Branches → Mode
+  after_else : ℕ → Branches → Mode
   typing : Waiting → ty.Stack → ty.Mode → Mode
 
 abbrev pub Stack : Type 0
@@ -68,3 +106,12 @@ start_sig (sig f t ps c r) = f
 
 abbrev pub start_key : Key → ℕ
 start_key (key f t y) = f
+
+abbrev pub start_function : Function → ℕ
+start_function (function f t n g b) = f
+
+abbrev pub start_block : Block → ℕ
+start_block (block f t ss) = f
+
+abbrev pub start_simple : Simple → ℕ
+start_simple (simple f t x) = f

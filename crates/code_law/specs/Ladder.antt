@@ -3,10 +3,11 @@ use Rattle.std.specs.Prelude.{ℕ, suc, nat_lt, nat_le, nat_eq, Bool, false, [],
 use Rattle.std.specs.Str.{bytes_eq}
 use Rattle.js_token.specs.declared.token.TokenKind.{TokenKind}
 use Rattle.js_token.specs.declared.token.TokenKind.TheVariants.{Name, Punct}
-use Rattle.js_token.specs.declared.punct.Punct.TheVariants.{CloseBrace, OpenParen, CloseParen, OpenBracket, CloseBracket, Dot, Comma, Colon, Question, QuestionQuestion, Arrow as ArrowMark, StrictEqual, StrictNotEqual, LooseEqual, LooseNotEqual, LessThan, GreaterThan, LessOrEqual, GreaterOrEqual, Plus, Minus, Star, Slash, Percent, AndAnd, OrOr, Bar}
+use Rattle.js_token.specs.declared.punct.Punct.TheVariants.{CloseBrace, OpenParen, CloseParen, OpenBracket, CloseBracket, Dot, Comma, Semicolon, Colon, Question, QuestionQuestion, Arrow as ArrowMark, StrictEqual, StrictNotEqual, LooseEqual, LooseNotEqual, LessThan, GreaterThan, LessOrEqual, GreaterOrEqual, Plus, Minus, Star, Slash, Percent, AndAnd, OrOr, Bar}
 use Rattle.js_grammar.specs.Machine as ty
-use Rattle.js_grammar.specs.Code.{Level, rank, operand_rank, relation_level, Operator, nullish, or, and, strict_equal, strict_not_equal, loose_equal, loose_not_equal, less, greater, less_or_equal, greater_or_equal, add, subtract, multiply, divide, remainder, level_of, Ex, ex, form_rank, parens, elements, fields, prefixed, chain, cond, arrow, Exs, more_ex, no_link, more_link, link, index, call, Operands, no_operand, more_operand, operand, right_side, Fields, more_field, field, valued, no_arm, more_arm, arm, arrow_value}
-use Rattle.code_law.specs.Frames.{Row, array_row, call_row, cast_type, in_prefix, in_chain, in_last, in_branch, in_parens, in_row, in_index, in_field, in_arrow, Mode, want, after_links, row_start, fields_start, typing, Stack, Step, fault, go, done, start_ex, start_sig, start_key}
+use Rattle.js_grammar.specs.Code.{Level, rank, operand_rank, relation_level, Operator, nullish, or, and, strict_equal, strict_not_equal, loose_equal, loose_not_equal, less, greater, less_or_equal, greater_or_equal, add, subtract, multiply, divide, remainder, level_of, Ex, ex, form_rank, parens, elements, fields, prefixed, chain, cond, arrow, Exs, more_ex, no_link, more_link, link, index, call, Operands, no_operand, more_operand, operand, right_side, Fields, more_field, field, valued, no_arm, more_arm, arm, arrow_value, stmt, declares, declaration}
+use Rattle.code_law.specs.Frames.{Row, array_row, call_row, cast_type, in_prefix, in_chain, in_last, in_branch, in_parens, in_row, in_index, in_field, in_arrow, in_simple, in_declaration, in_if_test, in_loop_test, in_if, in_loop, Mode, want, after_links, row_start, fields_start, want_body, typing, Stack, Step, fault, go, done, start_ex, start_sig, start_key}
+use Rattle.code_law.specs.Bodies.{give_stmt, end_value}
 
 -- what stands between two operands: an operator, or `as` before a type
 pub data Joint : Type 0 where
@@ -85,6 +86,14 @@ close i (in_row r es ∷ k) e x = after_item i k r (more_ex es e) x
 close i (in_index b ls s ∷ k) e (Punct CloseBracket) = go k (after_links b (more_link ls (link s (suc i) (index e))))
 close i (in_index b ls s ∷ k) e _ = fault
 close i (in_field s fs y ∷ k) e x = after_field i k s (more_field fs (field (start_key y) i (valued y e))) x
+close i (in_simple s v ∷ k) e x = end_value i k s v e x
+close i (in_declaration s w n a ∷ k) e (Punct Semicolon) = give_stmt k (stmt s (suc i) (declares (declaration s i w n a e)))
+close i (in_declaration s w n a ∷ k) e _ = fault
+close i (in_if_test s bs a ∷ k) e (Punct CloseParen) = go (in_if s bs a e ∷ k) want_body
+close i (in_if_test s bs a ∷ k) e _ = fault
+close i (in_loop_test s ∷ k) e (Punct CloseParen) = go (in_loop s e ∷ k) want_body
+close i (in_loop_test s ∷ k) e _ = fault
+close i (f ∷ k) e x = fault
 
 -- the expression is a test, and `?` stands behind it
 abbrev pub ask : ℕ → Stack → Ex → Step

@@ -1,4 +1,7 @@
 pub mod Frames
+pub mod Bodies
 pub mod Ladder
+pub mod Expressions
+pub mod Statements
 pub mod Machine
 pub mod Law

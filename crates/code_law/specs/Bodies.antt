@@ -1,0 +1,46 @@
+-- A whole statement, block or body, and the form that waits for it.
+use Rattle.std.specs.Prelude.{ℕ, suc, Bool, true, false, ◌∷◌, if◌then◌else◌}
+use Rattle.js_token.specs.declared.token.TokenKind.{TokenKind}
+use Rattle.js_token.specs.declared.token.TokenKind.TheVariants.{Punct}
+use Rattle.js_token.specs.declared.punct.Punct.TheVariants.{Semicolon, Assign}
+use Rattle.js_grammar.specs.Code.{Ex, ex, function_ex, arrow, no_link, Function, function, arrow_block, Block, more_stmt, Stmt, stmt, function_stmt, does, branches, loop, nested, Simple, simple, SimpleForm, return_value, throw_value, assign, evaluate, Body, block_body, simple_body, branch, more_branch, else_body, is_target}
+use Rattle.code_law.specs.Frames.{Verb, returns, throws, assigns, evaluates, in_arrow, in_simple, in_if, in_else, in_loop, in_function, in_block, want, after_links, settled, statements_start, after_branch, Stack, Step, fault, go, start_sig, start_function, start_block, start_simple}
+
+abbrev pub give_stmt : Stack → Stmt → Step
+give_stmt (in_block s ss ∷ k) y = go k (statements_start s (more_stmt ss y))
+give_stmt k y = fault
+
+-- Each has the place behind what is whole.
+abbrev pub give_body : ℕ → Stack → Body → Step
+give_body i (in_loop s e ∷ k) b = give_stmt k (stmt s i (loop e b))
+give_body i (in_if s bs a e ∷ k) b = go k (after_branch s (more_branch bs (branch a i e b)))
+give_body i (in_else s bs ∷ k) b = give_stmt k (stmt s i (branches bs (else_body b)))
+give_body i k b = fault
+
+-- a function that is a statement or not
+abbrev pub give_function : ℕ → Stack → Bool → Function → Step
+give_function i k true f = give_stmt k (stmt (start_function f) i (function_stmt f))
+give_function i k false f = go k (after_links (ex (start_function f) i (function_ex f)) no_link)
+
+abbrev pub give_block : ℕ → Stack → Block → Step
+give_block i (in_function q s n g ∷ k) b = give_function i k q (function s i n g b)
+give_block i (in_arrow g ∷ k) b = go k (settled (ex (start_sig g) i (arrow g (arrow_block b))))
+give_block i (in_block s ss ∷ k) b = give_stmt (in_block s ss ∷ k) (stmt (start_block b) i (nested b))
+give_block i k b = give_body i k (block_body b)
+
+-- the semicolon at i stands behind a simple statement
+abbrev pub end_simple : ℕ → Stack → Simple → Step
+end_simple i (in_block s ss ∷ k) y = give_stmt (in_block s ss ∷ k) (stmt (start_simple y) (suc i) (does y))
+end_simple i k y = give_body (suc i) k (simple_body y)
+
+abbrev pub verb_form : Verb → Ex → SimpleForm
+verb_form returns e = return_value e
+verb_form throws e = throw_value e
+verb_form (assigns a) e = assign a e
+verb_form evaluates e = evaluate e
+
+-- the token at i stands behind the expression of a simple statement
+abbrev pub end_value : ℕ → Stack → ℕ → Verb → Ex → TokenKind → Step
+end_value i k s v e (Punct Semicolon) = end_simple i k (simple s i (verb_form v e))
+end_value i k s evaluates e (Punct Assign) = if is_target e then go (in_simple s (assigns e) ∷ k) want else fault
+end_value i k s v e _ = fault
