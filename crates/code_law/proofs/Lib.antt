@@ -3,3 +3,4 @@ pub mod Embedded
 pub mod Begins
 pub mod Parameters
 pub mod Statements
+pub mod Complete

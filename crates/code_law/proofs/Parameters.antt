@@ -2,7 +2,7 @@
 use Rattle.std.proofs.Common.{◌≡◌, refl, sym, ◌∙◌, ap, ap₂, ℕ, suc, Bool, true, false, Option, Some, None, [], ◌∷◌}
 use Rattle.js_token.specs.declared.token.TokenKind.{TokenKind}
 use Rattle.js_token.specs.declared.token.TokenKind.TheVariants.{Name, Punct}
-use Rattle.js_token.specs.declared.punct.Punct.TheVariants.{OpenBrace, OpenParen, CloseParen, Comma, Colon, Question, Arrow as ArrowMark}
+use Rattle.js_token.specs.declared.punct.Punct.TheVariants.{OpenBrace, CloseParen, Comma, Colon, Question, Arrow as ArrowMark}
 use Rattle.js_grammar.specs.Words.{Bytes, IsName}
 use Rattle.js_grammar.specs.Types.{Ty}
 use Rattle.js_grammar.specs.TypeSpelling.{Tokens, opt, spell}
@@ -14,9 +14,9 @@ use Rattle.js_grammar.specs.CodeSpelling.{spell_annotation, spell_parameter, spe
 use Rattle.js_grammar.specs.CodePlaces.{stop_annotation, stop_parameter, stop_named, stop_parameters, stop_sig, stop_name}
 use Rattle.js_grammar.specs.CodeFits.{FitsAnnotation, FitsParameter, FitsParameters, FitsSig, AllTyped, IsPlainResult, IsArrowSig, FitsName, is_some}
 use Rattle.js_grammar.proofs.Complete.{goes_on}
-use Rattle.code_law.specs.Frames.{Owner, of_arrow, of_function, parameter_type, result_type, in_arrow, in_function, Mode, want, paren_start, function_start, parameters_open, parameter_start, parameter_word, parameters_end, arrow_start, statements_start, typing, Stack, Step, go}
+use Rattle.code_law.specs.Frames.{Owner, of_arrow, of_function, parameter_type, result_type, in_arrow, in_function, Mode, want, paren_start, function_start, parameters_open, parameter_start, parameter_word, parameters_end, arrow_start, statements_start, typing, Stack}
 use Rattle.code_law.specs.Expressions.{may_arrow, after_parameter, parameter_word_step}
-use Rattle.code_law.specs.Machine.{Outcome, resume, run, step, go_on}
+use Rattle.code_law.specs.Machine.{run, step, go_on}
 use Rattle.code_law.proofs.Embedded.{c_type}
 
 no_true : {A : Type 0} → false ≡ true → A
@@ -132,7 +132,7 @@ module _ (k : Stack) where
 
   c_function_result : (q : Bool) (b : ℕ) (m : Option Bytes) (ps : Parameters) (c : Bool) (r : Option Ty) (i j : ℕ) → FitsAnnotation r j → (l : Tokens) →
       run j k (parameters_end (of_function q b m) i ps c) (spell_annotation r (Punct OpenBrace ∷ l))
-        ≡ run (suc (stop_annotation r j)) (in_function q b m (sig i (stop_annotation r j) ps c r) ∷ k) (statements_start (stop_annotation r j) no_stmt) l
+      ≡ run (suc (stop_annotation r j)) (in_function q b m (sig i (stop_annotation r j) ps c r) ∷ k) (statements_start (stop_annotation r j) no_stmt) l
   c_function_result q b m ps c None i j h l = refl
   c_function_result q b m ps c (Some t) i j h l = c_type (suc j) k (result_type (of_function q b m) i ps c) t h (λ g. refl) (Punct OpenBrace ∷ l) refl
 
@@ -160,5 +160,5 @@ module _ (k : Stack) where
   -- the whole of a function behind its word and before its body
   pub c_function_sig : (q : Bool) (n : Option Bytes) (g : Sig) (b : ℕ) → FitsName n → (q ≡ true → is_some n ≡ true) → FitsSig g (stop_name n (suc b)) → (l : Tokens) →
       run (suc b) k (function_start q b) (spell_name n (spell_sig g (Punct OpenBrace ∷ l)))
-        ≡ run (suc (stop_sig g (stop_name n (suc b)))) (in_function q b n g ∷ k) (statements_start (stop_sig g (stop_name n (suc b))) no_stmt) l
+      ≡ run (suc (stop_sig g (stop_name n (suc b)))) (in_function q b n g ∷ k) (statements_start (stop_sig g (stop_name n (suc b))) no_stmt) l
   c_function_sig q n g b h y f l = function_name q n h y b (suc b) g (Punct OpenBrace ∷ l) ∙ c_open q b n g (stop_name n (suc b)) f l

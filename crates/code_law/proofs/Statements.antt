@@ -1,20 +1,19 @@
 -- How statements begin, and what the words before them say.
-use Rattle.std.proofs.Common.{◌≡◌, refl, sym, ◌∙◌, ap, subst, ◌⊎◌, inl, inr, ℕ, suc, Bool, true, false, [], ◌∷◌, codes}
+use Rattle.std.proofs.Common.{◌≡◌, refl, sym, ◌∙◌, ap, subst, ◌⊎◌, inl, inr, ℕ, suc, Bool, true, false, ◌∷◌, codes}
 use Rattle.js_token.specs.declared.token.TokenKind.{TokenKind}
 use Rattle.js_token.specs.declared.token.TokenKind.TheVariants.{Name, Number, Str, Punct}
-use Rattle.js_token.specs.declared.punct.Punct.{Punct as Mark}
-use Rattle.js_token.specs.declared.punct.Punct.TheVariants.{OpenBrace, CloseBrace, OpenParen, Semicolon, Colon, Assign}
+use Rattle.js_token.specs.declared.punct.Punct.TheVariants.{OpenBrace, CloseBrace, Semicolon, Assign}
 use Rattle.js_grammar.specs.Words.{Bytes}
 use Rattle.js_grammar.specs.TypeSpelling.{Tokens}
 use Rattle.js_grammar.specs.Machine.{first}
-use Rattle.js_grammar.specs.Code.{Binder, const, let_word, Ex, Function, function, Block, block, Stmts, no_stmt, more_stmt, Stmt, stmt, declares, function_stmt, does, branches, loop, nested, declaration, Simple, simple, return_bare, return_value, throw_value, break_loop, continue_loop, assign, evaluate, block_body, simple_body, branch, Branches, no_branch, more_branch}
-use Rattle.js_grammar.specs.CodeSpelling.{spell_ex, spell_stmt, spell_stmts, spell_branch, spell_elses, spell_else}
-use Rattle.js_grammar.specs.CodeFits.{Context, BeginsNot, BeginsPlain, FitsEx, FitsStmt, FitsStmts}
-use Rattle.code_law.specs.Frames.{returns, evaluates, in_simple, in_else, in_block, Mode, want, statements_start, after_return, want_body, after_else, Stack, Step, go}
+use Rattle.js_grammar.specs.Code.{const, let_word, Ex, function, Block, block, Stmts, no_stmt, Stmt, stmt, declares, function_stmt, does, branches, loop, nested, declaration, Simple, simple, return_bare, return_value, throw_value, break_loop, continue_loop, assign, evaluate, block_body, simple_body, branch, Branches, no_branch, more_branch}
+use Rattle.js_grammar.specs.CodeSpelling.{spell_ex, spell_stmt, spell_branch, spell_elses, spell_else}
+use Rattle.js_grammar.specs.CodeFits.{Context, BeginsNot, BeginsPlain, FitsEx, FitsStmt}
+use Rattle.code_law.specs.Frames.{returns, evaluates, in_simple, in_else, in_block, Mode, want, statements_start, after_return, want_body, after_else, Stack, go}
 use Rattle.code_law.specs.Bodies.{give_body, give_block, end_simple}
 use Rattle.code_law.specs.Expressions.{want_step}
 use Rattle.code_law.specs.Statements.{StatementWord, binds, begins_function, if_word, else_word, while_word, return_word, throw_word, break_word, continue_word, plain_word, statement_word, simple_word, simple_step, block_word, is_else_word, is_else, after_else_word}
-use Rattle.code_law.specs.Machine.{step, Outcome, resume, run}
+use Rattle.code_law.specs.Machine.{step, run}
 use Rattle.code_law.proofs.Begins.{is_plain, opens_mark, opens, Starts, loose, starts_loose, leads, begin_with}
 
 no_true : {A : Type 0} → false ≡ true → A
