@@ -4,7 +4,7 @@
 
 ghost use Rattle.code_law.specs.Law.{SameSpellingSameExpression};
 
-/// Two expressions without function bodies that have one spelling are equal, their numbers too.
+/// Two expressions with one spelling are equal, their numbers too.
 pub fn one_expression()
     ensures { SameSpellingSameExpression }
 {}
