@@ -12,7 +12,7 @@ use Rattle.js_grammar.specs.Code.{Prefix, negation, minus_sign, plus_sign, kind_
 use Rattle.js_grammar.specs.CodeSpelling.{mark_of, prefix_token, binder_word, spell_prefixes, spell_annotation, spell_name, spell_sig, spell_ex, spell_ex_form, spell_exs, spell_listed, spell_link, spell_link_form, spell_links, spell_operands, spell_field, spell_fields, spell_entries, spell_arms, spell_block, spell_stmts, spell_stmt, spell_stmt_form, spell_simple, spell_simple_form, spell_body, spell_branch, spell_branches, spell_elses, spell_else}
 use Rattle.js_grammar.specs.CodePlaces.{stop_prefixes, stop_annotation, stop_name, stop_sig, stop_ex, stop_ex_form, stop_exs, stop_listed, stop_link, stop_link_form, stop_links, stop_operands, stop_field, stop_fields, stop_entries, stop_arms, stop_function, stop_stmts, stop_stmt, stop_stmt_form, stop_simple, stop_simple_form, stop_body, stop_branch, stop_branches, stop_elses, stop_else}
 use Rattle.js_grammar.specs.CodeFits.{Context, looping, body_context, FitsPrefixes, FitsAnnotation, FitsEx, FitsExForm, FitsExs, FitsLink, FitsLinkForm, FitsLinks, FitsOperands, FitsField, FitsFields, FitsArms, FitsSig, IsNamed, FitsFunction, FitsStmts, FitsStmt, FitsStmtForm, FitsSimple, FitsSimpleForm, FitsBody, FitsBranch, FitsBranches, FitsElse}
-use Rattle.code_law.specs.Frames.{Row, array_row, call_row, returns, throws, assigns, evaluates, cast_type, declared_type, in_prefix, in_chain, in_last, in_branch, in_parens, in_row, in_index, in_field, in_arrow, in_simple, in_declaration, in_if_test, in_loop_test, in_if, in_else, in_loop, in_function, in_block, Mode, want, after_links, row_start, fields_start, after_word, function_start, settled, statements_start, after_declared, want_body, after_branch, after_else, Stack, go, start_ex, start_sig, start_key}
+use Rattle.code_law.specs.Frames.{FunctionKind, is_value, is_statement, Row, array_row, call_row, returns, throws, assigns, evaluates, cast_type, declared_type, in_prefix, in_chain, in_last, in_branch, in_parens, in_row, in_index, in_field, in_arrow, in_simple, in_declaration, in_if_test, in_loop_test, in_if, in_else, in_loop, in_function, in_block, Mode, want, after_links, row_start, fields_start, after_word, function_start, settled, statements_start, after_declared, want_body, after_branch, after_else, Stack, go, start_ex, start_sig, start_key}
 use Rattle.code_law.specs.Bodies.{give_body, give_function, end_simple}
 use Rattle.code_law.specs.Ladder.{Joint, applies, casts, joins, ends, turn, joint_level, ask, begin, open_chain, join, settle_at, settle, close_row, close_fields, after_field}
 use Rattle.code_law.specs.Expressions.{marked, linked, field_step}
@@ -209,6 +209,13 @@ variable_read n h i k l = rw h refl
 abbrev behind : Function → Tokens → Tokens
 behind (function f t n g b) l = spell_name n (spell_sig g (spell_block b l))
 
+abbrev is_a_value : FunctionKind → Bool
+is_a_value is_value = true
+is_a_value q = false
+
+value_statement : is_value ≡ is_statement → ⊥
+value_statement e = let f : true ≡ false = ap is_a_value e in cc
+
 same_function : (n : Option Bytes) (g : Sig) (f a t e : ℕ) (b d : Block) → f ≡ a → t ≡ e → b ≡ d → function f t n g b ≡ function a e n g d
 same_function n g f a t e b d p q r = cc
 
@@ -270,7 +277,7 @@ mutual
   c_form (fields fs c) i h k a = λ l. c_fields fs c i (suc i) (h.0) (h.1) k l
   c_form (function_ex (function f t n g b)) i h k a =
       λ l. let j = stop_function (function f t n g b) i in
-      c_function (function f t n g b) i h false (λ e. no_true e) k l k (after_links (ex i j (function_ex (function f t n g b))) no_link)
+      c_function (function f t n g b) i h is_value (λ e. absurd (value_statement e)) k l k (after_links (ex i j (function_ex (function f t n g b))) no_link)
       (ap (λ p. go k (after_links (ex p j (function_ex (function f t n g b))) no_link)) (h.0))
   c_form (postfixed e no_link) i h k a = no_true (h.2)
   c_form (postfixed e (more_link ls y)) i h k a =
@@ -394,7 +401,7 @@ mutual
       ∙ ap (λ y. run (suc z) (in_last i (more_arm hs y) ∷ k) want l) (ap₂ (λ f t. arm f t d g) (start-of d j (h.1.3) ∙ sym (h.1.0)) (sym (h.1.1)))
 
   -- a function behind its word
-  c_function : (y : Function) (i : ℕ) → FitsFunction y i → (q : Bool) → (q ≡ true → IsNamed y) → (k : Stack) (l : Tokens) (d : Stack) (m : Mode) → give_function (stop_function y i) k q y ≡ go d m →
+  c_function : (y : Function) (i : ℕ) → FitsFunction y i → (q : FunctionKind) → (q ≡ is_statement → IsNamed y) → (k : Stack) (l : Tokens) (d : Stack) (m : Mode) → give_function (stop_function y i) k q y ≡ go d m →
       run (suc i) k (function_start q i) (behind y l) ≡ run (stop_function y i) d m l
   c_function (function f t n g (block a e ss)) i h q y k l d m r =
       let j = stop_sig g (stop_name n (suc i)) in let z = suc (stop_stmts ss (suc j)) in
@@ -423,7 +430,7 @@ mutual
       ∙ ap (λ y. run (suc z) k (statements_start s (more_stmt ss (stmt i (suc z) (declares y)))) l) (ap₂ (λ f t. declaration f t w n v d) (sym (h.0)) (sym (h.1)))
   c_stmt_form (function_stmt (function f t n g b)) c i h s ss k l e =
       let j = stop_function (function f t n g b) i in
-      c_function (function f t n g b) i (h.1) true (λ q. h.0) (in_block s ss ∷ k) l k (statements_start s (more_stmt ss (stmt i j (function_stmt (function f t n g b)))))
+      c_function (function f t n g b) i (h.1) is_statement (λ q. h.0) (in_block s ss ∷ k) l k (statements_start s (more_stmt ss (stmt i j (function_stmt (function f t n g b)))))
       (ap (λ p. go k (statements_start s (more_stmt ss (stmt p j (function_stmt (function f t n g b)))))) (h.1.0))
   c_stmt_form (does (simple f t x)) c i h s ss k l e =
       let j = suc (stop_simple_form x i) in

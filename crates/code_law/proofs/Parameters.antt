@@ -14,7 +14,7 @@ use Rattle.js_grammar.specs.CodeSpelling.{spell_annotation, spell_parameter, spe
 use Rattle.js_grammar.specs.CodePlaces.{stop_annotation, stop_parameter, stop_named, stop_parameters, stop_sig, stop_name}
 use Rattle.js_grammar.specs.CodeFits.{FitsAnnotation, FitsParameter, FitsParameters, FitsSig, AllTyped, IsPlainResult, IsArrowSig, FitsName, is_some}
 use Rattle.js_grammar.proofs.Complete.{goes_on}
-use Rattle.code_law.specs.Frames.{Owner, of_arrow, of_function, parameter_type, result_type, in_arrow, in_function, Mode, want, paren_start, function_start, parameters_open, parameter_start, parameter_word, parameters_end, arrow_start, statements_start, typing, Stack}
+use Rattle.code_law.specs.Frames.{FunctionKind, is_value, is_statement, is_default, Owner, of_arrow, of_function, parameter_type, result_type, in_arrow, in_function, Mode, want, paren_start, function_start, parameters_open, parameter_start, parameter_word, parameters_end, arrow_start, statements_start, typing, Stack}
 use Rattle.code_law.specs.Expressions.{may_arrow, after_parameter, parameter_word_step}
 use Rattle.code_law.specs.Machine.{run, step, go_on}
 use Rattle.code_law.proofs.Embedded.{c_type}
@@ -55,7 +55,7 @@ separator_goes (Punct CloseParen) h = refl
 separator_goes (Punct Comma) h = refl
 separator_goes x h = no_true h
 
-word_ends : (x : TokenKind) → is_separator x ≡ true → (i : ℕ) (k : Stack) (q : Bool) (b : ℕ) (m : Option Bytes) (s : ℕ) (ps : Parameters) (a : ℕ) (n : Bytes) →
+word_ends : (x : TokenKind) → is_separator x ≡ true → (i : ℕ) (k : Stack) (q : FunctionKind) (b : ℕ) (m : Option Bytes) (s : ℕ) (ps : Parameters) (a : ℕ) (n : Bytes) →
     parameter_word_step i k (of_function q b m) s ps a n x ≡ after_parameter k (of_function q b m) s (more_parameter ps (parameter a i n false None)) x
 word_ends (Punct Colon) h i k q b m s ps a n = no_true h
 word_ends (Punct Question) h i k q b m s ps a n = no_true h
@@ -76,7 +76,7 @@ module _ (k : Stack) where
   name_read (of_function q a m) may ps true n h i s l = rw h refl
   name_read (of_function q a m) may ps false n h i s l = rw h refl
 
-  word_read : (q : Bool) (b : ℕ) (m : Option Bytes) (ps : Parameters) (n : Bytes) → IsName n → (i s : ℕ) (l : Tokens) →
+  word_read : (q : FunctionKind) (b : ℕ) (m : Option Bytes) (ps : Parameters) (n : Bytes) → IsName n → (i s : ℕ) (l : Tokens) →
       run i k (begun (of_function q b m) s ps) (Name n ∷ l) ≡ run (suc i) k (parameter_word (of_function q b m) s ps i n) l
   word_read q b m ps n h i s l = rw h refl
 
@@ -130,7 +130,7 @@ module _ (k : Stack) where
   c_arrow_result ps c None i j h y l = refl
   c_arrow_result ps c (Some t) i j h y l = c_type (suc j) k (result_type of_arrow i ps c) t h (λ g. let a : false ≡ true = sym y ∙ g in no_true a) (Punct ArrowMark ∷ l) refl
 
-  c_function_result : (q : Bool) (b : ℕ) (m : Option Bytes) (ps : Parameters) (c : Bool) (r : Option Ty) (i j : ℕ) → FitsAnnotation r j → (l : Tokens) →
+  c_function_result : (q : FunctionKind) (b : ℕ) (m : Option Bytes) (ps : Parameters) (c : Bool) (r : Option Ty) (i j : ℕ) → FitsAnnotation r j → (l : Tokens) →
       run j k (parameters_end (of_function q b m) i ps c) (spell_annotation r (Punct OpenBrace ∷ l))
       ≡ run (suc (stop_annotation r j)) (in_function q b m (sig i (stop_annotation r j) ps c r) ∷ k) (statements_start (stop_annotation r j) no_stmt) l
   c_function_result q b m ps c None i j h l = refl
@@ -143,22 +143,24 @@ module _ (k : Stack) where
       c_parameters of_arrow may ps c (suc i) (h.2) (y.0) (h.3) i (spell_annotation r (Punct ArrowMark ∷ l)) ∙ c_arrow_result ps c r i j (h.4) (y.1) l
       ∙ ap (λ g. run (suc (stop_annotation r j)) (in_arrow g ∷ k) arrow_start l) (ap₂ (λ f t. sig f t ps c r) (sym (h.0)) (sym (h.1)))
 
-  c_open : (q : Bool) (b : ℕ) (m : Option Bytes) (g : Sig) (i : ℕ) → FitsSig g i → (l : Tokens) →
+  c_open : (q : FunctionKind) (b : ℕ) (m : Option Bytes) (g : Sig) (i : ℕ) → FitsSig g i → (l : Tokens) →
       run i k (parameters_open (of_function q b m)) (spell_sig g (Punct OpenBrace ∷ l)) ≡ run (suc (stop_sig g i)) (in_function q b m g ∷ k) (statements_start (stop_sig g i) no_stmt) l
   c_open q b m (sig f t ps c r) i h l =
       let j = suc (bump c (stop_parameters ps (suc i))) in
       c_parameters (of_function q b m) tt ps c (suc i) (h.2) tt (h.3) i (spell_annotation r (Punct OpenBrace ∷ l)) ∙ c_function_result q b m ps c r i j (h.4) l
       ∙ ap (λ g. run (suc (stop_annotation r j)) (in_function q b m g ∷ k) (statements_start (stop_annotation r j) no_stmt) l) (ap₂ (λ f t. sig f t ps c r) (sym (h.0)) (sym (h.1)))
 
-  function_name : (q : Bool) (n : Option Bytes) → FitsName n → (q ≡ true → is_some n ≡ true) → (b i : ℕ) (g : Sig) (l : Tokens) →
+  function_name : (q : FunctionKind) (n : Option Bytes) → FitsName n → (q ≡ is_statement → is_some n ≡ true) → (b i : ℕ) (g : Sig) (l : Tokens) →
       run i k (function_start q b) (spell_name n (spell_sig g l)) ≡ run (stop_name n i) k (parameters_open (of_function q b n)) (spell_sig g l)
-  function_name true None h y b i g l = no_true (y refl)
-  function_name false None h y b i (sig f t ps c r) l = refl
-  function_name true (Some n) h y b i g l = rw h refl
-  function_name false (Some n) h y b i g l = rw h refl
+  function_name is_statement None h y b i g l = no_true (y refl)
+  function_name is_value None h y b i (sig f t ps c r) l = refl
+  function_name is_default None h y b i (sig f t ps c r) l = refl
+  function_name is_statement (Some n) h y b i g l = rw h refl
+  function_name is_value (Some n) h y b i g l = rw h refl
+  function_name is_default (Some n) h y b i g l = rw h refl
 
   -- the whole of a function behind its word and before its body
-  pub c_function_sig : (q : Bool) (n : Option Bytes) (g : Sig) (b : ℕ) → FitsName n → (q ≡ true → is_some n ≡ true) → FitsSig g (stop_name n (suc b)) → (l : Tokens) →
+  pub c_function_sig : (q : FunctionKind) (n : Option Bytes) (g : Sig) (b : ℕ) → FitsName n → (q ≡ is_statement → is_some n ≡ true) → FitsSig g (stop_name n (suc b)) → (l : Tokens) →
       run (suc b) k (function_start q b) (spell_name n (spell_sig g (Punct OpenBrace ∷ l)))
       ≡ run (suc (stop_sig g (stop_name n (suc b)))) (in_function q b n g ∷ k) (statements_start (stop_sig g (stop_name n (suc b))) no_stmt) l
   c_function_sig q n g b h y f l = function_name q n h y b (suc b) g (Punct OpenBrace ∷ l) ∙ c_open q b n g (stop_name n (suc b)) f l

@@ -1,10 +1,11 @@
--- A whole statement, block or body, and the form that waits for it.
+-- A whole statement, block, body or item, and the form that waits for it.
 use Rattle.std.specs.Prelude.{ℕ, suc, Bool, true, false, ◌∷◌, if◌then◌else◌}
 use Rattle.js_token.specs.declared.token.TokenKind.{TokenKind}
 use Rattle.js_token.specs.declared.token.TokenKind.TheVariants.{Punct}
 use Rattle.js_token.specs.declared.punct.Punct.TheVariants.{Semicolon, Assign}
-use Rattle.js_grammar.specs.Code.{Ex, ex, function_ex, arrow, no_link, Function, function, arrow_block, Block, more_stmt, Stmt, stmt, function_stmt, does, branches, loop, nested, Simple, simple, SimpleForm, return_value, throw_value, assign, evaluate, Body, block_body, simple_body, branch, more_branch, else_body, is_target}
-use Rattle.code_law.specs.Frames.{Verb, returns, throws, assigns, evaluates, in_arrow, in_simple, in_if, in_else, in_loop, in_function, in_block, want, after_links, settled, statements_start, after_branch, Stack, Step, fault, go, start_sig, start_function, start_block, start_simple}
+use Rattle.js_grammar.specs.Code.{Ex, ex, function_ex, arrow, no_link, Function, function, arrow_block, Block, more_stmt, Stmt, stmt, function_stmt, does, branches, loop, nested, Simple, simple, SimpleForm, return_value, throw_value, assign, evaluate, Body, block_body, simple_body, branch, more_branch, else_body, is_target, Declaration, declares}
+use Rattle.js_grammar.specs.Items.{export_declaration, export_function, export_default_function, exports, declares_item, function_item, does_item, Item, item, Items, more_item, ItemForm}
+use Rattle.code_law.specs.Frames.{FunctionKind, is_value, is_statement, is_default, Wrap, plain_item, exported_item, in_item, items_start, Verb, returns, throws, assigns, evaluates, in_arrow, in_simple, in_if, in_else, in_loop, in_function, in_block, want, after_links, settled, statements_start, after_branch, Stack, Step, fault, go, start_sig, start_function, start_block, start_simple}
 
 abbrev pub give_stmt : Stack → Stmt → Step
 give_stmt (in_block s ss ∷ k) y = go k (statements_start s (more_stmt ss y))
@@ -17,10 +18,27 @@ give_body i (in_if s bs a e ∷ k) b = go k (after_branch s (more_branch bs (bra
 give_body i (in_else s bs ∷ k) b = give_stmt k (stmt s i (branches bs (else_body b)))
 give_body i k b = fault
 
--- a function that is a statement or not
-abbrev pub give_function : ℕ → Stack → Bool → Function → Step
-give_function i k true f = give_stmt k (stmt (start_function f) i (function_stmt f))
-give_function i k false f = go k (after_links (ex (start_function f) i (function_ex f)) no_link)
+abbrev pub give_item : ℕ → Stack → ℕ → Items → ItemForm → Step
+give_item i k a is x = go k (items_start (more_item is (item a i x)))
+
+abbrev pub wrap_declaration : Wrap → Declaration → ItemForm
+wrap_declaration plain_item d = declares_item d
+wrap_declaration exported_item d = exports (export_declaration d)
+
+abbrev pub wrap_function : Wrap → Function → ItemForm
+wrap_function plain_item f = function_item f
+wrap_function exported_item f = exports (export_function f)
+
+abbrev pub give_declaration : ℕ → Stack → ℕ → Declaration → Step
+give_declaration i (in_item a w is ∷ k) s d = give_item i k a is (wrap_declaration w d)
+give_declaration i k s d = give_stmt k (stmt s i (declares d))
+
+abbrev pub give_function : ℕ → Stack → FunctionKind → Function → Step
+give_function i (in_item a w is ∷ k) is_statement f = give_item i k a is (wrap_function w f)
+give_function i (in_item a w is ∷ k) is_default f = give_item i k a is (exports (export_default_function f))
+give_function i k is_statement f = give_stmt k (stmt (start_function f) i (function_stmt f))
+give_function i k is_default f = fault
+give_function i k is_value f = go k (after_links (ex (start_function f) i (function_ex f)) no_link)
 
 abbrev pub give_block : ℕ → Stack → Block → Step
 give_block i (in_function q s n g ∷ k) b = give_function i k q (function s i n g b)
@@ -31,6 +49,7 @@ give_block i k b = give_body i k (block_body b)
 -- the semicolon at i stands behind a simple statement
 abbrev pub end_simple : ℕ → Stack → Simple → Step
 end_simple i (in_block s ss ∷ k) y = give_stmt (in_block s ss ∷ k) (stmt (start_simple y) (suc i) (does y))
+end_simple i (in_item a w is ∷ k) y = give_item (suc i) k a is (does_item y)
 end_simple i k y = give_body (suc i) k (simple_body y)
 
 abbrev pub verb_form : Verb → Ex → SimpleForm

@@ -4,12 +4,14 @@ use Rattle.std.specs.Str.{bytes_eq}
 use Rattle.js_token.specs.Words.{is_reserved}
 use Rattle.js_token.specs.declared.token.TokenKind.{TokenKind}
 use Rattle.js_token.specs.declared.token.TokenKind.TheVariants.{Name, Number, Str, Punct}
-use Rattle.js_token.specs.declared.punct.Punct.TheVariants.{OpenBrace, CloseBrace, OpenParen, CloseParen, OpenBracket, CloseBracket, Dot, Comma, Colon, Question, Assign, Arrow as ArrowMark, Plus, Minus, Bang}
+use Rattle.js_token.specs.declared.punct.Punct.TheVariants.{OpenBrace, CloseBrace, OpenParen, CloseParen, OpenBracket, CloseBracket, Dot, Comma, Semicolon, Colon, Question, Assign, Arrow as ArrowMark, Plus, Minus, Bang}
 use Rattle.js_grammar.specs.Words.{Bytes}
 use Rattle.js_grammar.specs.Types.{word_key, text_key, Key, key, Ty}
 use Rattle.js_grammar.specs.Machine as ty
 use Rattle.js_grammar.specs.Code.{Prefix, negation, minus_sign, plus_sign, kind_of, no_prefix, more_prefix, relation_level, Ex, ex, variable, number, text, truth_value, null_value, postfixed, chain, Exs, no_ex, has_exs, Links, no_link, more_link, link, member, more_operand, operand, as_type, Fields, no_field, more_field, has_fields, field, shorthand, no_arm, Sig, sig, no_stmt, Parameters, no_parameter, more_parameter, has_parameters, parameter}
-use Rattle.code_law.specs.Frames.{Row, array_row, call_row, Owner, of_arrow, of_function, Waiting, parameter_type, result_type, declared_type, cast_type, in_prefix, in_chain, in_branch, in_parens, in_row, in_index, in_field, in_arrow, in_declaration, in_function, want, after_links, after_dot, row_start, fields_start, after_word, after_key, paren_start, paren_word, paren_mark, function_start, parameters_open, parameter_start, parameter_word, parameter_mark, parameters_end, arrow_start, statements_start, typing, Stack, Step, fault, go, start_ex}
+use Rattle.js_grammar.specs.Items.{AliasOf, alias, ItemForm, exports, export_alias, alias_item}
+use Rattle.code_law.specs.Bodies.{give_item}
+use Rattle.code_law.specs.Frames.{Row, array_row, call_row, Owner, of_arrow, of_function, Waiting, parameter_type, result_type, declared_type, alias_type, cast_type, FunctionKind, is_value, is_statement, is_default, Wrap, plain_item, exported_item, in_prefix, in_chain, in_branch, in_parens, in_row, in_index, in_field, in_arrow, in_declaration, in_function, want, after_links, after_dot, row_start, fields_start, after_word, after_key, paren_start, paren_word, paren_mark, function_start, parameters_open, parameter_start, parameter_word, parameter_mark, parameters_end, arrow_start, statements_start, typing, Stack, Step, fault, go, start_ex}
 use Rattle.code_law.specs.Ladder.{close_row, close_fields, after_field, settle}
 
 -- what a word is where an expression may begin
@@ -49,7 +51,7 @@ word_step i k n variable_word = go k (after_links (ex i (suc i) (variable n)) no
 word_step i k n null_word = go k (after_links (ex i (suc i) null_value) no_link)
 word_step i k n (truth_of b) = go k (after_links (ex i (suc i) (truth_value b)) no_link)
 word_step i k n kind_word = go (marked i kind_of k) want
-word_step i k n function_word = go k (function_start false i)
+word_step i k n function_word = go k (function_start is_value i)
 word_step i k n other_word = fault
 
 abbrev pub want_step : ℕ → Stack → TokenKind → Step
@@ -144,10 +146,10 @@ open_step i k o (Punct OpenParen) = go k (parameter_start o i no_parameter)
 open_step i k o _ = fault
 
 -- a function that is a statement has a name
-abbrev pub function_step : ℕ → Stack → Bool → ℕ → TokenKind → Step
+abbrev pub function_step : ℕ → Stack → FunctionKind → ℕ → TokenKind → Step
 function_step i k q s (Name n) = if is_reserved n then fault else go k (parameters_open (of_function q s (Some n)))
-function_step i k true s x = fault
-function_step i k false s x = open_step i k (of_function false s None) x
+function_step i k is_statement s x = fault
+function_step i k q s x = open_step i k (of_function q s None) x
 
 -- a signature is whole
 abbrev pub open_body : ℕ → Stack → Owner → Sig → TokenKind → Step
@@ -164,12 +166,18 @@ abbrev pub arrow_step : ℕ → Stack → TokenKind → Step
 arrow_step i k (Punct OpenBrace) = go k (statements_start i no_stmt)
 arrow_step i k x = want_step i k x
 
+abbrev pub wrap_alias : Wrap → AliasOf → ItemForm
+wrap_alias plain_item y = alias_item y
+wrap_alias exported_item y = exports (export_alias y)
+
 -- a type is whole, and the token comes after it
 abbrev pub after_type : ℕ → Stack → Waiting → Ty → TokenKind → Step
 after_type i k (parameter_type o s ps a n m) t x = after_parameter k o s (more_parameter ps (parameter a i n m (Some t))) x
 after_type i k (result_type o s ps c) t x = open_body i k o (sig s i ps c (Some t)) x
 after_type i k (declared_type s w n) t (Punct Assign) = go (in_declaration s w n (Some t) ∷ k) want
 after_type i k (declared_type s w n) t _ = fault
+after_type i k (alias_type a w is p n) t (Punct Semicolon) = give_item (suc i) k a is (wrap_alias w (alias p i n t))
+after_type i k (alias_type a w is p n) t _ = fault
 after_type i k (cast_type s e os d) t x = settle i k (ex s i (chain relation_level e (more_operand os (operand d i (as_type t))))) x
 
 -- whether a function type may stand outside brackets

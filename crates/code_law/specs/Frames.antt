@@ -1,19 +1,47 @@
--- What has been read of expressions and statements so far: a stack of open forms and a mode.
+-- What has been read of a module so far: a stack of open forms and a mode.
 use Rattle.std.specs.Prelude.{ℕ, Bool, List, Option}
 use Rattle.js_grammar.specs.Words.{Bytes}
 use Rattle.js_grammar.specs.Types.{Key, key, Ty}
 use Rattle.js_grammar.specs.Machine as ty
 use Rattle.js_grammar.specs.Code.{Prefixes, Level, Operator, Binder, Ex, ex, Exs, Links, Operands, Fields, Arms, Function, function, Sig, sig, Parameters, Block, block, Stmts, Simple, simple, Branches}
+use Rattle.js_grammar.specs.Items.{Importeds, more_imported, imported, ImportList, Exporteds, more_exported, exported, ExportList, ImportForm, ItemForm, Items}
 
 -- a list in brackets, with the place of the first: the elements of an array, or the arguments of a call, behind an expression and its links
 pub data Row : Type 0 where
   array_row : ℕ → Row
   call_row : Ex → Links → ℕ → Row
 
--- whose parameters they are: an arrow's, or those of a function that is a statement or not, with its place and its name
+-- a function as an expression, as a statement or an item, and behind `default`
+pub data FunctionKind : Type 0 where
+  is_value : FunctionKind
+  is_statement : FunctionKind
+  is_default : FunctionKind
+
+-- whether an item stands behind `export`
+pub data Wrap : Type 0 where
+  plain_item : Wrap
+  exported_item : Wrap
+
+-- what stands before a list of names in braces
+pub data Opening : Type 0 where
+  opens_names : Opening
+  opens_both : Bytes → Opening
+  opens_types : Opening
+  opens_exports : Bool → Opening
+
+-- the names of such a list so far
+pub data Names : Type 0 where
+  importing : Importeds → Names
+  exporting : Exporteds → Names
+
+-- where the item begins, the items before it, what stands before the list, and the place of its brace
+pub data Listing : Type 0 where
+  listing : ℕ → Items → Opening → ℕ → Names → Listing
+
+-- whose parameters they are: an arrow's, or a function's, with its place and its name
 pub data Owner : Type 0 where
   of_arrow : Owner
-  of_function : Bool → ℕ → Option Bytes → Owner
+  of_function : FunctionKind → ℕ → Option Bytes → Owner
 
 -- what is done with an expression that is all of a simple statement, or the right side of an assignment
 pub data Verb : Type 0 where
@@ -23,12 +51,13 @@ pub data Verb : Type 0 where
   evaluates : Verb
 
 -- a type that is read: of a parameter, behind the place of `(`, the parameters before it, its place, its name and a question mark
--- or not; of a result; of a declaration; or behind `as`, in a chain that began at a place, with its first expression, its operands
+-- or not; of a result; of a declaration; of an alias, with its item's place, the items before it, its place and its name; or behind `as`, in a chain that began at a place, with its first expression, its operands
 -- and the place of `as`
 pub data Waiting : Type 0 where
   parameter_type : Owner → ℕ → Parameters → ℕ → Bytes → Bool → Waiting
   result_type : Owner → ℕ → Parameters → Bool → Waiting
   declared_type : ℕ → Binder → Bytes → Waiting
+  alias_type : ℕ → Wrap → Items → ℕ → Bytes → Waiting
   cast_type : ℕ → Ex → Operands → ℕ → Waiting
 
 -- A form that waits for an expression, a body or a statement, with the place where it begins.
@@ -52,8 +81,10 @@ pub data Frame : Type 0 where
   in_if : ℕ → Branches → ℕ → Ex → Frame
   in_else : ℕ → Branches → Frame
   in_loop : ℕ → Ex → Frame
-  in_function : Bool → ℕ → Option Bytes → Sig → Frame
+  in_function : FunctionKind → ℕ → Option Bytes → Sig → Frame
   in_block : ℕ → Stmts → Frame
+  in_item : ℕ → Wrap → Items → Frame
+  in_default : ℕ → Items → Frame
 
 -- What may come next. A word behind `(` may be a parameter's or a variable, also with `?` behind it: the token behind it tells.
 pub data Mode : Type 0 where
@@ -67,7 +98,7 @@ pub data Mode : Type 0 where
   paren_start : ℕ → Mode
   paren_word : ℕ → ℕ → Bytes → Mode
   paren_mark : ℕ → ℕ → Bytes → ℕ → Mode
-  function_start : Bool → ℕ → Mode
+  function_start : FunctionKind → ℕ → Mode
   parameters_open : Owner → Mode
   parameter_start : Owner → ℕ → Parameters → Mode
   parameter_word : Owner → ℕ → Parameters → ℕ → Bytes → Mode
@@ -86,16 +117,37 @@ pub data Mode : Type 0 where
   want_body : Mode
   after_branch : ℕ → Branches → Mode
   after_else : ℕ → Branches → Mode
+  items_start : Items → Mode
+  -- behind `type` at a place, where an item begins; and behind `as` after it
+  after_type_word : ℕ → Items → Mode
+  after_type_as : ℕ → ℕ → Items → Mode
+  after_alias : ℕ → Wrap → Items → ℕ → Bytes → Mode
+  after_import : ℕ → Items → Mode
+  import_word : ℕ → Items → Bytes → Mode
+  import_comma : ℕ → Items → Bytes → Mode
+  names_start : Listing → Mode
+  after_name : Listing → ℕ → Bytes → Mode
+  after_as : Listing → ℕ → Bytes → Mode
+  after_pair : Listing → Mode
+  after_list : ℕ → Items → ImportForm → Mode
+  after_from : ℕ → Items → ImportForm → Mode
+  after_export : ℕ → Items → Mode
+  export_type : ℕ → Items → ℕ → Mode
+  after_exports : ℕ → Items → Bool → ExportList → Mode
+  exports_from : ℕ → Items → Bool → ExportList → Mode
+  after_default : ℕ → Items → Mode
+  item_end : ℕ → Items → ItemForm → Mode
   typing : Waiting → ty.Stack → ty.Mode → Mode
 
 abbrev pub Stack : Type 0
 Stack = List Frame
 
--- the token is no part of an expression here; the token is read; the expression ended before the token
+-- the token is no part of the form here; the token is read; the expression, or the items, ended before the token
 pub data Step : Type 0 where
   fault : Step
   go : Stack → Mode → Step
   done : Ex → Step
+  done_items : Items → Step
 
 -- where each begins
 abbrev pub start_ex : Ex → ℕ

@@ -5,9 +5,10 @@ use Rattle.js_token.specs.declared.token.TokenKind.{TokenKind}
 use Rattle.js_token.specs.declared.token.TokenKind.TheVariants.{Name, Punct}
 use Rattle.js_token.specs.declared.punct.Punct.TheVariants.{CloseBrace, OpenParen, CloseParen, OpenBracket, CloseBracket, Dot, Comma, Semicolon, Colon, Question, QuestionQuestion, Arrow as ArrowMark, StrictEqual, StrictNotEqual, LooseEqual, LooseNotEqual, LessThan, GreaterThan, LessOrEqual, GreaterOrEqual, Plus, Minus, Star, Slash, Percent, AndAnd, OrOr, Bar}
 use Rattle.js_grammar.specs.Machine as ty
-use Rattle.js_grammar.specs.Code.{Level, rank, operand_rank, relation_level, Operator, nullish, or, and, strict_equal, strict_not_equal, loose_equal, loose_not_equal, less, greater, less_or_equal, greater_or_equal, add, subtract, multiply, divide, remainder, level_of, Ex, ex, form_rank, parens, elements, fields, prefixed, chain, cond, arrow, Exs, more_ex, no_link, more_link, link, index, call, Operands, no_operand, more_operand, operand, right_side, Fields, more_field, field, valued, no_arm, more_arm, arm, arrow_value, stmt, declares, declaration}
-use Rattle.code_law.specs.Frames.{Row, array_row, call_row, cast_type, in_prefix, in_chain, in_last, in_branch, in_parens, in_row, in_index, in_field, in_arrow, in_simple, in_declaration, in_if_test, in_loop_test, in_if, in_loop, Mode, want, after_links, row_start, fields_start, want_body, typing, Stack, Step, fault, go, done, start_ex, start_sig, start_key}
-use Rattle.code_law.specs.Bodies.{give_stmt, end_value}
+use Rattle.js_grammar.specs.Code.{Level, rank, operand_rank, relation_level, Operator, nullish, or, and, strict_equal, strict_not_equal, loose_equal, loose_not_equal, less, greater, less_or_equal, greater_or_equal, add, subtract, multiply, divide, remainder, level_of, Ex, ex, form_rank, parens, elements, fields, prefixed, chain, cond, arrow, Exs, more_ex, no_link, more_link, link, index, call, Operands, no_operand, more_operand, operand, right_side, Fields, more_field, field, valued, no_arm, more_arm, arm, arrow_value, declaration}
+use Rattle.js_grammar.specs.Items.{exports, export_default}
+use Rattle.code_law.specs.Frames.{Row, array_row, call_row, cast_type, in_prefix, in_chain, in_last, in_branch, in_parens, in_row, in_index, in_field, in_arrow, in_simple, in_declaration, in_if_test, in_loop_test, in_if, in_loop, in_default, Mode, want, after_links, row_start, fields_start, want_body, typing, Stack, Step, fault, go, done, start_ex, start_sig, start_key}
+use Rattle.code_law.specs.Bodies.{give_item, give_declaration, end_value}
 
 -- what stands between two operands: an operator, or `as` before a type
 pub data Joint : Type 0 where
@@ -87,12 +88,14 @@ close i (in_index b ls s ∷ k) e (Punct CloseBracket) = go k (after_links b (mo
 close i (in_index b ls s ∷ k) e _ = fault
 close i (in_field s fs y ∷ k) e x = after_field i k s (more_field fs (field (start_key y) i (valued y e))) x
 close i (in_simple s v ∷ k) e x = end_value i k s v e x
-close i (in_declaration s w n a ∷ k) e (Punct Semicolon) = give_stmt k (stmt s (suc i) (declares (declaration s i w n a e)))
+close i (in_declaration s w n a ∷ k) e (Punct Semicolon) = give_declaration (suc i) k s (declaration s i w n a e)
 close i (in_declaration s w n a ∷ k) e _ = fault
 close i (in_if_test s bs a ∷ k) e (Punct CloseParen) = go (in_if s bs a e ∷ k) want_body
 close i (in_if_test s bs a ∷ k) e _ = fault
 close i (in_loop_test s ∷ k) e (Punct CloseParen) = go (in_loop s e ∷ k) want_body
 close i (in_loop_test s ∷ k) e _ = fault
+close i (in_default a is ∷ k) e (Punct Semicolon) = give_item (suc i) k a is (exports (export_default e))
+close i (in_default a is ∷ k) e _ = fault
 close i (f ∷ k) e x = fault
 
 -- the expression is a test, and `?` stands behind it

@@ -7,7 +7,7 @@ use Rattle.js_token.specs.declared.token.TokenKind.TheVariants.{Name, Punct}
 use Rattle.js_token.specs.declared.punct.Punct.TheVariants.{OpenBrace, CloseBrace, OpenParen, Semicolon, Colon, Assign}
 use Rattle.js_grammar.specs.Words.{Bytes}
 use Rattle.js_grammar.specs.Code.{Binder, const, let_word, block, Stmts, no_stmt, more_stmt, stmt, branches, Simple, simple, return_bare, break_loop, continue_loop, Branches, no_branch, no_else}
-use Rattle.code_law.specs.Frames.{returns, throws, evaluates, declared_type, in_simple, in_declaration, in_if_test, in_loop_test, in_else, in_block, want, function_start, statements_start, after_binder, after_declared, after_return, after_simple, after_if, after_while, after_else, Stack, Step, fault, go}
+use Rattle.code_law.specs.Frames.{is_statement, returns, throws, evaluates, declared_type, in_simple, in_declaration, in_if_test, in_loop_test, in_else, in_block, want, function_start, statements_start, after_binder, after_declared, after_return, after_simple, after_if, after_while, after_else, Stack, Step, fault, go}
 use Rattle.code_law.specs.Bodies.{give_block, end_simple}
 use Rattle.code_law.specs.Expressions.{want_step, typed}
 
@@ -22,6 +22,8 @@ pub data StatementWord : Type 0 where
   throw_word : StatementWord
   break_word : StatementWord
   continue_word : StatementWord
+  begins_import : StatementWord
+  begins_export : StatementWord
   plain_word : StatementWord
 
 abbrev pub reserved_statement : Bytes → StatementWord
@@ -36,6 +38,8 @@ reserved_statement n =
     else if bytes_eq n (codes "throw") then throw_word
     else if bytes_eq n (codes "break") then break_word
     else if bytes_eq n (codes "continue") then continue_word
+    else if bytes_eq n (codes "import") then begins_import
+    else if bytes_eq n (codes "export") then begins_export
     else plain_word
 
 abbrev pub statement_word : Bytes → StatementWord
@@ -56,7 +60,7 @@ simple_step i k x = want_step i (in_simple i evaluates ∷ k) x
 
 abbrev pub block_word : ℕ → Stack → Bytes → StatementWord → Step
 block_word i k n (binds w) = go k (after_binder i w)
-block_word i k n begins_function = go k (function_start true i)
+block_word i k n begins_function = go k (function_start is_statement i)
 block_word i k n if_word = go k (after_if i no_branch i)
 block_word i k n while_word = go k (after_while i)
 block_word i k n w = simple_word i k n w
