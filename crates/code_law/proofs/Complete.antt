@@ -8,12 +8,12 @@ use Rattle.js_grammar.specs.Types.{word_key, text_key, Key, key, Ty}
 use Rattle.js_grammar.specs.TypeSpelling.{Tokens, opt, spell, spell_key}
 use Rattle.js_grammar.specs.TypeFits.{bump, stop, FitsKey, CommaFits}
 use Rattle.js_grammar.specs.Machine.{first}
-use Rattle.js_grammar.specs.Code.{Prefix, negation, minus_sign, plus_sign, kind_of, Prefixes, no_prefix, more_prefix, Level, relation_level, rank, operand_rank, level_of, Operator, Binder, const, let_word, Sig, sig, primary_rank, Ex, ex, ExForm, variable, number, text, truth_value, null_value, parens, elements, fields, function_ex, postfixed, prefixed, chain, cond, arrow, Exs, no_ex, more_ex, Link, link, LinkForm, member, index, call, Links, no_link, more_link, operand, right_side, as_type, Operands, no_operand, more_operand, Field, field, shorthand, valued, Fields, no_field, more_field, arm, Arms, no_arm, more_arm, Function, function, arrow_block, arrow_value, Block, block, Stmts, no_stmt, more_stmt, Stmt, stmt, StmtForm, declares, function_stmt, does, branches, loop, nested, declaration, Simple, simple, SimpleForm, return_bare, return_value, throw_value, break_loop, continue_loop, assign, evaluate, Body, block_body, simple_body, Branch, branch, Branches, no_branch, more_branch, Else, no_else, else_body, has_exs, has_fields, has_branches, form_rank, ex_rank, is_cond, is_target}
+use Rattle.js_grammar.specs.Code.{Prefix, negation, minus_sign, plus_sign, kind_of, Prefixes, no_prefix, more_prefix, Level, relation_level, rank, operand_rank, level_of, Operator, Binder, const, let_word, Sig, sig, primary_rank, Ex, ex, ExForm, variable, number, text, truth_value, null_value, parens, elements, fields, function_ex, postfixed, prefixed, chain, cond, arrow, Exs, no_ex, more_ex, Link, link, LinkForm, member, index, call, Links, no_link, more_link, operand, right_side, as_type, Operands, no_operand, more_operand, Field, field, shorthand, valued, Fields, no_field, more_field, arm, Arms, no_arm, more_arm, Function, function, arrow_block, arrow_value, Block, block, Stmts, no_stmt, more_stmt, Stmt, stmt, StmtForm, declares, function_stmt, does, branches, loop, nested, Declaration, declaration, Simple, simple, SimpleForm, return_bare, return_value, throw_value, break_loop, continue_loop, assign, evaluate, Body, block_body, simple_body, Branch, branch, Branches, no_branch, more_branch, Else, no_else, else_body, has_exs, has_fields, has_branches, form_rank, ex_rank, is_cond, is_target}
 use Rattle.js_grammar.specs.CodeSpelling.{mark_of, prefix_token, binder_word, spell_prefixes, spell_annotation, spell_name, spell_sig, spell_ex, spell_ex_form, spell_exs, spell_listed, spell_link, spell_link_form, spell_links, spell_operands, spell_field, spell_fields, spell_entries, spell_arms, spell_block, spell_stmts, spell_stmt, spell_stmt_form, spell_simple, spell_simple_form, spell_body, spell_branch, spell_branches, spell_elses, spell_else}
-use Rattle.js_grammar.specs.CodePlaces.{stop_prefixes, stop_annotation, stop_name, stop_sig, stop_ex, stop_ex_form, stop_exs, stop_listed, stop_link, stop_link_form, stop_links, stop_operands, stop_field, stop_fields, stop_entries, stop_arms, stop_function, stop_stmts, stop_stmt, stop_stmt_form, stop_simple, stop_simple_form, stop_body, stop_branch, stop_branches, stop_elses, stop_else}
-use Rattle.js_grammar.specs.CodeFits.{Context, looping, body_context, FitsPrefixes, FitsAnnotation, FitsEx, FitsExForm, FitsExs, FitsLink, FitsLinkForm, FitsLinks, FitsOperands, FitsField, FitsFields, FitsArms, FitsSig, IsNamed, FitsFunction, FitsStmts, FitsStmt, FitsStmtForm, FitsSimple, FitsSimpleForm, FitsBody, FitsBranch, FitsBranches, FitsElse}
-use Rattle.code_law.specs.Frames.{FunctionKind, is_value, is_statement, Row, array_row, call_row, returns, throws, assigns, evaluates, cast_type, declared_type, in_prefix, in_chain, in_last, in_branch, in_parens, in_row, in_index, in_field, in_arrow, in_simple, in_declaration, in_if_test, in_loop_test, in_if, in_else, in_loop, in_function, in_block, Mode, want, after_links, row_start, fields_start, after_word, function_start, settled, statements_start, after_declared, want_body, after_branch, after_else, Stack, go, start_ex, start_sig, start_key}
-use Rattle.code_law.specs.Bodies.{give_body, give_function, end_simple}
+use Rattle.js_grammar.specs.CodePlaces.{stop_prefixes, stop_annotation, stop_name, stop_sig, stop_ex, stop_ex_form, stop_exs, stop_listed, stop_link, stop_link_form, stop_links, stop_operands, stop_field, stop_fields, stop_entries, stop_arms, stop_function, stop_declaration, stop_stmts, stop_stmt, stop_stmt_form, stop_simple, stop_simple_form, stop_body, stop_branch, stop_branches, stop_elses, stop_else}
+use Rattle.js_grammar.specs.CodeFits.{Context, looping, body_context, FitsPrefixes, FitsAnnotation, FitsEx, FitsExForm, FitsExs, FitsLink, FitsLinkForm, FitsLinks, FitsOperands, FitsField, FitsFields, FitsArms, FitsSig, IsNamed, FitsFunction, FitsDeclaration, FitsStmts, FitsStmt, FitsStmtForm, FitsSimple, FitsSimpleForm, FitsBody, FitsBranch, FitsBranches, FitsElse}
+use Rattle.code_law.specs.Frames.{FunctionKind, is_value, is_statement, Row, array_row, call_row, returns, throws, assigns, evaluates, cast_type, declared_type, in_prefix, in_chain, in_last, in_branch, in_parens, in_row, in_index, in_field, in_arrow, in_simple, in_declaration, in_if_test, in_loop_test, in_if, in_else, in_loop, in_function, in_block, Mode, want, after_links, row_start, fields_start, after_word, function_start, settled, statements_start, after_binder, after_declared, want_body, after_branch, after_else, Stack, go, start_ex, start_sig, start_key}
+use Rattle.code_law.specs.Bodies.{give_body, give_declaration, give_function, end_simple}
 use Rattle.code_law.specs.Ladder.{Joint, applies, casts, joins, ends, turn, joint_level, ask, begin, open_chain, join, settle_at, settle, close_row, close_fields, after_field}
 use Rattle.code_law.specs.Expressions.{marked, linked, field_step}
 use Rattle.code_law.specs.Statements.{simple_step, statements_step, is_else, branch_step}
@@ -27,7 +27,7 @@ use Rattle.code_law.proofs.Statements.{TakesSimple, takes_statement, begins_simp
 no_true : {A : Type 0} → false ≡ true → A
 no_true e = absurd (let f : false ≡ true = e in cc)
 
-run-then : (i : ℕ) (k : Stack) (m : Mode) (l : Tokens) → run i k m l ≡ go_on i (step i k m (first l)) l
+pub run-then : (i : ℕ) (k : Stack) (m : Mode) (l : Tokens) → run i k m l ≡ go_on i (step i k m (first l)) l
 run-then i k m [] = refl
 run-then i k m (x ∷ l) = refl
 
@@ -206,23 +206,31 @@ variable_read n h i k l = rw h refl
 
 -- functions and statements
 
-abbrev behind : Function → Tokens → Tokens
+abbrev pub behind : Function → Tokens → Tokens
 behind (function f t n g b) l = spell_name n (spell_sig g (spell_block b l))
 
 abbrev is_a_value : FunctionKind → Bool
 is_a_value is_value = true
 is_a_value q = false
 
-value_statement : is_value ≡ is_statement → ⊥
+pub value_statement : is_value ≡ is_statement → ⊥
 value_statement e = let f : true ≡ false = ap is_a_value e in cc
 
 same_function : (n : Option Bytes) (g : Sig) (f a t e : ℕ) (b d : Block) → f ≡ a → t ≡ e → b ≡ d → function f t n g b ≡ function a e n g d
 same_function n g f a t e b d p q r = cc
 
-binder_read : (w : Binder) (n : Bytes) → IsName n → (i s : ℕ) (ss : Stmts) (k : Stack) (l : Tokens) →
-    run i k (statements_start s ss) (Name (binder_word w) ∷ Name n ∷ l) ≡ run (suc (suc i)) (in_block s ss ∷ k) (after_declared i w n) l
-binder_read const n h i s ss k l = rw h refl
-binder_read let_word n h i s ss k l = rw h refl
+abbrev pub behind_binder : Declaration → Tokens → Tokens
+behind_binder (declaration f t w n v e) l = Name n ∷ spell_annotation v (Punct Assign ∷ spell_ex e l)
+
+abbrev pub binder_of : Declaration → Binder
+binder_of (declaration f t w n v e) = w
+
+binder_read : (w : Binder) (i s : ℕ) (ss : Stmts) (k : Stack) (l : Tokens) → run i k (statements_start s ss) (Name (binder_word w) ∷ l) ≡ run (suc i) (in_block s ss ∷ k) (after_binder i w) l
+binder_read const i s ss k l = refl
+binder_read let_word i s ss k l = refl
+
+name_declared : (w : Binder) (n : Bytes) → IsName n → (i j : ℕ) (k : Stack) (l : Tokens) → run j k (after_binder i w) (Name n ∷ l) ≡ run (suc j) k (after_declared i w n) l
+name_declared w n h i j k l = rw h refl
 
 annotation_read : (v : Option Ty) (w : Binder) (n : Bytes) (i j : ℕ) → FitsAnnotation v j → (k : Stack) (l : Tokens) →
     run j k (after_declared i w n) (spell_annotation v (Punct Assign ∷ l)) ≡ run (suc (stop_annotation v j)) (in_declaration i w n v ∷ k) want l
@@ -233,7 +241,7 @@ simple_read : (n : Bytes) (i : ℕ) (k : Stack) (m : Mode) (a : Stack) → Takes
     run i k m (Name n ∷ l) ≡ resume (λ k m. run (suc i) k m l) (simple_step i a (Name n)) (Name n ∷ l)
 simple_read n i k m a w l h = ap (λ s. resume (λ k m. run (suc i) k m l) s (Name n ∷ l)) (w (Name n) h)
 
-target_read : (d : Ex) → is_target d ≡ true → (i z : ℕ) (k : Stack) (l : Tokens) →
+pub target_read : (d : Ex) → is_target d ≡ true → (i z : ℕ) (k : Stack) (l : Tokens) →
     go_on z (settle z (in_simple i evaluates ∷ k) d (Punct Assign)) (Punct Assign ∷ l) ≡ run (suc z) (in_simple i (assigns d) ∷ k) want l
 target_read d h i z k l = rw h refl
 
@@ -256,7 +264,7 @@ no_more : (x : TokenKind) → is_else x ≡ false → (j s : ℕ) (ss : Stmts) (
 no_more x e j s ss k i bs = rw e refl
 
 mutual
-  c_ex : (e : Ex) (i : ℕ) → FitsEx e i → (k : Stack) → floor k ≤ tier_ex e → Reads e i k
+  pub c_ex : (e : Ex) (i : ℕ) → FitsEx e i → (k : Stack) → floor k ≤ tier_ex e → Reads e i k
   c_ex (ex f t x) i h k a l s =
       form_settles x i k (c_form x i (h.2) k a) l s ∙ ap (λ e. go_on (stop_ex_form x i) (settle (stop_ex_form x i) k e (first l)) l) (ap₂ (λ f t. ex f t x) (sym (h.0)) (sym (h.1)))
 
@@ -401,7 +409,7 @@ mutual
       ∙ ap (λ y. run (suc z) (in_last i (more_arm hs y) ∷ k) want l) (ap₂ (λ f t. arm f t d g) (start-of d j (h.1.3) ∙ sym (h.1.0)) (sym (h.1.1)))
 
   -- a function behind its word
-  c_function : (y : Function) (i : ℕ) → FitsFunction y i → (q : FunctionKind) → (q ≡ is_statement → IsNamed y) → (k : Stack) (l : Tokens) (d : Stack) (m : Mode) → give_function (stop_function y i) k q y ≡ go d m →
+  pub c_function : (y : Function) (i : ℕ) → FitsFunction y i → (q : FunctionKind) → (q ≡ is_statement → IsNamed y) → (k : Stack) (l : Tokens) (d : Stack) (m : Mode) → give_function (stop_function y i) k q y ≡ go d m →
       run (suc i) k (function_start q i) (behind y l) ≡ run (stop_function y i) d m l
   c_function (function f t n g (block a e ss)) i h q y k l d m r =
       let j = stop_sig g (stop_name n (suc i)) in let z = suc (stop_stmts ss (suc j)) in
@@ -409,6 +417,15 @@ mutual
       ∙ c_stmts ss body_context (suc j) (h.4.2) j (in_function q i n g ∷ k) (Punct CloseBrace ∷ l) refl
       ∙ ap (λ s. resume (λ k m. run z k m l) s (Punct CloseBrace ∷ l))
       (ap (λ y. give_function z k q y) (same_function n g i f z t (block j z ss) (block a e ss) (sym (h.0)) (sym (h.1)) (ap₂ (λ f t. block f t ss) (sym (h.4.0)) (sym (h.4.1)))) ∙ r)
+
+  -- a declaration behind its first word
+  pub c_declaration : (y : Declaration) (i : ℕ) → FitsDeclaration y i → (k : Stack) (l : Tokens) (d : Stack) (m : Mode) → give_declaration (suc (stop_declaration y i)) k i y ≡ go d m →
+      run (suc i) k (after_binder i (binder_of y)) (behind_binder y (Punct Semicolon ∷ l)) ≡ run (suc (stop_declaration y i)) d m l
+  c_declaration (declaration f t w n v e) i h k l d m r =
+      let j = stop_annotation v (suc (suc i)) in let z = stop_ex e (suc j) in let p = Punct Semicolon ∷ l in
+      name_declared w n (h.2) i (suc i) k (spell_annotation v (Punct Assign ∷ spell_ex e p)) ∙ annotation_read v w n i (suc (suc i)) (h.3) k (spell_ex e p)
+      ∙ c_ex e (suc j) (h.4) (in_declaration i w n v ∷ k) (omega arith) p (omega arith)
+      ∙ ap (λ s. resume (λ k m. run (suc z) k m l) s p) (ap (λ y. give_declaration (suc z) k i y) (ap₂ (λ f t. declaration f t w n v e) (sym (h.0)) (sym (h.1))) ∙ r)
 
   c_stmts : (ss : Stmts) (c : Context) (i : ℕ) → FitsStmts ss c i → (s : ℕ) (k : Stack) (l : Tokens) → is_else (first l) ≡ false → run i k (statements_start s no_stmt) (spell_stmts ss l) ≡ run (stop_stmts ss i) k (statements_start s ss) l
   c_stmts no_stmt c i h s k l e = refl
@@ -423,11 +440,9 @@ mutual
   c_stmt_form : (x : StmtForm) (c : Context) (i : ℕ) → FitsStmtForm x c i → (s : ℕ) (ss : Stmts) (k : Stack) (l : Tokens) → is_else (first l) ≡ false →
       run i k (statements_start s ss) (spell_stmt_form x l) ≡ run (stop_stmt_form x i) k (statements_start s (more_stmt ss (stmt i (stop_stmt_form x i) x))) l
   c_stmt_form (declares (declaration f t w n v d)) c i h s ss k l e =
-      let j = stop_annotation v (suc (suc i)) in let z = stop_ex d (suc j) in let a = in_block s ss ∷ k in
-      binder_read w n (h.2) i s ss k (spell_annotation v (Punct Assign ∷ spell_ex d (Punct Semicolon ∷ l)))
-      ∙ annotation_read v w n i (suc (suc i)) (h.3) a (spell_ex d (Punct Semicolon ∷ l))
-      ∙ c_ex d (suc j) (h.4) (in_declaration i w n v ∷ a) (omega arith) (Punct Semicolon ∷ l) (omega arith)
-      ∙ ap (λ y. run (suc z) k (statements_start s (more_stmt ss (stmt i (suc z) (declares y)))) l) (ap₂ (λ f t. declaration f t w n v d) (sym (h.0)) (sym (h.1)))
+      let y = declares (declaration f t w n v d) in
+      binder_read w i s ss k (Name n ∷ spell_annotation v (Punct Assign ∷ spell_ex d (Punct Semicolon ∷ l)))
+      ∙ c_declaration (declaration f t w n v d) i h (in_block s ss ∷ k) l k (statements_start s (more_stmt ss (stmt i (stop_stmt_form y i) y))) refl
   c_stmt_form (function_stmt (function f t n g b)) c i h s ss k l e =
       let j = stop_function (function f t n g b) i in
       c_function (function f t n g b) i (h.1) is_statement (λ q. h.0) (in_block s ss ∷ k) l k (statements_start s (more_stmt ss (stmt i j (function_stmt (function f t n g b)))))
