@@ -4,3 +4,5 @@ pub mod Begins
 pub mod Parameters
 pub mod Statements
 pub mod Complete
+pub mod Names
+pub mod Top
