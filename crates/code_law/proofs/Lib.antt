@@ -6,3 +6,4 @@ pub mod Statements
 pub mod Complete
 pub mod Names
 pub mod Top
+pub mod Modules

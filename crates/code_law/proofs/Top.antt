@@ -26,7 +26,7 @@ no_true : {A : Type 0} → false ≡ true → A
 no_true e = absurd (let f : false ≡ true = e in cc)
 
 -- no type begins with `=`
-abbrev not_assign : TokenKind → Bool
+abbrev pub not_assign : TokenKind → Bool
 not_assign (Punct Assign) = false
 not_assign _ = true
 
@@ -65,7 +65,7 @@ type_begins (ty f t false no_pre) i h l = absurd (h.2)
 type_begins (ty f t false (more_pre ps p)) i h l = type_barred ps (spell_pre p l) (type_pre p l)
 
 -- behind the variable `type` no name stands, and `as` not before `=`
-abbrev apart : Tokens → Bool
+abbrev pub apart : Tokens → Bool
 apart (Name n ∷ l) = if bytes_eq n (codes "as") then not_assign (first l) else false
 apart _ = true
 
