@@ -1,5 +1,5 @@
 -- How tight a token binds, and which open forms it ends.
-use Rattle.std.proofs.Common.{◌≡◌, refl, ℕ, suc, ◌<◌, ◌≤◌, nat_lt, nat_le, nat_eq, true, false, ◌∷◌, arith}
+use Rattle.std.proofs.Common.{◌≡◌, refl, ap, ℕ, suc, ◌<◌, ◌≤◌, nat_lt, nat_le, nat_eq, true, false, ◌∷◌, if◌then◌else◌, arith}
 use Rattle.std.proofs.lemmas.Bool.Decides.{nat_tests}
 use Rattle.js_token.specs.declared.token.TokenKind.{TokenKind}
 use Rattle.js_token.specs.declared.token.TokenKind.TheVariants.{Punct}
@@ -105,7 +105,9 @@ open_more i k s t f os p w = rw (same_test (rank p)) refl
 -- where the stack waits for what binds more, no form ends
 pub join_opens : (i : ℕ) (k : Stack) (e : Ex) (p : Level) (w : Joint) → floor k ≤ suc (rank p) → join i k e p w ≡ open_chain i k e p w
 join_opens i (in_prefix s ps ∷ k) e p w h = absurd (let b = rank_most p in omega arith)
-join_opens i (in_chain s q f os d o ∷ k) e p w h = let b : rank q < rank p = let c = rank_below q in omega arith in rw (less_test (rank q) (rank p) b) refl
+join_opens i (in_chain s q f os d o ∷ k) e p w h =
+    let b : rank q < rank p = let c = rank_below q in omega arith in
+    ap (λ c. if c then open_chain i (in_chain s q f os d o ∷ k) e p w else join i k (ex s i (chain q f (more_operand os (operand d i (right_side o e))))) p w) (less_test (rank q) (rank p) b)
 join_opens i k e p w h = refl
 
 -- a token ends a chain that it doesn't bind more than

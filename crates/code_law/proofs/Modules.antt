@@ -1,28 +1,27 @@
 -- Each module's spelling is read as that module.
-use Rattle.std.proofs.Common.{◌≡◌, refl, sym, ◌∙◌, ap, ap₂, subst, ◌⊎◌, inl, inr, ℕ, suc, ◌≤◌, Bool, true, false, [], ◌∷◌, codes, if◌then◌else◌, arith}
+use Rattle.std.proofs.Common.{◌≡◌, refl, sym, ◌∙◌, ap, ap₂, subst, ◌⊎◌, inl, inr, ℕ, suc, Bool, true, false, [], ◌∷◌, codes, arith}
 use Rattle.std.specs.Str.{bytes_eq}
 use Rattle.std.proofs.lemmas.Slice.Eq.{bytes_eq-Decides}
 use Rattle.js_token.specs.declared.token.TokenKind.{TokenKind}
-use Rattle.js_token.specs.declared.token.TokenKind.TheVariants.{Name, Number, Str, Punct}
-use Rattle.js_token.specs.declared.punct.Punct.TheVariants.{CloseBrace, Comma, Semicolon, Assign}
+use Rattle.js_token.specs.declared.token.TokenKind.TheVariants.{Name, Str, Punct}
+use Rattle.js_token.specs.declared.punct.Punct.TheVariants.{Comma, Semicolon, Assign}
 use Rattle.js_grammar.specs.Words.{Bytes}
 use Rattle.js_grammar.specs.TypeSpelling.{Tokens, opt, spell}
 use Rattle.js_grammar.specs.TypeFits.{bump, stop}
 use Rattle.js_grammar.specs.Machine as ty
-use Rattle.js_grammar.specs.Code.{Binder, const, let_word, Ex, Function, function, Declaration, declaration, simple, return_bare, return_value, throw_value, break_loop, continue_loop, assign, evaluate}
-use Rattle.js_grammar.specs.CodeSpelling.{binder_word, spell_ex, spell_declaration, spell_function, spell_simple}
-use Rattle.js_grammar.specs.CodePlaces.{stop_ex, stop_function, stop_declaration, stop_simple}
-use Rattle.js_grammar.specs.CodeFits.{BeginsNot, FitsEx}
-use Rattle.js_grammar.specs.Items.{ImportList, import_list, ExportList, export_list, no_imported, no_exported, ImportForm, import_default, import_both, import_names, import_types, import_only, AliasOf, alias, ExportForm, export_declaration, export_function, export_alias, export_names, export_from, export_default_function, export_default, ItemForm, imports, exports, declares_item, function_item, alias_item, does_item, Item, item, Items, no_item, more_item, from_word, type_word, spell_import_list, spell_export_list, spell_import, spell_export, spell_item_form, spell_item, spell_items, stop_importeds, stop_import_list, stop_exporteds, stop_export_list, stop_import, stop_export, stop_item_form, stop_item, stop_items, FitsImportList, FitsExportList, FitsImport, FitsExport, FitsItemForm, FitsItem, FitsItems}
-use Rattle.code_law.specs.Frames.{FunctionKind, is_statement, is_default, Wrap, plain_item, exported_item, opens_names, opens_both, opens_types, opens_exports, importing, exporting, listing, alias_type, evaluates, assigns, in_simple, in_item, in_default, Mode, want, after_binder, items_start, after_type_word, after_alias, after_import, names_start, after_list, after_export, after_exports, after_default, item_end, typing, Stack, Step, go}
-use Rattle.code_law.specs.Bodies.{give_function}
+use Rattle.js_grammar.specs.Code.{Binder, const, let_word, Ex, function, declaration, simple, return_bare, return_value, throw_value, break_loop, continue_loop, assign, evaluate}
+use Rattle.js_grammar.specs.CodeSpelling.{binder_word, spell_ex}
+use Rattle.js_grammar.specs.CodePlaces.{stop_ex, stop_function, stop_declaration}
+use Rattle.js_grammar.specs.CodeFits.{BeginsNot}
+use Rattle.js_grammar.specs.Items.{ImportList, import_list, ExportList, export_list, ImportForm, import_default, import_both, import_names, import_types, import_only, alias, ExportForm, export_declaration, export_function, export_alias, export_names, export_from, export_default_function, export_default, ItemForm, imports, exports, declares_item, function_item, alias_item, does_item, Item, item, Items, no_item, more_item, from_word, type_word, spell_import_list, spell_export_list, spell_import, spell_export, spell_item_form, spell_item, spell_items, stop_importeds, stop_import_list, stop_exporteds, stop_export_list, stop_import, stop_export, stop_item_form, stop_item, stop_items, FitsImportList, FitsExportList, FitsImport, FitsExport, FitsItemForm, FitsItem, FitsItems}
+use Rattle.code_law.specs.Frames.{FunctionKind, is_statement, is_default, plain_item, exported_item, opens_names, opens_both, opens_types, opens_exports, alias_type, evaluates, assigns, in_simple, in_item, in_default, Mode, after_binder, items_start, after_type_word, after_import, after_list, after_export, after_exports, after_default, item_end, typing, Stack}
 use Rattle.code_law.specs.Expressions.{want_step}
 use Rattle.code_law.specs.Statements.{StatementWord, plain_word, statement_word}
 use Rattle.code_law.specs.Modules.{default_word}
-use Rattle.code_law.specs.Machine.{step, Outcome, whole_items, resume, run, read_module, go_on}
-use Rattle.code_law.proofs.Begins.{is_plain, Starts, opens, begin_with}
+use Rattle.code_law.specs.Machine.{step, whole_items, run, read_module}
+use Rattle.code_law.proofs.Begins.{is_plain, Starts, begin_with}
 use Rattle.code_law.proofs.Embedded.{c_type}
-use Rattle.code_law.proofs.Complete.{c_ex, c_function, c_declaration, binder_of, behind_binder, target_read}
+use Rattle.code_law.proofs.Complete.{c_ex, c_function, c_declaration, behind_binder, target_read}
 use Rattle.code_law.proofs.Names.{c_importeds, c_exporteds}
 use Rattle.code_law.proofs.Top.{begin_top}
 

@@ -1,5 +1,5 @@
 -- Lists of names in braces are read as such.
-use Rattle.std.proofs.Common.{◌≡◌, refl, sym, ◌∙◌, ap, ap₂, ℕ, suc, Bool, true, false, Option, Some, None, [], ◌∷◌, codes}
+use Rattle.std.proofs.Common.{◌≡◌, refl, sym, ◌∙◌, ap, ap₂, ℕ, suc, Bool, true, false, Some, None, ◌∷◌}
 use Rattle.js_token.specs.declared.token.TokenKind.{TokenKind}
 use Rattle.js_token.specs.declared.token.TokenKind.TheVariants.{Name, Punct}
 use Rattle.js_token.specs.declared.punct.Punct.TheVariants.{CloseBrace, Comma}
@@ -8,9 +8,9 @@ use Rattle.js_grammar.specs.TypeSpelling.{Tokens, opt}
 use Rattle.js_grammar.specs.TypeFits.{bump, CommaFits}
 use Rattle.js_grammar.specs.Machine.{first}
 use Rattle.js_grammar.specs.Items.{Imported, imported, Importeds, no_imported, more_imported, Exported, exported, Exporteds, no_exported, more_exported, Items, has_importeds, has_exporteds, spell_imported, spell_begun_imports, spell_importeds, spell_exported, spell_begun_exports, spell_exporteds, stop_imported, stop_begun_imports, stop_importeds, stop_exported, stop_begun_exports, stop_exporteds, FitsImported, FitsImporteds, FitsExported, FitsExporteds}
-use Rattle.code_law.specs.Frames.{Opening, importing, exporting, Listing, listing, names_start, after_name, after_pair, Stack, Step}
+use Rattle.code_law.specs.Frames.{Opening, importing, exporting, Listing, listing, names_start, after_name, after_pair, Stack}
 use Rattle.code_law.specs.Modules.{add_name, end_names, pair_step, name_step}
-use Rattle.code_law.specs.Machine.{Outcome, run, go_on}
+use Rattle.code_law.specs.Machine.{run, go_on}
 use Rattle.code_law.proofs.Complete.{run-then}
 
 no_true : {A : Type 0} → false ≡ true → A
@@ -50,7 +50,7 @@ module _ (k : Stack) (a : ℕ) (is : Items) (q : Opening) (s : ℕ) where
 
   pub c_importeds : (ns : Importeds) (c : Bool) (i : ℕ) → FitsImporteds ns i → CommaFits c (has_importeds ns) → (l : Tokens) →
       run i k (names_start (imports_so_far no_imported)) (spell_importeds ns (opt c (Punct Comma) (Punct CloseBrace ∷ l)))
-        ≡ go_on (bump c (stop_importeds ns i)) (end_names (bump c (stop_importeds ns i)) k (imports_so_far ns) c) (Punct CloseBrace ∷ l)
+      ≡ go_on (bump c (stop_importeds ns i)) (end_names (bump c (stop_importeds ns i)) k (imports_so_far ns) c) (Punct CloseBrace ∷ l)
   c_importeds no_imported true i h c l = no_true (c refl)
   c_importeds no_imported false i h c l = refl
   c_importeds (more_imported ns y) true i h c l =
@@ -76,7 +76,7 @@ module _ (k : Stack) (a : ℕ) (is : Items) (q : Opening) (s : ℕ) where
 
   pub c_exporteds : (ns : Exporteds) (c : Bool) (i : ℕ) → FitsExporteds ns i → CommaFits c (has_exporteds ns) → (l : Tokens) →
       run i k (names_start (exports_so_far no_exported)) (spell_exporteds ns (opt c (Punct Comma) (Punct CloseBrace ∷ l)))
-        ≡ go_on (bump c (stop_exporteds ns i)) (end_names (bump c (stop_exporteds ns i)) k (exports_so_far ns) c) (Punct CloseBrace ∷ l)
+      ≡ go_on (bump c (stop_exporteds ns i)) (end_names (bump c (stop_exporteds ns i)) k (exports_so_far ns) c) (Punct CloseBrace ∷ l)
   c_exporteds no_exported true i h c l = no_true (c refl)
   c_exporteds no_exported false i h c l = refl
   c_exporteds (more_exported ns y) true i h c l =

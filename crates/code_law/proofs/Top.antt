@@ -1,5 +1,5 @@
 -- How a simple statement begins at top level, where the word `type` may begin an alias.
-use Rattle.std.proofs.Common.{◌≡◌, refl, sym, ◌∙◌, ap, subst, ◌⊎◌, inl, inr, ℕ, suc, Bool, true, false, [], ◌∷◌, codes, if◌then◌else◌}
+use Rattle.std.proofs.Common.{◌≡◌, refl, sym, ◌∙◌, ap, subst, inl, inr, ℕ, suc, Bool, true, false, [], ◌∷◌, codes, if◌then◌else◌}
 use Rattle.std.specs.Str.{bytes_eq}
 use Rattle.std.proofs.lemmas.Slice.Eq.{bytes_eq-Decides}
 use Rattle.js_token.specs.declared.token.TokenKind.{TokenKind}
@@ -12,14 +12,13 @@ use Rattle.js_grammar.specs.TypeFits.{Fits}
 use Rattle.js_grammar.specs.Machine.{first}
 use Rattle.js_grammar.specs.Code.{Level, Prefix, negation, minus_sign, plus_sign, kind_of, Prefixes, no_prefix, more_prefix, Operator, nullish, or, and, strict_equal, strict_not_equal, loose_equal, loose_not_equal, less, greater, less_or_equal, greater_or_equal, add, subtract, multiply, divide, remainder, Ex, ex, ExForm, variable, number, text, truth_value, null_value, parens, elements, fields, function_ex, postfixed, prefixed, chain, cond, arrow, Link, link, member, index, call, Links, no_link, more_link, Operand, operand, right_side, as_type, Operands, no_operand, more_operand, arm, Arms, no_arm, more_arm, function, sig, has_arms}
 use Rattle.js_grammar.specs.CodeSpelling.{prefix_token, mark_of, spell_prefixes, spell_ex, spell_ex_form, spell_links, spell_link, spell_operands, spell_operand, spell_arms, spell_arm}
-use Rattle.js_grammar.specs.CodePlaces.{stop_ex, stop_operands}
-use Rattle.js_grammar.specs.CodeFits.{BeginsNot, BeginsPlain, FitsEx, FitsExForm, FitsOperands, FitsOperand, FitsArms}
+use Rattle.js_grammar.specs.CodePlaces.{stop_ex}
+use Rattle.js_grammar.specs.CodeFits.{BeginsPlain, FitsEx, FitsExForm, FitsOperands, FitsArms}
 use Rattle.js_grammar.specs.Items.{Items}
-use Rattle.code_law.specs.Frames.{plain_item, evaluates, in_simple, in_item, want, items_start, after_type_word, Stack, Step, go}
-use Rattle.code_law.specs.Expressions.{want_step}
+use Rattle.code_law.specs.Frames.{plain_item, evaluates, in_simple, in_item, want, items_start, after_type_word, Stack, go}
 use Rattle.code_law.specs.Statements.{StatementWord, plain_word, statement_word, simple_word}
 use Rattle.code_law.specs.Modules.{top_word}
-use Rattle.code_law.specs.Machine.{step, Outcome, resume, run}
+use Rattle.code_law.specs.Machine.{resume, run}
 use Rattle.code_law.proofs.Begins.{is_plain, opens, Starts, leads}
 
 no_true : {A : Type 0} → false ≡ true → A

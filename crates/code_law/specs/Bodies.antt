@@ -1,10 +1,10 @@
 -- A whole statement, block, body or item, and the form that waits for it.
-use Rattle.std.specs.Prelude.{ℕ, suc, Bool, true, false, ◌∷◌, if◌then◌else◌}
+use Rattle.std.specs.Prelude.{ℕ, suc, ◌∷◌, if◌then◌else◌}
 use Rattle.js_token.specs.declared.token.TokenKind.{TokenKind}
 use Rattle.js_token.specs.declared.token.TokenKind.TheVariants.{Punct}
 use Rattle.js_token.specs.declared.punct.Punct.TheVariants.{Semicolon, Assign}
 use Rattle.js_grammar.specs.Code.{Ex, ex, function_ex, arrow, no_link, Function, function, arrow_block, Block, more_stmt, Stmt, stmt, function_stmt, does, branches, loop, nested, Simple, simple, SimpleForm, return_value, throw_value, assign, evaluate, Body, block_body, simple_body, branch, more_branch, else_body, is_target, Declaration, declares}
-use Rattle.js_grammar.specs.Items.{export_declaration, export_function, export_default_function, exports, declares_item, function_item, does_item, Item, item, Items, more_item, ItemForm}
+use Rattle.js_grammar.specs.Items.{export_declaration, export_function, export_default_function, exports, declares_item, function_item, does_item, item, Items, more_item, ItemForm}
 use Rattle.code_law.specs.Frames.{FunctionKind, is_value, is_statement, is_default, Wrap, plain_item, exported_item, in_item, items_start, Verb, returns, throws, assigns, evaluates, in_arrow, in_simple, in_if, in_else, in_loop, in_function, in_block, want, after_links, settled, statements_start, after_branch, Stack, Step, fault, go, start_sig, start_function, start_block, start_simple}
 
 abbrev pub give_stmt : Stack → Stmt → Step

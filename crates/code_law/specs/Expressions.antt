@@ -11,7 +11,7 @@ use Rattle.js_grammar.specs.Machine as ty
 use Rattle.js_grammar.specs.Code.{Prefix, negation, minus_sign, plus_sign, kind_of, no_prefix, more_prefix, relation_level, Ex, ex, variable, number, text, truth_value, null_value, postfixed, chain, Exs, no_ex, has_exs, Links, no_link, more_link, link, member, more_operand, operand, as_type, Fields, no_field, more_field, has_fields, field, shorthand, no_arm, Sig, sig, no_stmt, Parameters, no_parameter, more_parameter, has_parameters, parameter}
 use Rattle.js_grammar.specs.Items.{AliasOf, alias, ItemForm, exports, export_alias, alias_item}
 use Rattle.code_law.specs.Bodies.{give_item}
-use Rattle.code_law.specs.Frames.{Row, array_row, call_row, Owner, of_arrow, of_function, Waiting, parameter_type, result_type, declared_type, alias_type, cast_type, FunctionKind, is_value, is_statement, is_default, Wrap, plain_item, exported_item, in_prefix, in_chain, in_branch, in_parens, in_row, in_index, in_field, in_arrow, in_declaration, in_function, want, after_links, after_dot, row_start, fields_start, after_word, after_key, paren_start, paren_word, paren_mark, function_start, parameters_open, parameter_start, parameter_word, parameter_mark, parameters_end, arrow_start, statements_start, typing, Stack, Step, fault, go, start_ex}
+use Rattle.code_law.specs.Frames.{Row, array_row, call_row, Owner, of_arrow, of_function, Waiting, parameter_type, result_type, declared_type, alias_type, cast_type, FunctionKind, is_value, is_statement, Wrap, plain_item, exported_item, in_prefix, in_chain, in_branch, in_parens, in_row, in_index, in_field, in_arrow, in_declaration, in_function, want, after_links, after_dot, row_start, fields_start, after_word, after_key, paren_start, paren_word, paren_mark, function_start, parameters_open, parameter_start, parameter_word, parameter_mark, parameters_end, arrow_start, statements_start, typing, Stack, Step, fault, go, start_ex}
 use Rattle.code_law.specs.Ladder.{close_row, close_fields, after_field, settle}
 
 -- what a word is where an expression may begin

@@ -4,7 +4,7 @@ use Rattle.js_grammar.specs.Words.{Bytes}
 use Rattle.js_grammar.specs.Types.{Key, key, Ty}
 use Rattle.js_grammar.specs.Machine as ty
 use Rattle.js_grammar.specs.Code.{Prefixes, Level, Operator, Binder, Ex, ex, Exs, Links, Operands, Fields, Arms, Function, function, Sig, sig, Parameters, Block, block, Stmts, Simple, simple, Branches}
-use Rattle.js_grammar.specs.Items.{Importeds, more_imported, imported, ImportList, Exporteds, more_exported, exported, ExportList, ImportForm, ItemForm, Items}
+use Rattle.js_grammar.specs.Items.{Importeds, Exporteds, ExportList, ImportForm, ItemForm, Items}
 
 -- a list in brackets, with the place of the first: the elements of an array, or the arguments of a call, behind an expression and its links
 pub data Row : Type 0 where

@@ -1,4 +1,5 @@
--- Reading an expression, or a module, token by token.
+-- Reading an expression, or a module, token by token. All that fits is read as itself. What is read may yet break a condition: the
+-- machine doesn't ask where `return`, `break` and `continue` stand, nor which words of lists and aliases are names.
 use Rattle.std.specs.Prelude.{ℕ, suc, [], ◌∷◌}
 use Rattle.js_token.specs.declared.token.TokenKind.{TokenKind}
 use Rattle.js_grammar.specs.TypeSpelling.{Tokens}

@@ -1,15 +1,14 @@
 -- The steps of reading items, each with the place of its token.
 use Rattle.std.specs.Prelude.{ℕ, suc, Bool, true, false, Option, Some, None, [], ◌∷◌, codes, if◌then◌else◌}
 use Rattle.std.specs.Str.{bytes_eq}
-use Rattle.js_token.specs.Words.{is_reserved}
 use Rattle.js_token.specs.declared.token.TokenKind.{TokenKind}
 use Rattle.js_token.specs.declared.token.TokenKind.TheVariants.{Name, Str, Punct}
 use Rattle.js_token.specs.declared.punct.Punct.TheVariants.{OpenBrace, CloseBrace, Comma, Semicolon, Assign, PlusPlus}
 use Rattle.js_grammar.specs.Words.{Bytes}
 use Rattle.js_grammar.specs.Machine as ty
 use Rattle.js_grammar.specs.Code.{ex, variable, no_link, no_operand}
-use Rattle.js_grammar.specs.Items.{Importeds, no_imported, more_imported, imported, import_list, Exporteds, no_exported, more_exported, exported, ExportList, export_list, ImportForm, import_default, import_both, import_names, import_types, import_only, export_names, export_from, ItemForm, imports, exports, Items, has_importeds, has_exporteds}
-use Rattle.code_law.specs.Frames.{is_statement, is_default, Wrap, plain_item, exported_item, Opening, opens_names, opens_both, opens_types, opens_exports, Names, importing, exporting, Listing, listing, alias_type, cast_type, evaluates, in_simple, in_item, in_default, function_start, after_binder, after_type_word, after_type_as, after_alias, after_import, import_word, import_comma, names_start, after_name, after_as, after_pair, after_list, after_from, after_export, export_type, after_exports, exports_from, after_default, item_end, Stack, Step, fault, go, done_items}
+use Rattle.js_grammar.specs.Items.{no_imported, more_imported, imported, import_list, no_exported, more_exported, exported, ExportList, export_list, ImportForm, import_default, import_both, import_names, import_types, import_only, export_names, export_from, ItemForm, imports, exports, Items, has_importeds, has_exporteds}
+use Rattle.code_law.specs.Frames.{is_statement, is_default, Wrap, plain_item, exported_item, opens_names, opens_both, opens_types, opens_exports, importing, exporting, Listing, listing, alias_type, cast_type, evaluates, in_simple, in_item, in_default, function_start, after_binder, after_type_word, after_type_as, after_alias, after_import, import_word, import_comma, names_start, after_name, after_as, after_pair, after_list, after_from, after_export, export_type, after_exports, exports_from, after_default, item_end, Stack, Step, fault, go, done_items}
 use Rattle.code_law.specs.Bodies.{give_item}
 use Rattle.code_law.specs.Expressions.{want_step, links_step, typed, inside}
 use Rattle.code_law.specs.Statements.{StatementWord, binds, begins_function, begins_import, begins_export, plain_word, statement_word, simple_word, simple_step}

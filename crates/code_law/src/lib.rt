@@ -1,10 +1,15 @@
-//! The law of spelling for expressions: its definitions stand in `specs/`; the code here is the law, as the contract of a
-//! function that does nothing.
+//! The laws of spelling for expressions and modules: the definitions stand in `specs/`; the code here is the laws, as the
+//! contracts of functions that do nothing.
 #![tactic(auto)]
 
-ghost use Rattle.code_law.specs.Law.{SameSpellingSameExpression};
+ghost use Rattle.code_law.specs.Law.{SameSpellingSameExpression, SameSpellingSameModule};
 
 /// Two expressions with one spelling are equal, their numbers too.
 pub fn one_expression()
     ensures { SameSpellingSameExpression }
+{}
+
+/// Two modules with one spelling are equal, their numbers too.
+pub fn one_module()
+    ensures { SameSpellingSameModule }
 {}
