@@ -2,21 +2,19 @@
 use Rattle.std.proofs.Common.{◌≡◌, ◌==◌, Bool, true, false, min, ℕ, ◌+◌, ◌-◌, ◌^◌, ◌<◌, ◌≤◌, List, [], length, Option, Some, None, refl, sym, ap, ◌∙◌, subst, arith, inl, inr, ◌⊎◌}
 use Rattle.std.proofs.Math.Nat.{min-le_left, min-le_right, le-min}
 use Rattle.std.proofs.lemmas.Bool.{cases_lt}
-use Rattle.std.specs.Option.{option_map}
 use Rattle.std.proofs.lemmas.List.{append-nil}
 use Rattle.std.specs.Prelude.{if◌then◌else◌}
 use Rattle.flow_base.specs.Program.{Bytes, Program, IsRising, paths_of}
 use Rattle.flow_base.specs.Outside.{appended, HoldsFront, WhereTold}
-use Rattle.flow_model.specs.Errors.{full1, error_count}
 use Rattle.script_print.specs.Printed.{files_line}
 use Rattle.script_reader.specs.Lines.{lines_left}
 use Rattle.script_run.specs.declared.ending.Ending.{Ending}
 use Rattle.script_run.specs.declared.ending.Ending.TheVariants as ending
 use Rattle.script_run.specs.Transcript.{MayList, MOST_MODULES}
 use Rattle.script_run.specs.Session.{RoseBy}
-use Rattle.script_run.specs.Steps.{HasRun, HasStopped, HasFront}
+use Rattle.script_run.specs.Steps.{HasRun}
 use Rattle.flowd_top.specs.Words.{root_place, usage_line}
-use Rattle.flowd_top.specs.Run.{status_after, IsTranscript, no_command, many_files, runs, PrintsUpTo, nothing_yet, at_end, between, HasPrinted, HasHalted, HasPrintedFront, Leaves, WritesLast, RunLeaves}
+use Rattle.flowd_top.specs.Run.{status_after, IsTranscript, no_command, many_files, runs, nothing_yet, at_end, between, HasPrinted, HasPrintedFront, Leaves, WritesLast, RunLeaves}
 use Rattle.flowd_top.specs.declared.status.Status.{Status}
 use Rattle.flowd_top.specs.declared.status.Status.TheVariants as status
 
