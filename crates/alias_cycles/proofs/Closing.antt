@@ -1,8 +1,8 @@
 -- Closing numbers, one after another.
-use Rattle.std.proofs.Common.{◌≡◌, ℕ, zero, suc, ◌+◌, ◌<◌, ◌≤◌, Bool, false, List, [], ◌∷◌, ◌++◌, length, set, get_or, slice_get, take, Some, refl, sym, ap, ◌∙◌, inl, inr, arith, subst, length-append}
+use Rattle.std.proofs.Common.{◌≡◌, ℕ, ◌+◌, ◌<◌, ◌≤◌, Bool, false, List, [], ◌∷◌, ◌++◌, length, set, get_or, take, Some, refl, sym, ap, ◌∙◌, inl, inr, arith, subst, length-append}
 use Rattle.alias_cycles.specs.Cycles.{Has, IsOn}
 use Rattle.alias_cycles.specs.Searching.{Closes}
-use Rattle.alias_cycles.proofs.Lists.{none_some, set_off, stays_on, count-set, get-front, has-last, last-split, length-set_here, has_more, only_has, has_none}
+use Rattle.alias_cycles.proofs.Lists.{set_off, stays_on, count-set, get-front, has-last, last-split, length-set_here, has_more, only_has, has_none, earlier, this_one, take_whole}
 
 pub closes_open : (y : ℕ) (ms : List Bool) (found : List ℕ) → IsOn ms y → y < length ms → Closes (y ∷ []) ms found (set ms y false) (found ++ y ∷ [])
 closes_open y ms found on small = record {
@@ -45,39 +45,12 @@ closes_next ys i y {ms} {ns} {ps} {found} {more} {most} is within a b = record {
   front = λ j z at. b.front j z (a.front j z at);
   split = λ z was. elim (a.split z was) [ inl still ↦ b.split z still | inr listed ↦ inr (listed.0, b.front listed.0 z listed.1) ];
   fresh = λ z has. elim (b.fresh z has) [
-    | inl old ↦ elim (a.fresh z old) [ inl older ↦ inl older | inr new ↦ inr (earlier z new.0, new.1, λ now. new.2 (b.keeps z now)) ]
-    | inr new ↦ inr (this z new.0, a.keeps z new.1, new.2)
+    | inl old ↦ elim (a.fresh z old) [ inl older ↦ inl older | inr new ↦ inr (earlier ys i z new.0, new.1, λ now. new.2 (b.keeps z now)) ]
+    | inr new ↦ inr (this_one ys i y z is within new.0, a.keeps z new.1, new.2)
   ];
   shut = λ z has now. elim (has_more ys i z has) [ inl old ↦ a.shut z old (b.keeps z now) | inr same ↦ b.shut z (0, ap Some (is ∙ same)) now ];
   lighter = (let x = a.lighter in let y = b.lighter in omega arith);
 }
-  where
-    take_more : (es : List ℕ) (i j x : ℕ) → slice_get (take i es) j ≡ Some x → slice_get (take (suc i) es) j ≡ Some x
-    take_more [] zero j x at = none_some x at
-    take_more [] (suc i) j x at = none_some x at
-    take_more (e ∷ es) zero j x at = none_some x at
-    take_more (e ∷ es) (suc i) zero x at = at
-    take_more (e ∷ es) (suc i) (suc j) x at = take_more es i j x at
-
-    at_next : (es : List ℕ) (i : ℕ) → i < length es → slice_get (take (suc i) es) i ≡ Some (get_or es i 0)
-    at_next [] i h = absurd (omega arith)
-    at_next (e ∷ es) zero h = refl
-    at_next (e ∷ es) (suc i) h = at_next es i (omega arith)
-
-    up : suc i ≡ i + 1
-    up = omega arith
-
-    earlier : (z : ℕ) → Has (take i ys) z → Has (take (i + 1) ys) z
-    earlier z (j, at) = (j, subst (λ (n : ℕ). slice_get (take n ys) j ≡ Some z) up (take_more ys i j z at))
-
-    this : (z : ℕ) → Has (y ∷ []) z → Has (take (i + 1) ys) z
-    this z has = (i, subst (λ (n : ℕ). slice_get (take n ys) i ≡ Some z) up (at_next ys i within ∙ ap Some (sym is ∙ sym (only_has y z has))))
 
 pub closes_all : (ys : List ℕ) (n : ℕ) {ms ns : List Bool} {found more : List ℕ} → length ys ≤ n → Closes (take n ys) ms found ns more → Closes ys ms found ns more
-closes_all ys n {ms} {ns} {found} {more} all a = subst (λ (l : List ℕ). Closes l ms found ns more) (whole ys n all) a
-  where
-    whole : (xs : List ℕ) (n : ℕ) → length xs ≤ n → take n xs ≡ xs
-    whole [] zero h = refl
-    whole [] (suc n) h = refl
-    whole (x ∷ xs) zero h = absurd (omega arith)
-    whole (x ∷ xs) (suc n) h = ap (λ l. x ∷ l) (whole xs n (omega arith))
+closes_all ys n {ms} {ns} {found} {more} all a = subst (λ (l : List ℕ). Closes l ms found ns more) (take_whole ys n all) a

@@ -4,7 +4,7 @@ use native.Mathlib.Decide.{ℕ_discrete}
 use Rattle.std.proofs.lemmas.Bool.{cases_lt}
 use Rattle.alias_cycles.specs.Cycles.{Has, Edge}
 use Rattle.alias_cycles.specs.Searching.{Adds, AreReversed}
-use Rattle.alias_cycles.proofs.Lists.{none_some, get-set_here, get-set_else, length-set_here, get-front, has-last, last-split, only_has, has_none, has_more, get_small}
+use Rattle.alias_cycles.proofs.Lists.{none_some, get-set_here, get-set_else, length-set_here, get-front, has-last, last-split, only_has, has_none, has_more, get_small, earlier, this_one, take_whole}
 
 pub adds_one : (back after : List (List ℕ)) (x y : ℕ) (was now : List ℕ) → y < length back → slice_get back y ≡ Some was → now ≡ was ++ x ∷ [] → after ≡ set back y now → Adds x (y ∷ []) back after
 adds_one back after x y was now small at_y is whole = subst (λ (l : List (List ℕ)). Adds x (y ∷ []) back l) (sym whole) (record {
@@ -44,40 +44,13 @@ adds_next x ys i y {before} {middle} {after} is within a b = record {
   keeps = λ u v edge. b.keeps u v (a.keeps u v edge);
   adds = λ z has. elim (has_more ys i z has) [ inl old ↦ b.keeps z x (a.adds z old) | inr same ↦ b.adds z (0, ap Some (is ∙ same)) ];
   fresh = λ u v edge. elim (b.fresh u v edge) [
-    | inl old ↦ elim (a.fresh u v old) [ inl older ↦ inl older | inr new ↦ inr (earlier u new.0, new.1) ]
-    | inr new ↦ inr (this u new.0, new.1)
+    | inl old ↦ elim (a.fresh u v old) [ inl older ↦ inl older | inr new ↦ inr (earlier ys i u new.0, new.1) ]
+    | inr new ↦ inr (this_one ys i y u is within new.0, new.1)
   ];
 }
-  where
-    take_more : (es : List ℕ) (i j x : ℕ) → slice_get (take i es) j ≡ Some x → slice_get (take (suc i) es) j ≡ Some x
-    take_more [] zero j x at = none_some x at
-    take_more [] (suc i) j x at = none_some x at
-    take_more (e ∷ es) zero j x at = none_some x at
-    take_more (e ∷ es) (suc i) zero x at = at
-    take_more (e ∷ es) (suc i) (suc j) x at = take_more es i j x at
-
-    at_next : (es : List ℕ) (i : ℕ) → i < length es → slice_get (take (suc i) es) i ≡ Some (get_or es i 0)
-    at_next [] i h = absurd (omega arith)
-    at_next (e ∷ es) zero h = refl
-    at_next (e ∷ es) (suc i) h = at_next es i (omega arith)
-
-    up : suc i ≡ i + 1
-    up = omega arith
-
-    earlier : (z : ℕ) → Has (take i ys) z → Has (take (i + 1) ys) z
-    earlier z (j, at) = (j, subst (λ (n : ℕ). slice_get (take n ys) j ≡ Some z) up (take_more ys i j z at))
-
-    this : (z : ℕ) → Has (y ∷ []) z → Has (take (i + 1) ys) z
-    this z has = (i, subst (λ (n : ℕ). slice_get (take n ys) i ≡ Some z) up (at_next ys i within ∙ ap Some (sym is ∙ sym (only_has y z has))))
 
 pub adds_all : (x : ℕ) (ys : List ℕ) (n : ℕ) {before after : List (List ℕ)} → length ys ≤ n → Adds x (take n ys) before after → Adds x ys before after
-adds_all x ys n {before} {after} all a = subst (λ (l : List ℕ). Adds x l before after) (whole ys n all) a
-  where
-    whole : (xs : List ℕ) (n : ℕ) → length xs ≤ n → take n xs ≡ xs
-    whole [] zero h = refl
-    whole [] (suc n) h = refl
-    whole (x ∷ xs) zero h = absurd (omega arith)
-    whole (x ∷ xs) (suc n) h = ap (λ l. x ∷ l) (whole xs n (omega arith))
+adds_all x ys n {before} {after} all a = subst (λ (l : List ℕ). Adds x l before after) (take_whole ys n all) a
 
 -- the first i have their edges the other way round
 pub record HalfReversed (edges : List (List ℕ)) (i : ℕ) (back : List (List ℕ)) : Type 0 where

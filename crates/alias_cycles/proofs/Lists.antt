@@ -92,7 +92,7 @@ take_next (e ∷ es) (suc i) (suc j) x is = elim (take_next es i j x is) [ inl r
 pub has_more : (ys : List ℕ) (i x : ℕ) → Has (take (i + 1) ys) x → Has (take i ys) x ⊎ (get_or ys i 0 ≡ x)
 has_more ys i x (j, is) = let up : i + 1 ≡ suc i = omega arith in take_next ys i j x (subst (λ (n : ℕ). slice_get (take n ys) j ≡ Some x) up is)
 
-take_whole : {A : Type 0} (xs : List A) (n : ℕ) → length xs ≤ n → take n xs ≡ xs
+pub take_whole : {A : Type 0} (xs : List A) (n : ℕ) → length xs ≤ n → take n xs ≡ xs
 take_whole [] zero h = refl
 take_whole [] (suc n) h = refl
 take_whole (x ∷ xs) zero h = absurd (omega arith)
@@ -110,3 +110,26 @@ has_none x (i, is) = none_some x is
 
 pub off_here : (ms : List Bool) (y : ℕ) → y < length ms → get_or ms y false ≡ false → ¬ (IsOn ms y)
 off_here ms y small is on = let both : Some false ≡ Some true = sym (get_index ms y false false small is) ∙ on in cc
+
+-- ---- the first numbers of a list, one more at a time
+
+take_more : (es : List ℕ) (i j x : ℕ) → slice_get (take i es) j ≡ Some x → slice_get (take (suc i) es) j ≡ Some x
+take_more [] zero j x at = none_some x at
+take_more [] (suc i) j x at = none_some x at
+take_more (e ∷ es) zero j x at = none_some x at
+take_more (e ∷ es) (suc i) zero x at = at
+take_more (e ∷ es) (suc i) (suc j) x at = take_more es i j x at
+
+at_next : (es : List ℕ) (i : ℕ) → i < length es → slice_get (take (suc i) es) i ≡ Some (get_or es i 0)
+at_next [] i h = absurd (omega arith)
+at_next (e ∷ es) zero h = refl
+at_next (e ∷ es) (suc i) h = at_next es i (omega arith)
+
+pub earlier : (ys : List ℕ) (i z : ℕ) → Has (take i ys) z → Has (take (i + 1) ys) z
+earlier ys i z (j, at) = let up : suc i ≡ i + 1 = omega arith in (j, subst (λ (n : ℕ). slice_get (take n ys) j ≡ Some z) up (take_more ys i j z at))
+
+pub this : (ys : List ℕ) (i : ℕ) → i < length ys → Has (take (i + 1) ys) (get_or ys i 0)
+this ys i within = let up : suc i ≡ i + 1 = omega arith in (i, subst (λ (n : ℕ). slice_get (take n ys) i ≡ Some (get_or ys i 0)) up (at_next ys i within))
+
+pub this_one : (ys : List ℕ) (i y z : ℕ) → y ≡ get_or ys i 0 → i < length ys → Has (y ∷ []) z → Has (take (i + 1) ys) z
+this_one ys i y z is within has = subst (λ (x : ℕ). Has (take (i + 1) ys) x) (sym is ∙ sym (only_has y z has)) (this ys i within)

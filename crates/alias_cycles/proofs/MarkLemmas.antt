@@ -1,32 +1,8 @@
 -- Marking and putting back, one after another.
-use Rattle.std.proofs.Common.{◌≡◌, ◌≢◌, ℕ, zero, suc, ◌+◌, ◌<◌, ◌≤◌, ◌⊎◌, Bool, true, false, List, [], ◌∷◌, length, set, get_or, slice_get, take, Some, refl, sym, ap, ◌∙◌, inl, inr, arith, subst}
+use Rattle.std.proofs.Common.{◌≡◌, ◌≢◌, ℕ, ◌+◌, ◌<◌, ◌≤◌, ◌⊎◌, Bool, true, false, List, [], ◌∷◌, length, set, get_or, take, Some, refl, sym, ap, ◌∙◌, inl, inr, subst}
 use Rattle.alias_cycles.specs.Cycles.{Has, IsOn}
 use Rattle.alias_cycles.specs.Searching.{Marks, PutsBack}
-use Rattle.alias_cycles.proofs.Lists.{none_some, set_on, set_off, stays_on, stays_marked, was_marked, length-set_here, has_more, only_has, has_none}
-
-take_more : (es : List ℕ) (i j x : ℕ) → slice_get (take i es) j ≡ Some x → slice_get (take (suc i) es) j ≡ Some x
-take_more [] zero j x at = none_some x at
-take_more [] (suc i) j x at = none_some x at
-take_more (e ∷ es) zero j x at = none_some x at
-take_more (e ∷ es) (suc i) zero x at = at
-take_more (e ∷ es) (suc i) (suc j) x at = take_more es i j x at
-
-at_next : (es : List ℕ) (i : ℕ) → i < length es → slice_get (take (suc i) es) i ≡ Some (get_or es i 0)
-at_next [] i h = absurd (omega arith)
-at_next (e ∷ es) zero h = refl
-at_next (e ∷ es) (suc i) h = at_next es i (omega arith)
-
-pub earlier : (ys : List ℕ) (i z : ℕ) → Has (take i ys) z → Has (take (i + 1) ys) z
-earlier ys i z (j, at) = let up : suc i ≡ i + 1 = omega arith in (j, subst (λ (n : ℕ). slice_get (take n ys) j ≡ Some z) up (take_more ys i j z at))
-
-pub this : (ys : List ℕ) (i : ℕ) → i < length ys → Has (take (i + 1) ys) (get_or ys i 0)
-this ys i within = let up : suc i ≡ i + 1 = omega arith in (i, subst (λ (n : ℕ). slice_get (take n ys) i ≡ Some (get_or ys i 0)) up (at_next ys i within))
-
-take_whole : (xs : List ℕ) (n : ℕ) → length xs ≤ n → take n xs ≡ xs
-take_whole [] zero h = refl
-take_whole [] (suc n) h = refl
-take_whole (x ∷ xs) zero h = absurd (omega arith)
-take_whole (x ∷ xs) (suc n) h = ap (λ l. x ∷ l) (take_whole xs n (omega arith))
+use Rattle.alias_cycles.proofs.Lists.{set_on, set_off, stays_on, stays_marked, was_marked, length-set_here, has_more, only_has, has_none, earlier, this, take_whole}
 
 pub marks_none : (ms : List Bool) → Marks [] ms ms
 marks_none ms = record { len = refl; turned = λ x has. absurd (has_none x has); keeps = λ x on. on; only = λ x on. inl on }

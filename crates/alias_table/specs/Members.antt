@@ -22,6 +22,6 @@ pub data AreMembers (named : Key → FlowType) : List FlowType → List FlowType
   opens : (t : FlowType) (rest inner all : List FlowType) → opened named t ≡ Some inner → AreMembers named (inner ++ rest) all → AreMembers named (t ∷ rest) all
   stays : (t : FlowType) (rest all : List FlowType) → opened named t ≡ None → AreMembers named rest all → AreMembers named (t ∷ rest) (t ∷ all)
 
--- unfolding types ends, with a list of members
+-- unfolding these types ends, with a list of members
 abbrev pub HasMembers : (Key → FlowType) → List FlowType → Type 0
 HasMembers named types = (all : List FlowType) × AreMembers named types all

@@ -72,6 +72,7 @@ pub struct AliasTable {
     modules: Modules,
     types: List<FlowType>,
     marks: Vec<bool>,
+    // Each alias on an unguarded cycle of the table's own aliases is marked.
     ghost marked: { AreMarked (type_in modules types) (mark_in modules marks.items) },
 }
 

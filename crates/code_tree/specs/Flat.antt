@@ -1,6 +1,6 @@
 -- Marks, levels, operators, parameters and signatures, as the grammar has them: what a tree of the code holds that holds none of
 -- its kind.
-use Rattle.std.specs.Prelude.{ℕ, List, [], ◌∷◌, map}
+use Rattle.std.specs.Prelude.{List, [], ◌∷◌, map}
 use Rattle.std.specs.Option.{option_map}
 use Rattle.js_grammar.specs.Code as g
 use Rattle.js_grammar.specs.Code.{Prefixes, no_prefix, more_prefix, Parameters, no_parameter, more_parameter}

@@ -6,6 +6,7 @@ use Rattle.flow_model.specs.Errors.{full1, error_count}
 use Rattle.script_print.specs.Printed.{files_line}
 use Rattle.script_run.specs.declared.ending.Ending.{Ending}
 use Rattle.script_run.specs.declared.ending.Ending.TheVariants as ending
+use Rattle.script_reader.specs.Lines.{lines_left}
 use Rattle.script_run.specs.Transcript.{MayList, MOST_MODULES, IsRun, PrintsBetweenLines}
 use Rattle.script_run.specs.Session.{RoseBy}
 use Rattle.script_run.specs.Steps.{HasRun, HasStopped, HasFront}
@@ -45,14 +46,14 @@ pub record HasPrinted (how : Status) (words : List Bytes) (told : Option Program
   pub written : now ≡ appended before printed
   pub counted : RoseBy read_faults faults faults'
 
--- the script failed: the load and the answers to the lines that were taken before were printed
-pub record HasHalted (words : List Bytes) (told : Option Program) (script : Option (List Bytes)) (before now : Option Bytes) (faults faults' : ℕ) : Type 0 where
+-- the script failed, with these bytes left: the load and the answers to all whole lines that it gave were printed
+pub record HasHalted (words : List Bytes) (told : Option Program) (script left before now : Option Bytes) (faults faults' : ℕ) : Type 0 where
   pub place : ℕ
   pub listed : List Bytes
   pub command : root_place words ≡ Some place
   pub lists : MayList told listed
   pub few : length listed ≤ MOST_MODULES
-  pub stopped : HasStopped told listed script before now faults faults'
+  pub stopped : HasStopped told listed script left before now faults faults'
 
 -- a front of what a run prints was printed, or nothing
 pub record HasPrintedFront (words : List Bytes) (told : Option Program) (script : Option (List Bytes)) (before now : Option Bytes) : Type 0 where
@@ -60,17 +61,17 @@ pub record HasPrintedFront (words : List Bytes) (told : Option Program) (script 
   pub prints : PrintsUpTo words told script printed
   pub front : HoldsFront before now printed
 
--- what is printed at each status
-abbrev pub Leaves : Status → List Bytes → Option Program → Option (List Bytes) → Option Bytes → Option Bytes → ℕ → ℕ → Type 0
-Leaves status.Clean words told script before now faults faults' = HasPrinted status.Clean words told script before now faults faults'
-Leaves status.Errors words told script before now faults faults' = HasPrinted status.Errors words told script before now faults faults'
-Leaves status.Usage words told script before now faults faults' = HasPrinted status.Usage words told script before now faults faults'
-Leaves status.BadLine words told script before now faults faults' = HasPrinted status.BadLine words told script before now faults faults'
-Leaves status.FolderFault words told script before now faults faults' = now ≡ before
-Leaves status.ScriptFault words told script before now faults faults' = HasHalted words told script before now faults faults'
-Leaves status.SinkFault words told script before now faults faults' = HasPrintedFront words told script before now
-Leaves status.Limit words told script before now faults faults' = HasPrinted status.Limit words told script before now faults faults'
-Leaves status.NoMemory words told script before now faults faults' = HasPrintedFront words told script before now
+-- what is printed at each status, by the bytes of the script before the run and those that it has left
+abbrev pub Leaves : Status → List Bytes → Option Program → Option Bytes → Option Bytes → Option Bytes → Option Bytes → ℕ → ℕ → Type 0
+Leaves status.Clean words told script left before now faults faults' = HasPrinted status.Clean words told (lines_left [] script) before now faults faults'
+Leaves status.Errors words told script left before now faults faults' = HasPrinted status.Errors words told (lines_left [] script) before now faults faults'
+Leaves status.Usage words told script left before now faults faults' = HasPrinted status.Usage words told (lines_left [] script) before now faults faults'
+Leaves status.BadLine words told script left before now faults faults' = HasPrinted status.BadLine words told (lines_left [] script) before now faults faults'
+Leaves status.FolderFault words told script left before now faults faults' = now ≡ before
+Leaves status.ScriptFault words told script left before now faults faults' = HasHalted words told script left before now faults faults'
+Leaves status.SinkFault words told script left before now faults faults' = HasPrintedFront words told (lines_left [] script) before now
+Leaves status.Limit words told script left before now faults faults' = HasPrinted status.Limit words told (lines_left [] script) before now faults faults'
+Leaves status.NoMemory words told script left before now faults faults' = HasPrintedFront words told (lines_left [] script) before now
 
 -- some last bytes were written, or a front of them, and the status says which
 abbrev pub WritesLast : Option Bytes → Option Bytes → Bytes → Status → Status → Type 0
@@ -78,8 +79,8 @@ WritesLast before now bytes how result =
     ((result ≡ how) × (now ≡ appended before bytes)) ⊎ (((result ≡ status.SinkFault) ⊎ (result ≡ status.NoMemory)) × HoldsFront before now bytes)
 
 -- how a run over these listed paths ends
-abbrev pub RunLeaves : List Bytes → Option Program → Option (List Bytes) → Option Bytes → Option Bytes → ℕ → ℕ → Status → Type 0
-RunLeaves listed told script before now faults faults' result =
-    ((how : Ending) × (errors : ℕ) × (result ≡ status_after how errors) × HasRun told listed script how errors before now faults faults')
-    ⊎ ((result ≡ status.ScriptFault) × HasStopped told listed script before now faults faults')
-    ⊎ (((result ≡ status.SinkFault) ⊎ (result ≡ status.NoMemory)) × HasFront told listed script before now)
+abbrev pub RunLeaves : List Bytes → Option Program → Option Bytes → Option Bytes → Option Bytes → Option Bytes → ℕ → ℕ → Status → Type 0
+RunLeaves listed told script left before now faults faults' result =
+    ((how : Ending) × (errors : ℕ) × (result ≡ status_after how errors) × HasRun told listed (lines_left [] script) how errors before now faults faults')
+    ⊎ ((result ≡ status.ScriptFault) × HasStopped told listed script left before now faults faults')
+    ⊎ (((result ≡ status.SinkFault) ⊎ (result ≡ status.NoMemory)) × HasFront told listed (lines_left [] script) before now)

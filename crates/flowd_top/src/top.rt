@@ -3,7 +3,6 @@ ghost use Rattle.flow_base.specs.Program.{IsRising};
 ghost use Rattle.flow_base.specs.Causes.{Rose};
 ghost use Rattle.flow_base.specs.declared.outside.LastFault.TheVariants.{Listing};
 ghost use Rattle.script_print.specs.Printed.{files_line};
-ghost use Rattle.script_reader.specs.Lines.{lines_left};
 ghost use Rattle.script_run.specs.Transcript.{MOST_MODULES};
 ghost use Rattle.flowd_top.specs.Words.{root_place};
 ghost use Rattle.flowd_top.specs.Run.{Leaves, RunLeaves, WritesLast, status_after};
@@ -32,9 +31,10 @@ pub fn flowd<F: Folder, S: Source, K: Sink, T: Turnstile + Sync>(
     out: &mut K,
     _turns: &T,
 ) -> Status
-    // What was printed is a whole transcript with this status; after a fault of the script all of one up to its line,
-    // and after one of the sink, and at want of memory, a front of one. After a fault of the folder nothing was printed.
-    ensures printed { Leaves result (map string_bytes words.now) (F.told folder.old) (lines_left [] (S.left script.old))
+    // What was printed is a whole transcript with this status; after a fault of the script all of one up to the last
+    // whole line that the script gave, and after one of the sink, and at want of memory, a front of one. After a fault
+    // of the folder nothing was printed.
+    ensures printed { Leaves result (map string_bytes words.now) (F.told folder.old) (S.left script.old) (S.left script.new)
         (K.written out.old) (K.written out.new) (F.faults folder.old) (F.faults folder.new) }
 
     // Where the words are not of the command, neither the folder nor the script is touched.
@@ -79,7 +79,7 @@ fn run_over<F: Folder, S: Source, K: Sink>(
 ) -> Status
     requires rising { IsRising listed }
     requires few { length listed ≤ MOST_MODULES }
-    ensures leaves { RunLeaves listed (F.told folder.old) (lines_left [] (S.left script.old)) (K.written out.old) (K.written out.new) (F.faults folder.old) (F.faults folder.new) result }
+    ensures leaves { RunLeaves listed (F.told folder.old) (S.left script.old) (S.left script.new) (K.written out.old) (K.written out.new) (F.faults folder.old) (F.faults folder.new) result }
     ensures no_folder_fault { result ≡ Status.FolderFault → ⊥ }
     ensures script_fault { result ≡ Status.ScriptFault → Rose (S.faults script.old) (S.faults script.new) }
     ensures sink_fault { result ≡ Status.SinkFault → Rose (K.faults out.old) (K.faults out.new) }

@@ -1,5 +1,5 @@
 -- The lists of a type grow at their end; here they are spelled in order.
-use Rattle.std.proofs.Common.{◌≡◌, refl, sym, ◌∙◌, ap, arith, ℕ, ◌+◌, ◌<◌, List, [], ◌∷◌, map, length, drop, drop-cons}
+use Rattle.std.proofs.Common.{◌≡◌, refl, sym, ◌∙◌, arith, ℕ, ◌+◌, ◌<◌, List, [], ◌∷◌, map, length, drop, drop-cons}
 use Rattle.js_token.specs.declared.token.TokenKind.TheVariants.{Punct}
 use Rattle.js_token.specs.declared.punct.Punct.TheVariants.{OpenBracket, CloseBracket, Comma, Question, Bar}
 use Rattle.js_grammar.specs.Types.{Places, no_place, more_place, Pres, no_pre, more_pre, Pre, Params, no_param, more_param, Param, Ty, Types, no_type, more_type, Props, no_prop, more_prop, Prop}

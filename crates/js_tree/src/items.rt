@@ -75,7 +75,10 @@ pub enum ExportForm {
     Function(Function),
     Alias(Alias),
     /// `{a, b as c};`, behind `type` or not.
-    Names { types: bool, list: ExportList },
+    Names {
+        types: bool,
+        list: ExportList,
+    },
     /// `{a, b as c} from './d';`, behind `type` or not.
     From {
         types: bool,

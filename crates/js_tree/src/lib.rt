@@ -9,5 +9,4 @@ pub use items::{
     Alias, ExportForm, ExportList, Exported, ImportForm, ImportList, Imported, Item, ItemForm,
     Module,
 };
-
 pub use spelling::spell;

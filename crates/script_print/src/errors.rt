@@ -1,4 +1,4 @@
-ghost use Rattle.std.specs.Prelude.{◌≡◌, ◌++◌, string_bytes, IfOk};
+ghost use Rattle.std.specs.Prelude.{◌≡◌, ◌++◌, string_bytes, IfOk, OnErr};
 ghost use Rattle.source_place.specs.Place.{line_at, column_at, IsPlace};
 ghost use Rattle.script_print.specs.Printed.{error_line, error_place, details_part, status_line};
 
@@ -30,7 +30,7 @@ fn push_details(out: &mut Vec<u8>, details: &[u8]) -> Result<(), NoMemory>
 ///
 /// # Errors
 ///
-/// `NoMemory` where memory is refused. A front of the line may have been appended then.
+/// `NoMemory` where memory is refused. Nothing is appended then.
 #[tactic(auto, using(crate::proofs::ErrorLines::error_line_parts))]
 pub fn push_error(
     alloc: Global,
@@ -40,14 +40,15 @@ pub fn push_error(
     fault: &Fault,
 ) -> Result<(), NoMemory>
     requires { IsPlace text.now fault.now.span.start }
-    ensures { IfOk result (λ _. out.new.items ≡ out.old.items ++ error_line path.now text.now fault.now) }
+    ensures line { IfOk result (λ _. out.new.items ≡ out.old.items ++ error_line path.now text.now fault.now) }
+    ensures same { OnErr result (out.new.items ≡ out.old.items) }
 {
     let (line, column) = place(text, fault.span.start);
-    let front = error_place(alloc, path, line, column)?;
-    out.extend_from_slice(front.as_bytes())?;
-    out.extend_from_slice(fault.code.name().as_bytes())?;
-    push_details(out, fault.details.as_bytes())?;
-    out.extend_from_slice(b"\n")?;
+    let mut printed = error_place(alloc, path, line, column)?.into_bytes();
+    printed.extend_from_slice(fault.code.name().as_bytes())?;
+    push_details(&mut printed, fault.details.as_bytes())?;
+    printed.extend_from_slice(b"\n")?;
+    out.extend_from_slice(printed.as_slice())?;
     Ok(())
 }
 

@@ -22,9 +22,13 @@ HasNoFeed bytes = All (λ b. (b == FEED) ≡ false) bytes
 abbrev pub LINE_LIMIT : ℕ
 LINE_LIMIT = 4194304
 
--- the lines that are to come, where the source tells what it has left: those of the bytes that were read ahead, and of the rest
+-- the bytes that are to come, where the source tells what it has left: those that were read ahead, and the rest
+abbrev pub bytes_left : Bytes → Option Bytes → Option Bytes
+bytes_left ahead left = option_map (λ rest. ahead ++ rest) left
+
+-- the lines of these bytes
 abbrev pub lines_left : Bytes → Option Bytes → Option (List Bytes)
-lines_left ahead left = option_map (λ rest. script_lines (ahead ++ rest)) left
+lines_left ahead left = option_map script_lines (bytes_left ahead left)
 
 -- the first of the lines to come has this property
 abbrev pub FirstLine : (Bytes → Type 0) → List Bytes → Type 0
@@ -43,12 +47,14 @@ IsAtEnd before = WhereTold before (λ lines. lines ≡ [])
 abbrev pub IsTooLong : Option (List Bytes) → Type 0
 IsTooLong before = WhereTold before (FirstLine (λ line. LINE_LIMIT < length line))
 
--- the lines, where these bytes of the first one were read already
-abbrev pub joined : Bytes → List Bytes → List Bytes
-joined [] [] = []
-joined (b ∷ begun) [] = (b ∷ begun) ∷ []
-joined begun (line ∷ lines) = (begun ++ line) ∷ lines
+-- these bytes were taken, from the front of those to come
+abbrev pub TakesBytes : Bytes → Option Bytes → Option Bytes → Type 0
+TakesBytes front before after = before ≡ option_map (λ rest. front ++ rest) after
 
--- the first line goes on: these bytes of it were taken
-abbrev pub GoesOn : Bytes → Option (List Bytes) → Option (List Bytes) → Type 0
-GoesOn part before after = before ≡ option_map (joined part) after
+-- some bytes were taken, from the front of those to come
+abbrev pub TakesFront : Option Bytes → Option Bytes → Type 0
+TakesFront before after = (front : Bytes) × TakesBytes front before after
+
+-- no LF was taken, but maybe a part of a line
+abbrev pub BreaksLine : Option Bytes → Option Bytes → Type 0
+BreaksLine before after = (part : Bytes) × HasNoFeed part × TakesBytes part before after

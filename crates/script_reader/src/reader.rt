@@ -1,9 +1,7 @@
-ghost use Rattle.std.specs.Prelude.{◌≡◌, ◌≤◌, ◌<◌, [], length, IfOk, IfSome, IfNone, IsErrOf, OnOk, true, false};
-ghost use Rattle.std.specs.Option.{option_map};
-ghost use Rattle.flow_base.specs.Outside.{WhereTold};
+ghost use Rattle.std.specs.Prelude.{◌≡◌, ◌≤◌, ◌<◌, [], length, IfOk, IfSome, IfNone, IsErrOf, OnErr, true, false};
 ghost use Rattle.flow_base.specs.Causes.{HasCause};
-ghost use Rattle.script_reader.specs.Lines.{lines_left, TakesLine, IsAtEnd, IsTooLong, LINE_LIMIT};
-ghost use Rattle.script_reader.specs.Steps.{Steps, Reads};
+ghost use Rattle.script_reader.specs.Lines.{bytes_left, lines_left, TakesLine, TakesFront, BreaksLine, IsAtEnd, IsTooLong, LINE_LIMIT};
+ghost use Rattle.script_reader.specs.Steps.{Steps, HasEnded};
 
 use crate::window::Window;
 use flow_base::{Failed, NoMemory, Source, Text};
@@ -92,13 +90,16 @@ impl LineReader {
     ///
     /// `Failed` only where the source counted a fault, `TooLong` exactly where the next line has
     /// more than 4,194,304 bytes, and `NoMemory` where memory is refused. After an error the reader
-    /// may have lost bytes of the line.
-    #[tactic(auto, using(crate::proofs::Joins::is_too_long, crate::proofs::Joins::none_left, crate::proofs::Joins::took_line))]
+    /// may have lost bytes of the line; after `Failed` no LF among them, and nothing is read ahead.
+    #[tactic(auto, using(crate::proofs::Joins::is_too_long, crate::proofs::Joins::none_left, crate::proofs::Joins::took_line, crate::proofs::Joins::took_front, crate::proofs::Joins::front_kept, crate::proofs::Joins::broke, crate::proofs::Joins::nothing_taken, crate::proofs::Joins::broke_at_once))]
     pub fn next<S: Source>(&mut self, source: &mut S) -> Result<Option<Text>, ReadFault>
         ensures line { IfOk result (λ found. IfSome found (λ line. TakesLine line (lines_left self.old (S.left source.old)) (lines_left self.new (S.left source.new)))) }
         ensures short { IfOk result (λ found. IfSome found (λ line. length line ≤ LINE_LIMIT)) }
         ensures end { IfOk result (λ found. IfNone found (IsAtEnd (lines_left self.old (S.left source.old)))) }
         ensures long { IsErrOf result ReadFault.TooLong → IsTooLong (lines_left self.old (S.left source.old)) }
+        ensures front { TakesFront (bytes_left self.old (S.left source.old)) (bytes_left self.new (S.left source.new)) }
+        ensures ahead { IsErrOf result ReadFault.Failed → self.new ≡ [] }
+        ensures broken { IsErrOf result ReadFault.Failed → BreaksLine (bytes_left self.old (S.left source.old)) (bytes_left self.new (S.left source.new)) }
         ensures cause { HasCause ReadFault.Failed (S.faults source.old) (S.faults source.new) result }
     {
         let mut line = Vec::new(self.alloc);
@@ -117,11 +118,12 @@ impl LineReader {
 }
 
 // Reads ahead where nothing is there: whether bytes are there.
-#[tactic(auto, using(crate::proofs::Joins::filled_lines))]
+#[tactic(auto, using(crate::proofs::Joins::filled_bytes, crate::proofs::Joins::ended_ahead))]
 fn is_ready<S: Source>(window: &mut Window, source: &mut S) -> Result<bool, Failed>
     ensures some { IfOk result (λ some. some ≡ true → 0 < length window.new) }
-    ensures end { IfOk result (λ some. some ≡ false → IsAtEnd (lines_left window.old (S.left source.old))) }
-    ensures same { IfOk result (λ _. lines_left window.new (S.left source.new) ≡ lines_left window.old (S.left source.old)) }
+    ensures end { IfOk result (λ some. some ≡ false → HasEnded (bytes_left window.old (S.left source.old))) }
+    ensures same { bytes_left window.new (S.left source.new) ≡ bytes_left window.old (S.left source.old) }
+    ensures ahead { OnErr result (window.new ≡ []) }
     ensures cause { HasCause (record {}) (S.faults source.old) (S.faults source.new) result }
 {
     if window.rest().is_empty() {
@@ -137,7 +139,9 @@ fn advance<S: Source>(
     source: &mut S,
     line: &mut Vec<u8>,
 ) -> Result<Step, ReadFault>
-    ensures step { IfOk result (λ step. Steps step line.old.items line.new.items (lines_left window.old (S.left source.old)) (lines_left window.new (S.left source.new))) }
+    ensures step { IfOk result (λ step. Steps step line.old.items line.new.items (bytes_left window.old (S.left source.old)) (bytes_left window.new (S.left source.new))) }
+    ensures same { OnErr result (bytes_left window.new (S.left source.new) ≡ bytes_left window.old (S.left source.old)) }
+    ensures ahead { IsErrOf result ReadFault.Failed → window.new ≡ [] }
     ensures never_long { IsErrOf result ReadFault.TooLong → ⊥ }
     ensures cause { HasCause ReadFault.Failed (S.faults source.old) (S.faults source.new) result }
 {

@@ -68,7 +68,8 @@ impl Window {
     /// Takes the bytes before the next LF, and the LF, or all where there is none: they go behind
     /// `line`, without the LF. Answers whether there was one.
     pub fn take_part(&mut self, line: &mut Vec<u8>) -> Result<bool, NoMemory>
-        ensures { IfOk result (TakesPart self.old self.new line.old.items line.new.items) }
+        ensures part { IfOk result (TakesPart self.old self.new line.old.items line.new.items) }
+        ensures same { OnErr result (self.new ≡ self.old) }
     {
         let rest = self.rest();
         match first_feed(rest) {

@@ -8,13 +8,13 @@ use Rattle.flow_base.specs.Program.{Bytes, Program}
 use Rattle.flow_base.specs.Outside.{WhereTold, appended, HoldsFront}
 use Rattle.flow_model.specs.Errors.{full1, error_count}
 use Rattle.script_line.specs.declared.line.Line.{Line}
-use Rattle.script_reader.specs.Lines.{TakesLine}
+use Rattle.script_reader.specs.Lines.{lines_left, TakesLine}
 use Rattle.script_run.specs.declared.ending.Ending.{Ending}
 use Rattle.script_run.specs.Transcript.{Standing, start, Rechecks, done, cannot_read, Turns, blank, edits, refuses, rechecks, answers, loads, goes, Ends, last_line, IsRun, IsRunSoFar, nothing, so_far, whole}
 use Rattle.script_run.specs.Session.{RoseBy, HasRechecked, HasTurned}
 use Rattle.script_run.specs.declared.command.Command.{Command}
 use Rattle.script_run.specs.declared.command.Command.TheVariants as command
-use Rattle.script_run.specs.Steps.{Reads, IsTaken, HasEnd, Takes, Closes, Breaks, silent, in_turn, in_end, BreaksOff, unsaid, begun, HasLoaded, BreaksLoad, unsaid_load, begun_load, HasWalked, HasRun, HasStopped, HasFront}
+use Rattle.script_run.specs.Steps.{Reads, IsTaken, HasEnd, Takes, Closes, Breaks, silent, in_turn, in_end, BreaksOff, unsaid, begun, HasLoaded, BreaksLoad, unsaid_load, begun_load, HasWalked, HasRun, TookAllGiven, HasStopped, HasFront}
 use Rattle.script_run.proofs.Fronts.{front_none, front_all, front_behind}
 use Rattle.script_run.proofs.Writing.{appended_twice}
 
@@ -150,16 +150,6 @@ module _ (told : Option Program) (listed : List Bytes) (script : Option (List By
       let rest = some_rest left in
       record { taken = walked.lines; rest = rest.0; lines = told_lines script left walked.lines rest.0 walked.leaves rest.1; standing = s; walk = walked.walk }
 
-  pub stops : (left : Option (List Bytes)) (n : ℕ) (s : Standing) (now now' : Option Bytes) (faults' faults'' : ℕ) → faults' ≤ faults'' → now' ≡ now → HasWalked told listed script left n s before now faults faults'
-      → HasStopped told listed script before now' faults faults''
-  stops left n s now now' faults' faults'' later same walked = record {
-    read_faults = walked.read_faults;
-    printed = walked.printed;
-    run = so_far_of left n s now faults' walked;
-    written = same ∙ walked.written;
-    counted = rose_later walked.read_faults faults faults' faults'' walked.counted later;
-  }
-
   run_of : (left : Option (List Bytes)) (n : ℕ) (s : Standing) (now : Option Bytes) (faults' : ℕ) (how : Ending) (walked : HasWalked told listed script left n s before now faults faults') → HasEnd how n left
       → IsRun told listed script walked.read_faults (walked.printed ++ last_line (n + 1) how) how s.program
   run_of left n s now faults' how walked end = record {
@@ -233,3 +223,16 @@ module _ (told : Option Program) (listed : List Bytes) (script : Option (List By
         prints = so_far f printed (record { taken = []; rest = rest.0; lines = rest.1; standing = s; walk = loads s f printed load });
         front = front;
       }
+
+-- a walk that the script stopped
+pub stops : (told : Option Program) (listed : List Bytes) (script left before : Option Bytes) (faults : ℕ) (lines_now : Option (List Bytes)) (n : ℕ) (s : Standing) (now now' : Option Bytes) (faults' faults'' : ℕ) → faults' ≤ faults'' → now' ≡ now →
+    (walked : HasWalked told listed (lines_left [] script) lines_now n s before now faults faults') → TookAllGiven walked.lines script left → HasStopped told listed script left before now' faults faults''
+unfolding so_far_of
+stops told listed script left before faults lines_now n s now now' faults' faults'' later same walked took = record {
+  read_faults = walked.read_faults;
+  printed = walked.printed;
+  run = so_far_of told listed (lines_left [] script) before faults lines_now n s now faults' walked;
+  took_all = took;
+  written = same ∙ walked.written;
+  counted = rose_later walked.read_faults faults faults' faults'' walked.counted later;
+}

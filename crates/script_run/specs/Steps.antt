@@ -1,5 +1,5 @@
 -- The steps of a walk: what is read, and what was done and printed so far.
-use Rattle.std.specs.Prelude.{◌≡◌, ◌<◌, ◌≤◌, ℕ, ◌+◌, List, ◌∷◌, ◌++◌, length, Option}
+use Rattle.std.specs.Prelude.{◌≡◌, ◌<◌, ◌≤◌, ℕ, ◌+◌, List, [], ◌∷◌, ◌++◌, length, Option}
 use Rattle.std.specs.Option.{option_map}
 use Rattle.flow_base.specs.Program.{Bytes, Program}
 use Rattle.flow_base.specs.Outside.{WhereTold, appended, HoldsFront}
@@ -7,7 +7,7 @@ use Rattle.flow_model.specs.Errors.{full1, error_count}
 use Rattle.script_line.specs.declared.line.Line.{Line}
 use Rattle.script_line.specs.declared.line.Line.TheVariants as line
 use Rattle.script_line.specs.Says.{Says}
-use Rattle.script_reader.specs.Lines.{LINE_LIMIT, TakesLine}
+use Rattle.script_reader.specs.Lines.{LINE_LIMIT, script_lines, lines_left, HasNoFeed, TakesLine}
 use Rattle.script_run.specs.declared.ending.Ending.{Ending}
 use Rattle.script_run.specs.declared.command.Command.{Command}
 use Rattle.script_run.specs.declared.command.Command.TheVariants as command
@@ -100,11 +100,22 @@ pub record HasRun (told : Option Program) (listed : List Bytes) (script : Option
   pub counted : RoseBy read_faults faults faults'
   pub counts : errors ≡ error_count (full1 program)
 
--- a run stopped between two lines: all that it had to print until then was printed
-pub record HasStopped (told : Option Program) (listed : List Bytes) (script : Option (List Bytes)) (before now : Option Bytes) (faults faults' : ℕ) : Type 0 where
+-- All whole lines that the script gave before it failed were taken: the last that it gave is a part of a line, with no LF in it, and
+-- the script's lines are those that were taken, and then those of this part and what is left. The part may be empty.
+pub record TookAllGiven (taken : List Bytes) (script left : Option Bytes) : Type 0 where
+  pub front : Bytes
+  pub part : Bytes
+  pub no_feed : HasNoFeed part
+  pub given : script ≡ option_map (λ rest. front ++ (part ++ rest)) left
+  pub lines : lines_left [] script ≡ option_map (λ rest. taken ++ script_lines (part ++ rest)) left
+
+-- The script failed, with these bytes left: all whole lines that it gave were taken and answered, and all that the load and these
+-- lines print was printed.
+pub record HasStopped (told : Option Program) (listed : List Bytes) (script left before now : Option Bytes) (faults faults' : ℕ) : Type 0 where
   pub read_faults : ℕ
   pub printed : Bytes
-  pub run : IsRunSoFar told listed script read_faults printed
+  pub run : IsRunSoFar told listed (lines_left [] script) read_faults printed
+  pub took_all : TookAllGiven run.taken script left
   pub written : now ≡ appended before printed
   pub counted : RoseBy read_faults faults faults'
 

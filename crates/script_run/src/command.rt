@@ -1,7 +1,7 @@
-ghost use Rattle.std.specs.Prelude.{◌≡◌, ◌<◌, ◌≤◌, ◌∷◌, List, length, IfOk, IfErr, IsErrOf};
+ghost use Rattle.std.specs.Prelude.{◌≡◌, ◌<◌, ◌≤◌, [], ◌∷◌, List, length, IfOk, IfErr, IsErrOf};
 ghost use Rattle.flow_base.specs.Program.{Bytes};
 ghost use Rattle.flow_base.specs.Causes.{HasCause};
-ghost use Rattle.script_reader.specs.Lines.{lines_left, LINE_LIMIT};
+ghost use Rattle.script_reader.specs.Lines.{bytes_left, lines_left, TakesFront, BreaksLine, LINE_LIMIT};
 ghost use Rattle.script_run.specs.Transcript.{Ends};
 ghost use Rattle.script_run.specs.Steps.{Means, Reads};
 
@@ -31,6 +31,9 @@ pub fn read_command<S: Source>(
     script: &mut S,
 ) -> Result<Command, RunFault>
     ensures reads { IfOk result (λ command. Reads command taken (lines_left reader.old (S.left script.old)) (lines_left reader.new (S.left script.new))) }
+    ensures front { TakesFront (bytes_left reader.old (S.left script.old)) (bytes_left reader.new (S.left script.new)) }
+    ensures ahead { IsErrOf result RunFault.ScriptFault → reader.new ≡ [] }
+    ensures broken { IsErrOf result RunFault.ScriptFault → BreaksLine (bytes_left reader.old (S.left script.old)) (bytes_left reader.new (S.left script.new)) }
     ensures cause { HasCause RunFault.ScriptFault (S.faults script.old) (S.faults script.new) result }
     ensures no_sink { IsErrOf result RunFault.SinkFault → ⊥ }
 {

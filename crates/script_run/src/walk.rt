@@ -2,7 +2,7 @@ ghost use Rattle.std.specs.Prelude.{◌≡◌, ◌≤◌, ◌+◌, ◌<◌, ◌^
 ghost use Rattle.flow_base.specs.Program.{IsRising};
 ghost use Rattle.flow_base.specs.Outside.{appended, HoldsFront};
 ghost use Rattle.flow_base.specs.Causes.{Rose, HasCause};
-ghost use Rattle.script_reader.specs.Lines.{lines_left};
+ghost use Rattle.script_reader.specs.Lines.{bytes_left, lines_left, TakesFront, BreaksLine};
 ghost use Rattle.script_run.specs.Transcript.{MOST_MODULES, last_line};
 ghost use Rattle.script_run.specs.Steps.{Takes, Closes, Breaks, HasAnswered, BreaksOff, HasLoaded, BreaksLoad, HasRun, HasStopped, HasFront};
 
@@ -22,8 +22,8 @@ use std::alloc::Global;
 /// # Errors
 ///
 /// `ScriptFault` and `SinkFault` only where the script, or the sink, counted a fault, and `NoMemory`
-/// where memory is refused. After `ScriptFault` all that the lines before it print is written, and
-/// after the others a front of what the run prints.
+/// where memory is refused. After `ScriptFault` all whole lines that the script gave are answered,
+/// and what they print is written; after the others a front of what the run prints.
 pub fn run<F: Folder, S: Source, K: Sink>(
     alloc: Global,
     listed: List<Path>,
@@ -35,7 +35,7 @@ pub fn run<F: Folder, S: Source, K: Sink>(
     requires few { length listed ≤ MOST_MODULES }
     ensures ended { IfOk result (λ ended. HasRun (F.told folder.old) listed (lines_left [] (S.left script.old)) ended.ending ended.errors
         (K.written out.old) (K.written out.new) (F.faults folder.old) (F.faults folder.new)) }
-    ensures stopped { IsErrOf result RunFault.ScriptFault → HasStopped (F.told folder.old) listed (lines_left [] (S.left script.old))
+    ensures stopped { IsErrOf result RunFault.ScriptFault → HasStopped (F.told folder.old) listed (S.left script.old) (S.left script.new)
         (K.written out.old) (K.written out.new) (F.faults folder.old) (F.faults folder.new) }
     ensures front { OnErr result (HasFront (F.told folder.old) listed (lines_left [] (S.left script.old)) (K.written out.old) (K.written out.new)) }
     ensures script_cause { HasCause RunFault.ScriptFault (S.faults script.old) (S.faults script.new) result }
@@ -96,6 +96,9 @@ fn step<F: Folder, S: Source, K: Sink>(
     ensures closes { IfOk result (λ ending. IfSome ending (λ how. Closes how taken (lines_left reader.old (S.left script.old)) (K.written out.old) (K.written out.new) × (session.new ≡ session.old))) }
     ensures breaks { OnErr result (Breaks (F.told folder.old) taken (lines_left reader.old (S.left script.old)) session.old (K.written out.old) (K.written out.new)) }
     ensures silent { IsErrOf result RunFault.ScriptFault → K.written out.new ≡ K.written out.old }
+    ensures front { TakesFront (bytes_left reader.old (S.left script.old)) (bytes_left reader.new (S.left script.new)) }
+    ensures ahead { IsErrOf result RunFault.ScriptFault → reader.new ≡ [] }
+    ensures broken { IsErrOf result RunFault.ScriptFault → BreaksLine (bytes_left reader.old (S.left script.old)) (bytes_left reader.new (S.left script.new)) }
     ensures script_cause { HasCause RunFault.ScriptFault (S.faults script.old) (S.faults script.new) result }
     ensures sink_cause { HasCause RunFault.SinkFault (K.faults out.old) (K.faults out.new) result }
     ensures told { F.told folder.new ≡ F.told folder.old }

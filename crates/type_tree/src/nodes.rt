@@ -1,4 +1,6 @@
 // Nodes of trees, each with what it stands for.
+#![tactic(auto, unfolding(crate::specs::View::type_view, crate::specs::View::pre_view, crate::specs::View::core_view, crate::specs::View::base_view, crate::specs::View::form_view, crate::specs::View::param_view, crate::specs::View::prop_view, crate::specs::View::places_view, crate::specs::View::pres_view, crate::specs::View::params_view, crate::specs::View::types_view, crate::specs::View::props_view))]
+
 ghost use Rattle.std.specs.Prelude.{◌≡◌, IfOk};
 ghost use Rattle.js_grammar.specs.Types.{ty, pre, fun, post, base, name as name_form, str as str_form, num as number_form, null, void, truth as truth_form, array, paren, tuple, object, plain, named, prop};
 ghost use Rattle.type_tree.specs.View.{sign_view, ending_view, key_view, type_view, pre_view, core_view, base_view, form_view, param_view, places_view, pres_view, params_view, types_view, props_view, prop_view};
@@ -12,7 +14,6 @@ use std::alloc::Global;
 
 impl TypeTree {
     /// A union of these members, with a `|` before the first where `lead` is true.
-    #[tactic(auto, unfolding(crate::specs::View::type_view, crate::specs::View::pre_view, crate::specs::View::core_view, crate::specs::View::base_view, crate::specs::View::form_view, crate::specs::View::param_view, crate::specs::View::prop_view, crate::specs::View::places_view, crate::specs::View::pres_view, crate::specs::View::params_view, crate::specs::View::types_view, crate::specs::View::props_view))]
     pub fn new(first: usize, end: usize, lead: bool, members: List<PreTree>) -> TypeTree
         ensures { type_view result ≡ ty first end lead (pres_view members) }
     {
@@ -27,7 +28,6 @@ impl TypeTree {
 
 impl PreTree {
     /// A member behind question marks at these places.
-    #[tactic(auto, unfolding(crate::specs::View::type_view, crate::specs::View::pre_view, crate::specs::View::core_view, crate::specs::View::base_view, crate::specs::View::form_view, crate::specs::View::param_view, crate::specs::View::prop_view, crate::specs::View::places_view, crate::specs::View::pres_view, crate::specs::View::params_view, crate::specs::View::types_view, crate::specs::View::props_view))]
     pub fn new(first: usize, end: usize, marks: List<usize>, core: CoreTree) -> PreTree
         ensures { pre_view result ≡ pre first end (places_view marks) (core_view core) }
     {
@@ -46,7 +46,6 @@ impl CoreTree {
     /// # Errors
     ///
     /// `NoMemory` where memory is refused.
-    #[tactic(auto, unfolding(crate::specs::View::type_view, crate::specs::View::pre_view, crate::specs::View::core_view, crate::specs::View::base_view, crate::specs::View::form_view, crate::specs::View::param_view, crate::specs::View::prop_view, crate::specs::View::places_view, crate::specs::View::pres_view, crate::specs::View::params_view, crate::specs::View::types_view, crate::specs::View::props_view))]
     pub fn function(
         alloc: Global,
         first: usize,
@@ -67,7 +66,6 @@ impl CoreTree {
     }
 
     /// A base with pairs of brackets whose first ones stand at these places.
-    #[tactic(auto, unfolding(crate::specs::View::type_view, crate::specs::View::pre_view, crate::specs::View::core_view, crate::specs::View::base_view, crate::specs::View::form_view, crate::specs::View::param_view, crate::specs::View::prop_view, crate::specs::View::places_view, crate::specs::View::pres_view, crate::specs::View::params_view, crate::specs::View::types_view, crate::specs::View::props_view))]
     pub fn post(first: usize, end: usize, base: BaseTree, brackets: List<usize>) -> CoreTree
         ensures { core_view result ≡ post first end (base_view base) (places_view brackets) }
     {
@@ -82,7 +80,6 @@ impl CoreTree {
 
 impl BaseTree {
     /// A base of this form.
-    #[tactic(auto, unfolding(crate::specs::View::type_view, crate::specs::View::pre_view, crate::specs::View::core_view, crate::specs::View::base_view, crate::specs::View::form_view, crate::specs::View::param_view, crate::specs::View::prop_view, crate::specs::View::places_view, crate::specs::View::pres_view, crate::specs::View::params_view, crate::specs::View::types_view, crate::specs::View::props_view))]
     pub fn new(first: usize, end: usize, form: BaseForm) -> BaseTree
         ensures { base_view result ≡ base first end (form_view form) }
     {
@@ -92,7 +89,6 @@ impl BaseTree {
 
 impl BaseForm {
     /// A type's name.
-    #[tactic(auto, unfolding(crate::specs::View::type_view, crate::specs::View::pre_view, crate::specs::View::core_view, crate::specs::View::base_view, crate::specs::View::form_view, crate::specs::View::param_view, crate::specs::View::prop_view, crate::specs::View::places_view, crate::specs::View::pres_view, crate::specs::View::params_view, crate::specs::View::types_view, crate::specs::View::props_view))]
     pub fn name(text: Text) -> BaseForm
         ensures { form_view result ≡ name_form text }
     {
@@ -100,7 +96,6 @@ impl BaseForm {
     }
 
     /// The type of one string.
-    #[tactic(auto, unfolding(crate::specs::View::type_view, crate::specs::View::pre_view, crate::specs::View::core_view, crate::specs::View::base_view, crate::specs::View::form_view, crate::specs::View::param_view, crate::specs::View::prop_view, crate::specs::View::places_view, crate::specs::View::pres_view, crate::specs::View::params_view, crate::specs::View::types_view, crate::specs::View::props_view))]
     pub fn str(text: Text) -> BaseForm
         ensures { form_view result ≡ str_form text }
     {
@@ -108,7 +103,6 @@ impl BaseForm {
     }
 
     /// The type of one number.
-    #[tactic(auto, unfolding(crate::specs::View::type_view, crate::specs::View::pre_view, crate::specs::View::core_view, crate::specs::View::base_view, crate::specs::View::form_view, crate::specs::View::param_view, crate::specs::View::prop_view, crate::specs::View::places_view, crate::specs::View::pres_view, crate::specs::View::params_view, crate::specs::View::types_view, crate::specs::View::props_view))]
     pub fn number(text: Text) -> BaseForm
         ensures { form_view result ≡ number_form text }
     {
@@ -116,7 +110,6 @@ impl BaseForm {
     }
 
     /// `null`
-    #[tactic(auto, unfolding(crate::specs::View::type_view, crate::specs::View::pre_view, crate::specs::View::core_view, crate::specs::View::base_view, crate::specs::View::form_view, crate::specs::View::param_view, crate::specs::View::prop_view, crate::specs::View::places_view, crate::specs::View::pres_view, crate::specs::View::params_view, crate::specs::View::types_view, crate::specs::View::props_view))]
     pub fn null() -> BaseForm
         ensures { form_view result ≡ null }
     {
@@ -124,7 +117,6 @@ impl BaseForm {
     }
 
     /// `void`
-    #[tactic(auto, unfolding(crate::specs::View::type_view, crate::specs::View::pre_view, crate::specs::View::core_view, crate::specs::View::base_view, crate::specs::View::form_view, crate::specs::View::param_view, crate::specs::View::prop_view, crate::specs::View::places_view, crate::specs::View::pres_view, crate::specs::View::params_view, crate::specs::View::types_view, crate::specs::View::props_view))]
     pub fn void() -> BaseForm
         ensures { form_view result ≡ void }
     {
@@ -132,7 +124,6 @@ impl BaseForm {
     }
 
     /// `true` or `false`
-    #[tactic(auto, unfolding(crate::specs::View::type_view, crate::specs::View::pre_view, crate::specs::View::core_view, crate::specs::View::base_view, crate::specs::View::form_view, crate::specs::View::param_view, crate::specs::View::prop_view, crate::specs::View::places_view, crate::specs::View::pres_view, crate::specs::View::params_view, crate::specs::View::types_view, crate::specs::View::props_view))]
     pub fn truth(value: bool) -> BaseForm
         ensures { form_view result ≡ truth_form value }
     {
@@ -144,7 +135,6 @@ impl BaseForm {
     /// # Errors
     ///
     /// `NoMemory` where memory is refused.
-    #[tactic(auto, unfolding(crate::specs::View::type_view, crate::specs::View::pre_view, crate::specs::View::core_view, crate::specs::View::base_view, crate::specs::View::form_view, crate::specs::View::param_view, crate::specs::View::prop_view, crate::specs::View::places_view, crate::specs::View::pres_view, crate::specs::View::params_view, crate::specs::View::types_view, crate::specs::View::props_view))]
     pub fn array(alloc: Global, read_only: bool, element: TypeTree) -> Result<BaseForm, NoMemory>
         ensures { IfOk result (λ form. form_view form ≡ array read_only (type_view element)) }
     {
@@ -159,7 +149,6 @@ impl BaseForm {
     /// # Errors
     ///
     /// `NoMemory` where memory is refused.
-    #[tactic(auto, unfolding(crate::specs::View::type_view, crate::specs::View::pre_view, crate::specs::View::core_view, crate::specs::View::base_view, crate::specs::View::form_view, crate::specs::View::param_view, crate::specs::View::prop_view, crate::specs::View::places_view, crate::specs::View::pres_view, crate::specs::View::params_view, crate::specs::View::types_view, crate::specs::View::props_view))]
     pub fn paren(alloc: Global, inner: TypeTree) -> Result<BaseForm, NoMemory>
         ensures { IfOk result (λ form. form_view form ≡ paren (type_view inner)) }
     {
@@ -167,7 +156,6 @@ impl BaseForm {
     }
 
     /// A tuple, with a comma behind the last type or not.
-    #[tactic(auto, unfolding(crate::specs::View::type_view, crate::specs::View::pre_view, crate::specs::View::core_view, crate::specs::View::base_view, crate::specs::View::form_view, crate::specs::View::param_view, crate::specs::View::prop_view, crate::specs::View::places_view, crate::specs::View::pres_view, crate::specs::View::params_view, crate::specs::View::types_view, crate::specs::View::props_view))]
     pub fn tuple(types: List<TypeTree>, comma: bool) -> BaseForm
         ensures { form_view result ≡ tuple (types_view types) comma }
     {
@@ -175,7 +163,6 @@ impl BaseForm {
     }
 
     /// An object type.
-    #[tactic(auto, unfolding(crate::specs::View::type_view, crate::specs::View::pre_view, crate::specs::View::core_view, crate::specs::View::base_view, crate::specs::View::form_view, crate::specs::View::param_view, crate::specs::View::prop_view, crate::specs::View::places_view, crate::specs::View::pres_view, crate::specs::View::params_view, crate::specs::View::types_view, crate::specs::View::props_view))]
     pub fn object(props: List<PropTree>, ending: Ending) -> BaseForm
         ensures { form_view result ≡ object (props_view props) (ending_view ending) }
     {
@@ -185,7 +172,6 @@ impl BaseForm {
 
 impl ParamTree {
     /// A parameter without a name.
-    #[tactic(auto, unfolding(crate::specs::View::type_view, crate::specs::View::pre_view, crate::specs::View::core_view, crate::specs::View::base_view, crate::specs::View::form_view, crate::specs::View::param_view, crate::specs::View::prop_view, crate::specs::View::places_view, crate::specs::View::pres_view, crate::specs::View::params_view, crate::specs::View::types_view, crate::specs::View::props_view))]
     pub fn plain(ty: TypeTree) -> ParamTree
         ensures { param_view result ≡ plain (type_view ty) }
     {
@@ -193,7 +179,6 @@ impl ParamTree {
     }
 
     /// A parameter with a name.
-    #[tactic(auto, unfolding(crate::specs::View::type_view, crate::specs::View::pre_view, crate::specs::View::core_view, crate::specs::View::base_view, crate::specs::View::form_view, crate::specs::View::param_view, crate::specs::View::prop_view, crate::specs::View::places_view, crate::specs::View::pres_view, crate::specs::View::params_view, crate::specs::View::types_view, crate::specs::View::props_view))]
     pub fn named(first: usize, end: usize, name: Text, optional: bool, ty: TypeTree) -> ParamTree
         ensures { param_view result ≡ named first end name optional (type_view ty) }
     {
@@ -209,7 +194,6 @@ impl ParamTree {
 
 impl PropTree {
     /// A property.
-    #[tactic(auto, unfolding(crate::specs::View::type_view, crate::specs::View::pre_view, crate::specs::View::core_view, crate::specs::View::base_view, crate::specs::View::form_view, crate::specs::View::param_view, crate::specs::View::prop_view, crate::specs::View::places_view, crate::specs::View::pres_view, crate::specs::View::params_view, crate::specs::View::types_view, crate::specs::View::props_view))]
     pub fn new(
         first: usize,
         end: usize,

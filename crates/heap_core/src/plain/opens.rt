@@ -30,7 +30,7 @@ impl<P: Program> PlainHeap<P> {
         let count = entities as usize;
         let committed = first_state(alloc, root, &absent, count)?;
         let pending = vacant(alloc, count)?;
-        let versions = Vec::from_elem(alloc, 0, count)?;
+        let versions = first_versions(alloc, count)?;
         let staged = Vec::with_capacity(alloc, count)?;
         Ok(PlainHeap {
             version: 0,
@@ -59,6 +59,13 @@ fn first_state<P: Drop>(
         payloads.push(Arc::try_clone(absent)?)?;
     }
     Ok(payloads)
+}
+
+/// The version 0 for each of `count` entities.
+fn first_versions(alloc: Global, count: usize) -> Result<Vec<u32>, NoMemory>
+    ensures { IfOk result (λ v. v.items ≡ replicate count 0) }
+{
+    Ok(Vec::from_elem(alloc, 0, count)?)
 }
 
 /// Room for `count` payloads, with none of them there.
