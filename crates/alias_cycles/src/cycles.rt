@@ -165,7 +165,7 @@ fn visit(
 }
 
 /// Marks exactly the numbers that lie on a cycle: those from which one edge or more lead back.
-/// Number x has an edge to each number in `edges[x]`. The time is near linear in the edges.
+/// Number x has an edge to each number in `edges[x]`. `bench/aliases.sh` measures its time.
 ///
 /// # Errors
 ///

@@ -72,7 +72,7 @@ pub struct AliasTable {
     modules: Modules,
     types: List<FlowType>,
     marks: Vec<bool>,
-    // Each alias on an unguarded cycle of the table's own aliases is marked.
+    // Each alias on an unguarded cycle of the table's own aliases is marked; that no other is stands in the clause of `build`.
     ghost marked: { AreMarked (type_in modules types) (mark_in modules marks.items) },
 }
 

@@ -4,12 +4,13 @@
 
 ghost use Rattle.code_law.specs.Law.{SameSpellingSameExpression, SameSpellingSameModule};
 
-/// Two expressions with one spelling are equal, their numbers too.
+/// Two expressions of the grammar that begin at one place and have one spelling are equal, their
+/// numbers too.
 pub fn one_expression()
     ensures { SameSpellingSameExpression }
 {}
 
-/// Two modules with one spelling are equal, their numbers too.
+/// Two modules of the grammar with one spelling are equal, their numbers too.
 pub fn one_module()
     ensures { SameSpellingSameModule }
 {}

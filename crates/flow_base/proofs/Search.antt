@@ -14,7 +14,7 @@ use Rattle.std.proofs.lemmas.List.Sorted.{searchable_from_sorted}
 use Rattle.std.proofs.lemmas.Map.Lookups.{exact_bytes}
 pub use Rattle.flow_values.proofs.Rising.{sorted_from_rising}
 use Rattle.flow_base.specs.Program.{Bytes, Program, paths_of, IsRising, text_at}
-use Rattle.flow_base.specs.Rising.{IsBelowAll, below_all, found_itself, found_behind, not_below_itself, rising_rest}
+use Rattle.flow_base.proofs.Rising.{IsBelowAll, below_all, found_itself, found_behind, not_below_itself, rising_rest}
 
 abbrev Cmp : Bytes → Bytes → Ordering
 Cmp a b = slice_cmp nat_cmp a b

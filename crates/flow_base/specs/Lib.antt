@@ -4,4 +4,3 @@ pub mod Calls
 pub mod Causes
 pub mod Outside
 pub mod Program
-pub mod Rising

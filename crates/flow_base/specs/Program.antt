@@ -15,3 +15,8 @@ paths_of program = map (λ row. row.0) program
 abbrev pub text_at : Program → Bytes → Option Bytes
 text_at [] path = None
 text_at (row ∷ program) path = if pointwise nat_eq row.0 path then Some row.1 else text_at program path
+
+-- the row of a path that was read
+abbrev pub row_at : Bytes → Option Bytes → Program
+row_at path None = []
+row_at path (Some text) = (path, text) ∷ []

@@ -95,7 +95,7 @@ abbrev pub spelled_all : List Declaration → Bytes
 spelled_all [] = []
 spelled_all (d ∷ ds) = spelled d ++ 10 ∷ spelled_all ds
 
--- the source is the spelling of these declarations, where the last LF may be missing
+-- the source is the spelling of these declarations, of which no two have one name; the last LF may be missing
 pub record IsFirstForm (source : Bytes) (ds : List Declaration) : Type 0 where
   pub is : (source ≡ spelled_all ds) ⊎ (source ++ 10 ∷ [] ≡ spelled_all ds)
   pub lines : AllByRecursion IsDeclaration ds

@@ -1,5 +1,5 @@
 -- How a source of the first form is read: line by line, from the front. That this finds the declarations of
--- `FirstForm` and no others is proved as the contract of `one_reading` and `each_source_has_its_errors`.
+-- `FirstForm` and no others is proved as the contracts of `one_reading` and `one_answer`.
 use Rattle.std.specs.Prelude.{◌-◌, ◌==◌, ◌&&◌, nat_eq, Bool, false, List, [], ◌∷◌, map, length, take, drop, Option, Some, None, option_and_then, if◌then◌else◌, codes}
 use Rattle.std.specs.List.{starts_with, ends_with, onto_first, prefix_len}
 use Rattle.std.specs.Option.{option_map}

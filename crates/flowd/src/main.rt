@@ -1,4 +1,4 @@
-//! Checks a folder of modules.
+//! Loads a folder of modules, and answers a script of edits, rechecks and questions.
 #![tactic(auto)]
 
 mod ending;

@@ -52,7 +52,7 @@ module _ {P : Type 0} where
     pub closed : m.is_open ≡ false → m.staged ≡ none_of m.staged
     pub room : m.is_open ≡ true → m.version + 1 < 2 ^ 31
 
-  -- the list of committed states, where the writer tells it: each call keeps it, or adds the new state to it
+  -- where the writer tells its committed states, this one was put behind them
   abbrev pub Appends : Option (List (List P)) → List P → Option (List (List P)) → Type 0
   Appends None x after = after ≡ None
   Appends (Some states) x after = after ≡ Some (states ++ x ∷ [])

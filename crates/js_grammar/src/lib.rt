@@ -4,7 +4,8 @@
 
 ghost use Rattle.js_grammar.specs.Law.{SameSpellingSameType};
 
-/// Two types with one spelling are equal, their numbers too.
+/// Two types of the grammar that begin at one place and have one spelling are equal, their numbers
+/// too.
 pub fn one_type()
     ensures { SameSpellingSameType }
 {}

@@ -4,7 +4,7 @@ use Rattle.std.specs.Option.{option_or}
 use Rattle.js_token.specs.declared.punct.Punct.{Punct}
 use Rattle.js_token.specs.declared.punct.Punct.TheVariants.{OpenBrace, CloseBrace, OpenParen, CloseParen, OpenBracket, CloseBracket, Dot, Ellipsis, Comma, Semicolon, Colon, Question, QuestionQuestion, Arrow, Assign, StrictEqual, StrictNotEqual, LooseEqual, LooseNotEqual, LessThan, GreaterThan, LessOrEqual, GreaterOrEqual, Plus, PlusPlus, Minus, MinusMinus, Star, Slash, Percent, Bang, AndAnd, OrOr, Bar}
 
--- MARKS
+-- the mark that is this one character
 abbrev pub mark_of_one : ℕ → Option Punct
 mark_of_one a =
     if a == 123 then Some OpenBrace else

@@ -5,7 +5,7 @@ use Rattle.std.specs.Char.{is_ascii_digit, is_digit}
 use Rattle.lex_pieces.specs.Characters.{goes_on}
 use Rattle.lex_pieces.specs.Numbers.{is_exponent_mark, base_of}
 
--- NUMBERS
+-- how many digits stand at the front
 unfoldable pub digits_len : List ℕ → ℕ
 digits_len cs = prefix_len is_ascii_digit cs
 

@@ -13,7 +13,7 @@ use Rattle.std.proofs.lemmas.List.Edits.{length-insert}
 use Rattle.std.proofs.lemmas.List.Sorted.{searchable_from_sorted}
 use Rattle.flow_base.proofs.Search.{below_at, sorted_from_rising}
 use Rattle.flow_base.specs.Program.{Bytes, Program, paths_of, IsRising}
-use Rattle.flow_base.specs.Rising.{IsBelowAll, below_all, rising_rest, not_below_itself}
+use Rattle.flow_base.proofs.Rising.{IsBelowAll, below_all, rising_rest, not_below_itself}
 use Rattle.recheck_run.specs.declared.edits.Wanted.{Wanted}
 use Rattle.recheck_run.specs.Wanted.{Rows, paths, edited, wanted_at, unedited, to_read}
 use Rattle.recheck_run.specs.Place.{IsPlaceOf, IsGapFor}

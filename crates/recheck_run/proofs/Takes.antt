@@ -6,9 +6,9 @@ use Rattle.std.specs.Cmp.Lexicographic.{slice_cmp, pointwise, bytes_decides}
 use Rattle.std.specs.declared.cmp.Ordering.TheVariants.{Less}
 use Rattle.std.proofs.lemmas.Bool.{cases_Bool}
 use Rattle.std.proofs.lemmas.List.{append-nil, take_more, map-append}
-use Rattle.flow_base.specs.Program.{Bytes, Program, paths_of, IsRising, text_at}
+use Rattle.flow_base.specs.Program.{Bytes, Program, paths_of, IsRising, text_at, row_at}
 use Rattle.flow_base.specs.Outside.{WhereTold}
-use Rattle.flow_base.specs.Rising.{IsBelowAll, below_all, rising_rest, row_at, found_itself, found_behind, not_below_itself}
+use Rattle.flow_base.proofs.Rising.{IsBelowAll, below_all, rising_rest, found_itself, found_behind, not_below_itself}
 use Rattle.flow_base.specs.declared.outside.LastFault.{LastFault}
 use Rattle.recheck_run.specs.declared.edits.Wanted.{Wanted}
 use Rattle.recheck_run.specs.declared.edits.Wanted.TheVariants as kind

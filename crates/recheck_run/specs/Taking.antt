@@ -1,8 +1,7 @@
 -- The rows of the edited program are taken one by one, in order: each gives a text, or none.
 use Rattle.std.specs.Prelude.{◌≡◌, ℕ, ◌≤◌, ◌++◌, length, Option, Some}
-use Rattle.flow_base.specs.Program.{Bytes, Program, paths_of, text_at, IsRising}
+use Rattle.flow_base.specs.Program.{Bytes, Program, paths_of, text_at, IsRising, row_at}
 use Rattle.flow_base.specs.Outside.{WhereTold}
-use Rattle.flow_base.specs.Rising.{row_at}
 use Rattle.flow_base.specs.Causes.{Rose}
 use Rattle.flow_base.specs.declared.outside.LastFault.{LastFault}
 use Rattle.flow_base.specs.declared.outside.LastFault.TheVariants.{Reading}

@@ -2,9 +2,8 @@
 use Rattle.std.specs.Prelude.{◌≡◌, ◌⊎◌, List, [], ◌∷◌, ◌++◌, map, Option, Some, None, if◌then◌else◌, nat_eq}
 use Rattle.std.specs.Ordering.{nat_cmp, match_ordering}
 use Rattle.std.specs.Cmp.Lexicographic.{slice_cmp, pointwise}
-use Rattle.flow_base.specs.Program.{Bytes, Program, text_at}
+use Rattle.flow_base.specs.Program.{Bytes, Program, text_at, row_at}
 use Rattle.flow_base.specs.Outside.{WhereTold}
-use Rattle.flow_base.specs.Rising.{row_at}
 use Rattle.recheck_run.specs.declared.edits.Wanted as declared
 use Rattle.recheck_run.specs.declared.edits.Wanted.TheVariants as take
 

@@ -54,6 +54,10 @@ pub fn push_error(
 
 /// The first line of the answer to a question for the status: the version, and the number of errors
 /// of all modules.
+///
+/// # Errors
+///
+/// `NoMemory` where memory is refused.
 pub fn status_line(alloc: Global, version: u32, errors: u64) -> Result<String, NoMemory>
     ensures { IfOk result (λ text. string_bytes text ≡ status_line version errors) }
 {

@@ -9,7 +9,7 @@ use std::alloc::Global;
 ///
 /// # Errors
 ///
-/// `NoMemory` where memory is refused, as in each call here that takes an allocator.
+/// `NoMemory` where memory is refused.
 pub fn done_line(
     alloc: Global,
     version: u32,
@@ -25,6 +25,10 @@ pub fn done_line(
 }
 
 /// The line of a recheck that could not read a path, at the version that stays.
+///
+/// # Errors
+///
+/// `NoMemory` where memory is refused.
 pub fn fault_line(alloc: Global, path: &Path, version: u32) -> Result<String, NoMemory>
     ensures { IfOk result (λ text. string_bytes text ≡ fault_line path.now version) }
 {
@@ -33,6 +37,10 @@ pub fn fault_line(alloc: Global, path: &Path, version: u32) -> Result<String, No
 }
 
 /// The line of an edit with which there would be so many modules.
+///
+/// # Errors
+///
+/// `NoMemory` where memory is refused.
 pub fn refused_line(alloc: Global, count: u64) -> Result<String, NoMemory>
     ensures { IfOk result (λ text. string_bytes text ≡ refused_line count) }
 {
@@ -40,6 +48,10 @@ pub fn refused_line(alloc: Global, count: u64) -> Result<String, NoMemory>
 }
 
 /// The line that ends a script at a line that is no command, by its number from 1.
+///
+/// # Errors
+///
+/// `NoMemory` where memory is refused.
 pub fn bad_line(alloc: Global, number: u64) -> Result<String, NoMemory>
     ensures { IfOk result (λ text. string_bytes text ≡ bad_line number) }
 {
@@ -47,6 +59,10 @@ pub fn bad_line(alloc: Global, number: u64) -> Result<String, NoMemory>
 }
 
 /// The line of a folder that lists so many modules.
+///
+/// # Errors
+///
+/// `NoMemory` where memory is refused.
 pub fn files_line(alloc: Global, count: u64) -> Result<String, NoMemory>
     ensures { IfOk result (λ text. string_bytes text ≡ files_line count) }
 {

@@ -1,12 +1,12 @@
 -- What follows from rising paths: each path of a program is found with its own bytes.
-use Rattle.std.proofs.Common.{◌≡◌, List, [], ◌∷◌, ◌++◌, Some, None, Option, inl, inr, refl, sym, ap, ◌∙◌, if◌then◌else◌}
+use Rattle.std.proofs.Common.{◌≡◌, List, [], ◌∷◌, Some, inl, inr, refl, sym, ap, ◌∙◌, if◌then◌else◌}
 use Rattle.std.specs.Prelude.{nat_eq}
 use Rattle.std.specs.List.{AllByRecursion}
 use Rattle.std.specs.Ordering.{nat_cmp, ordering_reverse}
 use Rattle.std.specs.Cmp.Lexicographic.{slice_cmp, pointwise, nat_list_cmp_total, bytes_decides}
 use Rattle.std.specs.declared.cmp.Ordering.TheVariants.{Less}
 use Rattle.std.proofs.lemmas.Bool.{cases_Bool}
-use Rattle.flow_base.specs.Program.{Bytes, Program, paths_of, IsRising, text_at}
+use Rattle.flow_base.specs.Program.{Bytes, Program, IsRising, text_at}
 
 abbrev pub IsBelowAll : Bytes → List Bytes → Type 0
 IsBelowAll path paths = AllByRecursion (λ other. slice_cmp nat_cmp path other ≡ Less) paths
@@ -33,29 +33,6 @@ found_behind row program path below = elim (cases_Bool (pointwise nat_eq row.0 p
   | inr other ↦ ap (λ same. if same then Some row.1 else text_at program path) other
 ]
 
--- the row of a path that was read
-abbrev pub row_at : Bytes → Option Bytes → Program
-row_at path None = []
-row_at path (Some text) = (path, text) ∷ []
-
--- the rows of these paths
-abbrev pub rows_read : Program → List Bytes → Program
-rows_read program [] = []
-rows_read program (path ∷ paths) = row_at path (text_at program path) ++ rows_read program paths
-
-rows_behind : (row : Bytes × Bytes) (program : Program) (paths : List Bytes) → IsBelowAll row.0 paths → rows_read (row ∷ program) paths ≡ rows_read program paths
-rows_behind row program [] below = refl
-rows_behind row program (path ∷ paths) below =
-    ap (λ text. row_at path text ++ rows_read (row ∷ program) paths) (found_behind row program path below.0)
-    ∙ ap (λ rows. row_at path (text_at program path) ++ rows) (rows_behind row program paths below.1)
-
 pub rising_rest : (path : Bytes) (paths : List Bytes) → IsRising (path ∷ paths) → IsRising paths
 rising_rest path [] rising = tt
 rising_rest path (next ∷ paths) rising = rising.1
-
--- reading each path of a program gives the program
-pub rows_read_all : (program : Program) → IsRising (paths_of program) → rows_read program (paths_of program) ≡ program
-rows_read_all [] rising = refl
-rows_read_all (row ∷ program) rising =
-    ap (λ text. row_at row.0 text ++ rows_read (row ∷ program) (paths_of program)) (found_itself row program)
-    ∙ ap (λ rows. row ∷ rows) (rows_behind row program (paths_of program) (below_all row.0 (paths_of program) rising) ∙ rows_read_all program (rising_rest row.0 (paths_of program) rising))
