@@ -1,4 +1,4 @@
-#!/bin/sh
+#!/usr/bin/env bash
 # The time to build alias tables of three shapes: a chain, one cycle through all, and all that name the first one.
 # For each size the program also asks for each mark, and for the members of the last alias.
 cd "$(dirname "$0")/../crates/type_bench" || exit 1
