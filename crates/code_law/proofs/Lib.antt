@@ -1,5 +1,6 @@
 pub mod Ladder
 pub mod States
+pub mod Stands
 pub mod Embedded
 pub mod Begins
 pub mod Parameters
