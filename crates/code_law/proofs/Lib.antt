@@ -2,6 +2,7 @@ pub mod Ladder
 pub mod States
 pub mod Stands
 pub mod KeptBodies
+pub mod KeptLadder
 pub mod Embedded
 pub mod Begins
 pub mod Parameters
