@@ -2,7 +2,9 @@ pub mod Ladder
 pub mod States
 pub mod Stands
 pub mod KeptBodies
+pub mod CodeWords
 pub mod KeptLadder
+pub mod KeptExpressions
 pub mod Embedded
 pub mod Begins
 pub mod Parameters
