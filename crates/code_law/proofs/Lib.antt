@@ -5,6 +5,7 @@ pub mod KeptBodies
 pub mod CodeWords
 pub mod KeptLadder
 pub mod KeptExpressions
+pub mod KeptStatements
 pub mod Embedded
 pub mod Begins
 pub mod Parameters
