@@ -6,6 +6,7 @@ pub mod CodeWords
 pub mod KeptLadder
 pub mod KeptExpressions
 pub mod KeptStatements
+pub mod KeptModules
 pub mod Embedded
 pub mod Begins
 pub mod Parameters
