@@ -1,25 +1,25 @@
 -- The steps of reading expressions keep what the states hold.
-use Rattle.std.proofs.Common.{◌≡◌, refl, sym, ◌∙◌, ap, subst, ℕ, suc, ◌≤◌, Bool, true, false, Option, Some, None, [], ◌∷◌, codes, arith, if◌then◌else◌}
+use Rattle.std.proofs.Common.{◌≡◌, refl, ◌∙◌, ap, subst, ℕ, suc, ◌≤◌, Bool, true, false, Option, Some, None, ◌∷◌, codes, arith, if◌then◌else◌}
 use Rattle.js_token.specs.Words.{is_reserved}
 use Rattle.js_token.specs.declared.token.TokenKind.{TokenKind}
 use Rattle.js_token.specs.declared.token.TokenKind.TheVariants.{Name, Number, Str, Punct}
 use Rattle.js_token.specs.declared.punct.Punct.TheVariants.{OpenBrace, CloseBrace, OpenParen, CloseParen, OpenBracket, CloseBracket, Dot, Comma, Semicolon, Colon, Question, Assign, Arrow as ArrowMark, Plus, Minus, Bang}
-use Rattle.js_grammar.specs.Words.{Bytes, IsName}
+use Rattle.js_grammar.specs.Words.{Bytes}
 use Rattle.js_grammar.specs.Types.{Ty, has_fun}
 use Rattle.js_grammar.specs.TypeSpelling.{Tokens, spell}
 use Rattle.js_grammar.specs.TypeFits.{bump, stop, CommaFits, Fits}
 use Rattle.js_grammar.specs.Machine as ty
 use Rattle.js_grammar.proofs.Sound as typed
 use Rattle.js_grammar.proofs.Kept as typed_places
-use Rattle.js_grammar.specs.Code.{Prefix, negation, minus_sign, plus_sign, kind_of, no_prefix, more_prefix, Level, nullish_level, or_level, and_level, equal_level, relation_level, sum_level, product_level, operand_rank, no_arm, Ex, ex, variable, number, text, truth_value, null_value, elements, fields, postfixed, chain, primary_rank, Exs, no_ex, more_ex, Links, no_link, more_link, member, call, more_operand, operand, as_type, Fields, no_field, more_field, field, shorthand, Sig, sig, Parameter, Parameters, no_parameter, more_parameter, has_parameters, parameter, ex_rank}
+use Rattle.js_grammar.specs.Code.{Prefix, negation, minus_sign, plus_sign, kind_of, no_prefix, more_prefix, Level, nullish_level, or_level, and_level, equal_level, relation_level, sum_level, product_level, operand_rank, no_arm, Ex, ex, variable, number, text, truth_value, null_value, elements, fields, chain, Exs, no_ex, more_ex, Links, no_link, more_link, member, call, more_operand, operand, as_type, Fields, no_field, more_field, field, shorthand, Sig, sig, Parameter, Parameters, no_parameter, more_parameter, has_parameters, parameter, ex_rank}
 use Rattle.js_grammar.specs.CodeSpelling.{prefix_token, spell_ex, spell_links, spell_sig, spell_parameters}
-use Rattle.js_grammar.specs.CodePlaces.{stop_annotation, stop_name, stop_named, stop_parameters, stop_sig, stop_entries, stop_operands, stop_ex}
+use Rattle.js_grammar.specs.CodePlaces.{stop_annotation, stop_named, stop_parameters}
 use Rattle.js_grammar.specs.CodeFits.{FitsAnnotation, FitsParameter, FitsSig, FitsOperand, IsPlainResult, is_some}
-use Rattle.js_grammar.specs.Items.{alias, alias_item, exports, export_alias, AliasOf, FitsAlias}
-use Rattle.code_law.specs.Frames.{Row, array_row, call_row, FunctionKind, is_value, is_statement, is_default, plain_item, exported_item, default_item, Owner, of_arrow, of_function, Waiting, parameter_type, result_type, declared_type, alias_type, cast_type, in_prefix, in_chain, in_branch, in_parens, in_row, in_arrow, Mode, want, after_links, after_dot, row_start, fields_start, after_word, after_key, paren_start, paren_word, paren_mark, function_start, parameters_open, parameter_start, parameter_word, parameter_mark, parameters_end, arrow_start, typing, Stack, Step, fault, go}
+use Rattle.js_grammar.specs.Items.{alias, alias_item, exports, export_alias, FitsAlias}
+use Rattle.code_law.specs.Frames.{Row, array_row, call_row, FunctionKind, is_value, is_statement, is_default, plain_item, exported_item, default_item, Owner, of_arrow, of_function, Waiting, parameter_type, result_type, declared_type, alias_type, cast_type, in_prefix, in_chain, in_branch, in_parens, in_row, in_arrow, want, after_links, after_dot, row_start, fields_start, after_word, after_key, paren_start, paren_word, paren_mark, function_start, parameter_start, parameter_word, parameter_mark, parameters_end, arrow_start, Stack, Step, fault, go}
 use Rattle.code_law.specs.Expressions.{ValueWord, variable_word, null_word, truth_of, kind_word, function_word, other_word, value_word, marked, may_arrow, word_step, want_step, linked, links_step, dot_step, row_step, fields_step, field_step, key_step, paren_step, paren_word_step, paren_mark_step, parameter_step, after_parameter, parameter_word_step, parameter_mark_step, open_step, function_step, open_body, end_step, arrow_step, after_type, takes_function, inside}
 use Rattle.code_law.proofs.Ladder.{floor, tier_least}
-use Rattle.code_law.proofs.States.{spell_row, spell_owner, spell_waiting, spell_mode, not_brace, takes_ex, place_row, start_row, FitsLinked, FitsOwner, FitsGiven, TypedFor, FitsWaiting, type_start, FitsStack, FitsWhole, FitsMode, FitsStep, Stands}
+use Rattle.code_law.proofs.States.{spell_owner, spell_waiting, spell_mode, takes_ex, FitsOwner, FitsGiven, TypedFor, FitsWaiting, type_start, FitsStack, FitsWhole, FitsMode, FitsStep, Stands}
 use Rattle.code_law.proofs.Stands.{stands_moved, stands_word}
 use Rattle.code_law.proofs.CodeWords.{IsValue, value_is}
 use Rattle.code_law.proofs.KeptBodies.{k_primary, k_if, k_item}

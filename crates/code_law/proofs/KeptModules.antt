@@ -1,5 +1,5 @@
 -- The steps of reading items keep what the states hold.
-use Rattle.std.proofs.Common.{◌≡◌, refl, sym, ◌∙◌, ap, subst, ℕ, suc, ◌≤◌, Bool, true, false, Option, Some, None, List, [], ◌∷◌, not, codes, arith, if◌then◌else◌}
+use Rattle.std.proofs.Common.{◌≡◌, refl, sym, ◌∙◌, ap, subst, ℕ, suc, ◌≤◌, Bool, true, false, Some, None, List, [], ◌∷◌, not, codes, arith, if◌then◌else◌}
 use Rattle.std.specs.Str.{bytes_eq}
 use Rattle.std.proofs.lemmas.Slice.Eq.{bytes_eq-Decides}
 use Rattle.js_token.specs.Words.{is_reserved}
@@ -14,11 +14,10 @@ use Rattle.js_grammar.proofs.Sound as typed
 use Rattle.js_grammar.proofs.Kept as typed_places
 use Rattle.js_grammar.specs.Code.{ex, variable, no_link, no_operand}
 use Rattle.js_grammar.specs.Items.{Importeds, no_imported, more_imported, imported, import_list, Exporteds, no_exported, more_exported, exported, ExportList, export_list, ImportForm, import_default, import_both, import_names, import_types, import_only, export_names, export_from, export_declaration, export_function, export_alias, export_default_function, export_default, ItemForm, imports, exports, declares_item, function_item, alias_item, does_item, Items, type_word, from_word, has_importeds, has_exporteds, spell_items, spell_item_form, stop_importeds, stop_exporteds, stop_import_list, stop_export_list, AreNames, AreLocal, FitsImportList, FitsExportList, base_names, IsNoneOf}
-use Rattle.code_law.specs.Frames.{is_statement, is_default, Wrap, plain_item, exported_item, default_item, Opening, opens_names, opens_both, opens_types, opens_exports, Names, importing, exporting, Listing, listing, alias_type, cast_type, evaluates, in_simple, in_item, in_default, Mode, items_start, after_type_word, after_type_as, after_alias, after_import, import_word, import_comma, names_start, after_name, after_as, after_pair, after_list, after_from, after_export, export_type, after_exports, exports_from, after_default, item_end, Stack, Step, fault, go}
-use Rattle.code_law.specs.Expressions.{want_step}
+use Rattle.code_law.specs.Frames.{Wrap, plain_item, exported_item, default_item, Opening, opens_names, opens_both, opens_types, opens_exports, importing, exporting, Listing, listing, cast_type, evaluates, in_simple, in_item, in_default, after_type_word, after_type_as, after_alias, after_import, import_word, import_comma, names_start, after_name, after_as, after_pair, after_list, after_from, after_export, export_type, after_exports, exports_from, after_default, item_end, Stack, Step, fault, go}
 use Rattle.code_law.specs.Statements.{StatementWord, binds, begins_function, begins_import, begins_export, plain_word, statement_word, simple_word}
-use Rattle.code_law.specs.Modules.{top_word, items_step, is_none_of, may_alias, type_word_step, type_as_step, alias_step, import_step, from_step, import_word_step, import_comma_step, add_name, has_names, end_names, names_step, pair_step, may_name, name_step, as_step, source_step, end_item, export_word, export_step, export_type_step, are_names, are_local, exports_step, exports_from_step, default_word, default_step}
-use Rattle.code_law.proofs.States.{import_token, export_token, as_token, default_token, spell_opening, spell_names, spell_mode, spell_short, is_short, is_plain_word, not_function_word, IsBottom, start_wrapped, FitsTop, FitsOpening, FitsListing, FitsAliasAt, FitsStack, FitsMode, FitsStep, Stands}
+use Rattle.code_law.specs.Modules.{top_word, items_step, is_none_of, may_alias, type_word_step, type_as_step, alias_step, import_step, from_step, import_word_step, import_comma_step, add_name, end_names, names_step, pair_step, may_name, name_step, as_step, source_step, end_item, export_word, export_step, export_type_step, are_names, are_local, exports_step, exports_from_step, default_word, default_step}
+use Rattle.code_law.proofs.States.{import_token, export_token, as_token, default_token, spell_opening, spell_names, spell_mode, spell_short, is_short, is_plain_word, not_function_word, IsBottom, start_wrapped, FitsTop, FitsOpening, FitsListing, FitsStack, FitsMode, FitsStep, Stands}
 use Rattle.code_law.proofs.CodeWords.{IsStatement, statement_is}
 use Rattle.code_law.proofs.KeptBodies.{k_if, k_item}
 use Rattle.code_law.proofs.KeptExpressions.{k_not, k_want, k_links, k_inside}

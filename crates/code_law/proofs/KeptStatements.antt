@@ -1,16 +1,16 @@
 -- The steps of reading statements keep what the states hold.
-use Rattle.std.proofs.Common.{◌≡◌, refl, sym, ◌∙◌, ap, subst, ℕ, suc, Bool, true, false, None, ◌∷◌, codes, if◌then◌else◌}
+use Rattle.std.proofs.Common.{◌≡◌, refl, sym, ◌∙◌, ap, subst, ℕ, suc, Bool, true, false, ◌∷◌, codes, if◌then◌else◌}
 use Rattle.js_token.specs.Words.{is_reserved}
 use Rattle.js_token.specs.declared.token.TokenKind.{TokenKind}
 use Rattle.js_token.specs.declared.token.TokenKind.TheVariants.{Name, Punct}
 use Rattle.js_token.specs.declared.punct.Punct.TheVariants.{OpenBrace, CloseBrace, OpenParen, Semicolon, Colon, Assign}
 use Rattle.js_grammar.specs.Words.{Bytes}
 use Rattle.js_grammar.specs.TypeSpelling.{Tokens}
-use Rattle.js_grammar.specs.Code.{Binder, Stmts, more_stmt, Stmt, stmt, branches, Simple, simple, return_bare, Branches, no_branch, more_branch, no_else}
+use Rattle.js_grammar.specs.Code.{Binder, Stmts, more_stmt, stmt, branches, Simple, simple, return_bare, Branches, no_branch, more_branch, no_else}
 use Rattle.js_grammar.specs.CodeSpelling.{spell_elses, spell_branches}
 use Rattle.js_grammar.specs.CodePlaces.{stop_branches}
 use Rattle.js_grammar.specs.CodeFits.{Context, inside, InFunction, InLoop, FitsStmt}
-use Rattle.code_law.specs.Frames.{returns, throws, evaluates, in_simple, in_if, in_loop, in_else, in_block, in_item, plain_item, exported_item, default_item, Mode, statements_start, after_binder, after_declared, after_return, after_simple, after_if, after_while, want_body, after_branch, after_else, Stack, Step, go, context, within_function, within_loop}
+use Rattle.code_law.specs.Frames.{returns, evaluates, in_simple, in_if, in_loop, in_else, in_block, in_item, plain_item, exported_item, default_item, statements_start, after_binder, after_declared, after_return, after_simple, after_if, after_while, want_body, after_branch, after_else, Stack, Step, go, context, within_function, within_loop}
 use Rattle.code_law.specs.Bodies.{end_simple}
 use Rattle.code_law.specs.Expressions.{want_step}
 use Rattle.code_law.specs.Statements.{StatementWord, binds, begins_function, if_word, else_word, while_word, return_word, throw_word, break_word, continue_word, plain_word, statement_word, simple_word, simple_step, block_word, statements_step, return_step, semicolon_step, binder_step, declared_step, if_step, while_step, body_step, is_else_word, is_else, end_branches, branch_step, after_else_word, else_step}

@@ -7,6 +7,7 @@ pub mod KeptLadder
 pub mod KeptExpressions
 pub mod KeptStatements
 pub mod KeptModules
+pub mod Kept
 pub mod Embedded
 pub mod Begins
 pub mod Parameters
