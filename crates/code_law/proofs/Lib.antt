@@ -7,3 +7,5 @@ pub mod Complete
 pub mod Names
 pub mod Top
 pub mod Modules
+pub mod Shapes
+pub mod Viable
