@@ -8,4 +8,6 @@ pub mod Names
 pub mod Top
 pub mod Modules
 pub mod Shapes
+pub mod Closing
+pub mod Typed
 pub mod Viable

@@ -83,9 +83,9 @@ Matches q = ⊥
 
 -- The state of the machine of types to which some tokens lead from a place.
 pub record Typing (can : Bool) (start i : ℕ) (a : ty.Stack) (m : ty.Mode) (q : Tokens) : Type 0 where
-  fits : ty_kept.FitsMode can start a m i
-  spelled : (w : Tokens) → ty_sound.so_far a m w ≡ q ++ w
-  runs : (w : Tokens) → ty.run can start [] ty.want (q ++ w) ≡ ty.run can i a m w
+  pub fits : ty_kept.FitsMode can start a m i
+  pub spelled : (w : Tokens) → ty_sound.so_far a m w ≡ q ++ w
+  pub runs : (w : Tokens) → ty.run can start [] ty.want (q ++ w) ≡ ty.run can i a m w
 
 abbrev pub Shaped : Stack → Mode → ℕ → Type 0
 Shaped k want i = Takes value_hole k

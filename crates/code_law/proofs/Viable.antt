@@ -1,154 +1,148 @@
 -- Each state that is reached can be completed: some tokens lead from it to a whole module.
-use Rattle.std.proofs.Common.{◌≡◌, refl, sym, ◌∙◌, ap, subst, ℕ, suc, Bool, true, false, [], ◌∷◌, codes, if◌then◌else◌}
-use Rattle.js_token.specs.declared.token.TokenKind.{TokenKind}
+use Rattle.std.proofs.Common.{refl, ℕ, suc, Bool, true, false, Some, None, [], ◌∷◌, codes}
 use Rattle.js_token.specs.declared.token.TokenKind.TheVariants.{Name, Number, Str, Punct}
-use Rattle.js_token.specs.declared.punct.Punct.TheVariants.{OpenBrace, CloseBrace, OpenParen, CloseParen, OpenBracket, CloseBracket, Dot, Comma, Semicolon, Colon, Question, Assign, Arrow as ArrowMark}
+use Rattle.js_token.specs.declared.punct.Punct.TheVariants.{OpenBrace, CloseBrace, OpenParen, CloseParen, OpenBracket, CloseBracket, Comma, Semicolon, Colon, Assign, Arrow as ArrowMark}
 use Rattle.js_grammar.specs.Words.{Bytes}
 use Rattle.js_grammar.specs.TypeSpelling.{Tokens}
-use Rattle.js_grammar.specs.Code.{Ex, ex, number, parens, prefixed, chain, cond, arrow, arrow_value, arrow_block, more_operand, operand, right_side, more_arm, arm, Block, block, Stmt, Stmts, no_stmt, more_stmt, stmt, function, function_ex, Function, Declaration, declaration, Simple, simple, Links, no_link, more_link, link, index, more_field, field, valued, more_ex, Branches, Exs}
-use Rattle.js_grammar.specs.Items.{Items, more_item, item, ItemForm}
-use Rattle.code_law.specs.Frames.{Row, array_row, call_row, FunctionKind, is_value, is_statement, is_default, in_prefix, in_chain, in_last, in_branch, in_parens, in_row, in_index, in_field, in_arrow, in_simple, in_declaration, in_if_test, in_loop_test, in_if, in_else, in_loop, in_function, in_block, in_item, in_default, Mode, want, after_links, settled, statements_start, want_body, after_branch, items_start, Stack, Step, fault, go, done, done_items, start_ex, start_sig, start_key}
-use Rattle.code_law.specs.Bodies.{give_stmt, give_body, give_item, give_declaration, give_function, give_block, end_simple, end_value, verb_form}
-use Rattle.code_law.specs.Ladder.{after_item, after_field, close, settle}
-use Rattle.code_law.specs.Expressions.{links_step, linked}
-use Rattle.code_law.specs.Statements.{statements_step, branch_step}
-use Rattle.code_law.specs.Machine.{step, Outcome, faulty, whole, whole_items, resume, run}
-use Rattle.code_law.proofs.Shapes.{Hole, value_hole, arrow_hole, simple_hole, body_hole, statement_hole, block_hole, named_hole, default_hole, item_hole, function_hole, Takes}
+use Rattle.js_grammar.specs.Machine as ty
+use Rattle.js_grammar.specs.Code.{Parameters, no_parameter, no_stmt, Exs, ex, number, no_link}
+use Rattle.js_grammar.specs.Items.{Items, ImportForm, ItemForm, ExportList}
+use Rattle.code_law.specs.Frames.{Row, array_row, call_row, FunctionKind, opens_names, opens_both, opens_types, opens_exports, importing, exporting, Listing, listing, Owner, of_arrow, of_function, Waiting, parameter_type, result_type, declared_type, alias_type, cast_type, in_prefix, in_branch, in_parens, in_field, in_arrow, in_declaration, in_if_test, in_loop_test, in_if, in_else, in_loop, in_function, in_block, in_item, in_default, Mode, want, after_links, after_dot, row_start, fields_start, after_word, after_key, paren_start, paren_word, paren_mark, function_start, parameters_open, parameter_start, parameter_word, parameter_mark, parameters_end, arrow_start, settled, statements_start, after_binder, after_declared, after_return, after_simple, after_if, after_while, want_body, after_branch, after_else, items_start, after_type_word, after_type_as, after_alias, after_import, import_word, import_comma, names_start, after_name, after_as, after_pair, after_list, after_from, after_export, export_type, after_exports, exports_from, after_default, item_end, typing, Stack, Step}
+use Rattle.code_law.specs.Expressions.{after_type, takes_function}
+use Rattle.code_law.specs.Modules.{add_name}
+use Rattle.code_law.proofs.Shapes.{Hole, value_hole, arrow_hole, body_hole, block_hole, named_hole, item_hole, function_hole, owner_hole, waiting_hole, Takes, Matches, Typing, Shaped}
+use Rattle.code_law.proofs.Closing.{Completes, Goes, by_token, Closer, by_paren, by_bracket, by_brace, by_colon, by_semicolon, closer, Closes, after_closed, settles, wants, statements, bodies, items, closes, simples, stmts, branched, blocks}
+use Rattle.code_law.proofs.Typed.{begin_typing, after_typing}
 
--- some tokens lead from the state to a whole module
-abbrev pub Completes : ℕ → Stack → Mode → Type 0
-Completes i k m = (w : Tokens) × (is : Items) × (run i k m w ≡ whole_items is [])
+-- an expression is written as a number
+numbered : (k : Stack) → Takes value_hole k → (i j : ℕ) → Completes j k (after_links (ex i j (number [])) no_link)
+numbered k h i j = after_closed k (closes k h) j (ex i j (number [])) no_link
 
--- the same of a step, behind which the place is i
-abbrev pub Goes : ℕ → Step → Type 0
-Goes i (go k m) = Completes i k m
-Goes i s = ⊥
+wanted : (k : Stack) → Takes value_hole k → (i : ℕ) → Completes i k want
+wanted k h i = wants k (closes k h) i
 
-resumed : (i : ℕ) (s : Step) (x : TokenKind) → Goes (suc i) s → (w : Tokens) × (is : Items) × (resume (λ k m. run (suc i) k m w) s (x ∷ w) ≡ whole_items is [])
-resumed i (go k m) x g = g
-resumed i fault x g = absurd g
-resumed i (done e) x g = absurd g
-resumed i (done_items is) x g = absurd g
+block_of : (k : Stack) → Takes body_hole k → Takes block_hole k
+block_of (in_if s bs a e ∷ k) h = h
+block_of (in_else s bs ∷ k) h = h
+block_of (in_loop s e ∷ k) h = h
+block_of k h = absurd h
 
--- the token leads on
-pub by_token : (i : ℕ) (k : Stack) (m : Mode) (x : TokenKind) → Goes (suc i) (step i k m x) → Completes i k m
-by_token i k m x g = let r = resumed i (step i k m x) x g in (x ∷ r.0, r.1, r.2)
+v_arrow : (k : Stack) → Takes arrow_hole k → (i : ℕ) → Completes i k arrow_start
+v_arrow (in_arrow g ∷ k) h i = by_token i (in_arrow g ∷ k) arrow_start (Number []) (numbered (in_arrow g ∷ k) h i (suc i))
+v_arrow k h i = absurd h
 
--- a token that ends an expression
-pub data Closer : Type 0 where
-  by_paren : Closer
-  by_bracket : Closer
-  by_brace : Closer
-  by_colon : Closer
-  by_semicolon : Closer
+v_end : (o : Owner) (k : Stack) → Takes (owner_hole o) k → (i s : ℕ) (ps : Parameters) (c : Bool) → Completes i k (parameters_end o s ps c)
+v_end of_arrow k h i s ps c = by_token i k (parameters_end of_arrow s ps c) (Punct ArrowMark) (v_arrow (in_arrow _ ∷ k) h (suc i))
+v_end (of_function q a n) k h i s ps c = by_token i k (parameters_end (of_function q a n) s ps c) (Punct OpenBrace) (statements (in_function q a n _ ∷ k) (blocks (in_function q a n _ ∷ k) h) (suc i) i no_stmt)
 
-abbrev pub closer : Closer → TokenKind
-closer by_paren = Punct CloseParen
-closer by_bracket = Punct CloseBracket
-closer by_brace = Punct CloseBrace
-closer by_colon = Punct Colon
-closer by_semicolon = Punct Semicolon
+v_parameters : (o : Owner) (k : Stack) → Takes (owner_hole o) k → (i s : ℕ) (ps : Parameters) → Completes i k (parameter_start o s ps)
+v_parameters o k h i s ps = by_token i k (parameter_start o s ps) (Punct CloseParen) (v_end o k h (suc i) s ps _)
 
--- a token closes each expression under the stack, and more tokens complete what comes of it
-abbrev pub Closes : Stack → Type 0
-Closes k = (c : Closer) × ((i : ℕ) (e : Ex) → Goes (suc i) (close i k e (closer c)))
+v_open : (o : Owner) (k : Stack) → Takes (owner_hole o) k → (i : ℕ) → Completes i k (parameters_open o)
+v_open o k h i = by_token i k (parameters_open o) (Punct OpenParen) (v_parameters o k h (suc i) i no_parameter)
 
--- each block, or each function, that is given to the stack can be completed
-abbrev TakesBlock : Stack → Type 0
-TakesBlock k = (i : ℕ) (b : Block) → Goes i (give_block i k b)
+v_type : (w : Waiting) (k : Stack) → Takes (waiting_hole w) k → (i z : ℕ) (a : ty.Stack) (m : ty.Mode) (q : Tokens) → Typing (takes_function w) z i a m q → Completes i k (typing w a m)
+v_type (parameter_type o s ps b n y) k h i z a m q r = after_typing i k (parameter_type o s ps b n y) z a m q r (Punct CloseParen) refl (λ j t. v_end o k h (suc j) s _ false)
+v_type (result_type of_arrow s ps c) k h i z a m q r = after_typing i k (result_type of_arrow s ps c) z a m q r (Punct ArrowMark) refl (λ j t. v_arrow (in_arrow _ ∷ k) h (suc j))
+v_type (result_type (of_function p b n) s ps c) k h i z a m q r =
+    after_typing i k (result_type (of_function p b n) s ps c) z a m q r (Punct OpenBrace) refl (λ j t. statements (in_function p b n _ ∷ k) (blocks (in_function p b n _ ∷ k) h) (suc j) j no_stmt)
+v_type (declared_type s w n) k h i z a m q r = after_typing i k (declared_type s w n) z a m q r (Punct Assign) refl (λ j t. wanted (in_declaration s w n (Some t) ∷ k) h (suc j))
+v_type (alias_type b w is p n) k h i z a m q r = after_typing i k (alias_type b w is p n) z a m q r (Punct Semicolon) refl (λ j t. items k h (suc j) _)
+v_type (cast_type s e os d) k h i z a m q r = cast (closes k h)
+  where
+    cast : Closes k → Completes i k (typing (cast_type s e os d) a m)
+    cast (by_paren, f) = after_typing i k (cast_type s e os d) z a m q r (Punct CloseParen) refl (λ j t. f j _)
+    cast (by_bracket, f) = after_typing i k (cast_type s e os d) z a m q r (Punct CloseBracket) refl (λ j t. f j _)
+    cast (by_brace, f) = after_typing i k (cast_type s e os d) z a m q r (Punct CloseBrace) refl (λ j t. f j _)
+    cast (by_colon, f) = after_typing i k (cast_type s e os d) z a m q r (Punct Colon) refl (λ j t. f j _)
+    cast (by_semicolon, f) = after_typing i k (cast_type s e os d) z a m q r (Punct Semicolon) refl (λ j t. f j _)
 
-abbrev TakesFunction : FunctionKind → Stack → Type 0
-TakesFunction q k = (i : ℕ) (f : Function) → Goes i (give_function i k q f)
+v_typed : (w : Waiting) (k : Stack) → Takes (waiting_hole w) k → (i : ℕ) → Completes i k (typing w [] ty.want)
+v_typed w k h i = v_type w k h i i [] ty.want [] (begin_typing (takes_function w) i)
 
-pub after_closed : (k : Stack) → Closes k → (i : ℕ) (b : Ex) (ls : Links) → Completes i k (after_links b ls)
-after_closed k (by_paren, f) i b ls = by_token i k (after_links b ls) (Punct CloseParen) (f i (linked i b ls))
-after_closed k (by_bracket, f) i b ls = by_token i k (after_links b ls) (Punct CloseBracket) (f i (linked i b ls))
-after_closed k (by_brace, f) i b ls = by_token i k (after_links b ls) (Punct CloseBrace) (f i (linked i b ls))
-after_closed k (by_colon, f) i b ls = by_token i k (after_links b ls) (Punct Colon) (f i (linked i b ls))
-after_closed k (by_semicolon, f) i b ls = by_token i k (after_links b ls) (Punct Semicolon) (f i (linked i b ls))
+v_row : (r : Row) (k : Stack) → Takes value_hole k → (i : ℕ) (es : Exs) → Completes i k (row_start r es)
+v_row (array_row s) k h i es = by_token i k (row_start (array_row s) es) (Punct CloseBracket) (after_closed k (closes k h) (suc i) _ _)
+v_row (call_row b ls s) k h i es = by_token i k (row_start (call_row b ls s) es) (Punct CloseParen) (after_closed k (closes k h) (suc i) _ _)
 
-pub settles : (k : Stack) → Closes k → (i : ℕ) (e : Ex) → Completes i k (settled e)
-settles k (by_paren, f) i e = by_token i k (settled e) (Punct CloseParen) (f i e)
-settles k (by_bracket, f) i e = by_token i k (settled e) (Punct CloseBracket) (f i e)
-settles k (by_brace, f) i e = by_token i k (settled e) (Punct CloseBrace) (f i e)
-settles k (by_colon, f) i e = by_token i k (settled e) (Punct Colon) (f i e)
-settles k (by_semicolon, f) i e = by_token i k (settled e) (Punct Semicolon) (f i e)
+module _ (k : Stack) (h : Takes item_hole k) where
+  v_item : (i a : ℕ) (is : Items) (x : ItemForm) → Completes i k (item_end a is x)
+  v_item i a is x = by_token i k (item_end a is x) (Punct Semicolon) (items k h (suc i) _)
 
--- where an expression may begin, a number does
-pub wants : (k : Stack) → Closes k → (i : ℕ) → Completes i k want
-wants k h i = by_token i k want (Number []) (after_closed k h (suc i) (ex i (suc i) (number [])) no_link)
+  v_source : (i a : ℕ) (is : Items) (m : ImportForm) → Completes i k (after_from a is m)
+  v_source i a is m = by_token i k (after_from a is m) (Str []) (v_item (suc i) a is _)
 
-pub statements : (k : Stack) → TakesBlock k → (i s : ℕ) (ss : Stmts) → Completes i k (statements_start s ss)
-statements k h i s ss = by_token i k (statements_start s ss) (Punct CloseBrace) (h (suc i) (block s (suc i) ss))
+  v_from : (i a : ℕ) (is : Items) (m : ImportForm) → Completes i k (after_list a is m)
+  v_from i a is m = by_token i k (after_list a is m) (Name (codes "from")) (v_source (suc i) a is m)
 
-pub bodies : (k : Stack) → TakesBlock k → (i : ℕ) → Completes i k want_body
-bodies k h i = by_token i k want_body (Punct OpenBrace) (statements k h (suc i) i no_stmt)
+  v_exports_from : (i a : ℕ) (is : Items) (o : Bool) (ns : ExportList) → Completes i k (exports_from a is o ns)
+  v_exports_from i a is o ns = by_token i k (exports_from a is o ns) (Str []) (v_item (suc i) a is _)
 
--- the items so far are a module
-pub items : (k : Stack) → Takes item_hole k → (i : ℕ) (is : Items) → Completes i k (items_start is)
-items [] h i is = ([], is, refl)
-items (f ∷ k) h i is = absurd h
+  v_exports : (i a : ℕ) (is : Items) (o : Bool) (ns : ExportList) → Completes i k (after_exports a is o ns)
+  v_exports i a is o ns = by_token i k (after_exports a is o ns) (Name (codes "from")) (v_exports_from (suc i) a is o ns)
 
-value_functions : (k : Stack) → Takes value_hole k → Closes k → TakesFunction is_value k
-value_functions (in_item a w is ∷ k) h c i f = absurd h
-value_functions k h c i f = after_closed k c i _ _
+  v_names : (q : Listing) → Matches q → (i : ℕ) → Completes i k (names_start q)
+  v_names (listing a is opens_names s (importing ns)) e i = by_token i k (names_start (listing a is opens_names s (importing ns))) (Punct CloseBrace) (v_from (suc i) a is _)
+  v_names (listing a is (opens_both n) s (importing ns)) e i = by_token i k (names_start (listing a is (opens_both n) s (importing ns))) (Punct CloseBrace) (v_from (suc i) a is _)
+  v_names (listing a is opens_types s (importing ns)) e i = by_token i k (names_start (listing a is opens_types s (importing ns))) (Punct CloseBrace) (v_from (suc i) a is _)
+  v_names (listing a is (opens_exports o) s (exporting ns)) e i = by_token i k (names_start (listing a is (opens_exports o) s (exporting ns))) (Punct CloseBrace) (v_exports (suc i) a is o _)
+  v_names q e i = absurd e
 
-default_functions : (k : Stack) → Takes default_hole k → TakesFunction is_default k
-default_functions (in_item a w is ∷ k) h i f = items k h i _
-default_functions k h i f = absurd h
+  v_pair : (q : Listing) → Matches q → (i : ℕ) → Completes i k (after_pair q)
+  v_pair q e i = by_token i k (after_pair q) (Punct Comma) (v_names q e (suc i))
 
-mutual
-  pub closes : (k : Stack) → Takes value_hole k → Closes k
-  closes (in_prefix s ps ∷ k) h = let r = closes k h in (r.0, λ i e. r.1 i (ex s i (prefixed ps e)))
-  closes (in_chain s p f os d o ∷ k) h = let r = closes k h in (r.0, λ i e. r.1 i (ex s i (chain p f (more_operand os (operand d i (right_side o e))))))
-  closes (in_last s hs ∷ k) h = let r = closes k h in (r.0, λ i e. r.1 i (ex s i (cond hs e)))
-  closes (in_arrow g ∷ k) h = let r = closes k h in (r.0, λ i e. r.1 i (ex (start_sig g) i (arrow g (arrow_value e))))
-  closes (in_branch s hs a ∷ k) h = let r = closes k h in (by_colon, λ i e. wants (in_last s (more_arm hs (arm (start_ex a) (suc i) a e)) ∷ k) (r.0, λ j u. r.1 j (ex s j (cond (more_arm hs (arm (start_ex a) (suc i) a e)) u))) (suc i))
-  closes (in_parens s ∷ k) h = (by_paren, λ i e. after_closed k (closes k h) (suc i) (ex s (suc i) (parens e)) no_link)
-  closes (in_row (array_row s) es ∷ k) h = (by_bracket, λ i e. after_closed k (closes k h) (suc i) _ _)
-  closes (in_row (call_row b ls s) es ∷ k) h = (by_paren, λ i e. after_closed k (closes k h) (suc i) _ _)
-  closes (in_index b ls s ∷ k) h = (by_bracket, λ i e. after_closed k (closes k h) (suc i) b (more_link ls (link s (suc i) (index e))))
-  closes (in_field s fs y ∷ k) h = (by_brace, λ i e. after_closed k (closes k h) (suc i) _ _)
-  closes (in_simple s v ∷ k) h = (by_semicolon, λ i e. simples k h i (simple s i (verb_form v e)))
-  closes (in_declaration s w n a ∷ k) h = (by_semicolon, λ i e. declarations k h (suc i) s (declaration s i w n a e))
-  closes (in_if_test s bs a ∷ k) h = (by_paren, λ i e. bodies (in_if s bs a e ∷ k) (λ j b. branched k h j s _) (suc i))
-  closes (in_loop_test s ∷ k) h = (by_paren, λ i e. bodies (in_loop s e ∷ k) (λ j b. stmts k h j _) (suc i))
-  closes (in_default a is ∷ k) h = (by_semicolon, λ i e. items k h (suc i) _)
-  closes k h = absurd h
+  v_as : (q : Listing) → Matches q → (i p : ℕ) (n : Bytes) → Completes i k (after_as q p n)
+  v_as (listing a is opens_names s (importing ns)) e i p n = by_token i k (after_as (listing a is opens_names s (importing ns)) p n) (Name (codes "a")) (v_pair _ tt (suc i))
+  v_as (listing a is (opens_both b) s (importing ns)) e i p n = by_token i k (after_as (listing a is (opens_both b) s (importing ns)) p n) (Name (codes "a")) (v_pair _ tt (suc i))
+  v_as (listing a is opens_types s (importing ns)) e i p n = by_token i k (after_as (listing a is opens_types s (importing ns)) p n) (Name (codes "a")) (v_pair _ tt (suc i))
+  v_as (listing a is (opens_exports o) s (exporting ns)) e i p n = by_token i k (after_as (listing a is (opens_exports o) s (exporting ns)) p n) (Name (codes "a")) (v_pair _ tt (suc i))
+  v_as q e i p n = absurd e
 
-  pub simples : (k : Stack) → Takes simple_hole k → (i : ℕ) (y : Simple) → Goes (suc i) (end_simple i k y)
-  simples (in_block s ss ∷ k) h i y = statements k (blocks k h) (suc i) s _
-  simples (in_item a w is ∷ k) h i y = items k h (suc i) _
-  simples (in_if s bs a e ∷ k) h i y = branched k h (suc i) s _
-  simples (in_else s bs ∷ k) h i y = stmts k h (suc i) _
-  simples (in_loop s e ∷ k) h i y = stmts k h (suc i) _
-  simples k h i y = absurd h
-
-  pub stmts : (k : Stack) → Takes statement_hole k → (i : ℕ) (y : Stmt) → Goes i (give_stmt k y)
-  stmts (in_block s ss ∷ k) h i y = statements k (blocks k h) i s (more_stmt ss y)
-  stmts k h i y = absurd h
-
-  pub branched : (k : Stack) → Takes statement_hole k → (i s : ℕ) (bs : Branches) → Completes i k (after_branch s bs)
-  branched (in_block z ss ∷ k) h i s bs = by_token i (in_block z ss ∷ k) (after_branch s bs) (Punct CloseBrace) (blocks k h (suc i) _)
-  branched k h i s bs = absurd h
-
-  pub blocks : (k : Stack) → Takes block_hole k → TakesBlock k
-  blocks (in_function is_value s n g ∷ k) h i b = value_functions k h (closes k h) i (function s i n g b)
-  blocks (in_function is_statement s n g ∷ k) h i b = named_functions k h i (function s i n g b)
-  blocks (in_function is_default s n g ∷ k) h i b = default_functions k h i (function s i n g b)
-  blocks (in_arrow g ∷ k) h i b = settles k (closes k h) i _
-  blocks (in_block s ss ∷ k) h i b = statements k (blocks k h) i s _
-  blocks (in_if s bs a e ∷ k) h i b = branched k h i s _
-  blocks (in_else s bs ∷ k) h i b = stmts k h i _
-  blocks (in_loop s e ∷ k) h i b = stmts k h i _
-  blocks k h i b = absurd h
-
-  pub named_functions : (k : Stack) → Takes named_hole k → TakesFunction is_statement k
-  named_functions (in_block s ss ∷ k) h i f = statements k (blocks k h) i s _
-  named_functions (in_item a w is ∷ k) h i f = items k h i _
-  named_functions k h i f = absurd h
-
-  pub declarations : (k : Stack) → Takes named_hole k → (i s : ℕ) (d : Declaration) → Goes i (give_declaration i k s d)
-  declarations (in_block s ss ∷ k) h i a d = statements k (blocks k h) i s _
-  declarations (in_item a w is ∷ k) h i s d = items k h i _
-  declarations k h i s d = absurd h
+pub viable : (k : Stack) (m : Mode) (i : ℕ) → Shaped k m i → Completes i k m
+viable k want i h = wanted k h i
+viable k (after_links b ls) i h = after_closed k (closes k h) i b ls
+viable k (after_dot b ls d) i h = by_token i k (after_dot b ls d) (Name []) (after_closed k (closes k h) (suc i) _ _)
+viable k (row_start r es) i h = v_row r k h i es
+viable k (fields_start s fs) i h = by_token i k (fields_start s fs) (Punct CloseBrace) (after_closed k (closes k h) (suc i) _ _)
+viable k (after_word s fs a n) i h = by_token i k (after_word s fs a n) (Punct Colon) (wanted (in_field s fs _ ∷ k) h (suc i))
+viable k (after_key s fs y) i h = by_token i k (after_key s fs y) (Punct Colon) (wanted (in_field s fs y ∷ k) h (suc i))
+viable k (paren_start s) i h = by_token i k (paren_start s) (Number []) (numbered (in_parens s ∷ k) h i (suc i))
+viable k (paren_word s a n) i h = by_token i k (paren_word s a n) (Punct CloseParen) (after_closed k (closes k h) (suc i) _ _)
+viable k (paren_mark s a n p) i h = by_token i k (paren_mark s a n p) (Number []) (numbered (in_branch a _ _ ∷ in_parens s ∷ k) h i (suc i))
+viable k (function_start q s) i h = by_token i k (function_start q s) (Name (codes "f")) (v_open (of_function q s (Some (codes "f"))) k h (suc i))
+viable k (parameters_open o) i h = v_open o k h i
+viable k (parameter_start o s ps) i h = v_parameters o k h i s ps
+viable k (parameter_word o s ps a n) i h = by_token i k (parameter_word o s ps a n) (Punct Colon) (v_typed (parameter_type o s ps a n false) k h (suc i))
+viable k (parameter_mark o s ps a n) i h = by_token i k (parameter_mark o s ps a n) (Punct Colon) (v_typed (parameter_type o s ps a n true) k h (suc i))
+viable k (parameters_end o s ps c) i h = v_end o k h i s ps c
+viable k arrow_start i h = v_arrow k h i
+viable k (settled e) i h = settles k (closes k h) i e
+viable k (statements_start s ss) i h = statements k (blocks k h) i s ss
+viable k (after_binder s w) i h = by_token i k (after_binder s w) (Name (codes "a")) (by_token (suc i) k (after_declared s w (codes "a")) (Punct Assign) (wanted (in_declaration s w (codes "a") None ∷ k) h (suc (suc i))))
+viable k (after_declared s w n) i h = by_token i k (after_declared s w n) (Punct Assign) (wanted (in_declaration s w n None ∷ k) h (suc i))
+viable k (after_return s) i h = by_token i k (after_return s) (Punct Semicolon) (simples k h i _)
+viable k (after_simple y) i h = by_token i k (after_simple y) (Punct Semicolon) (simples k h i y)
+viable k (after_if s bs a) i h = by_token i k (after_if s bs a) (Punct OpenParen) (wanted (in_if_test s bs a ∷ k) h (suc i))
+viable k (after_while s) i h = by_token i k (after_while s) (Punct OpenParen) (wanted (in_loop_test s ∷ k) h (suc i))
+viable k want_body i h = bodies k (blocks k (block_of k h)) i
+viable k (after_branch s bs) i h = branched k h i s bs
+viable k (after_else s bs) i h = by_token i k (after_else s bs) (Punct OpenBrace) (statements (in_else s bs ∷ k) (blocks (in_else s bs ∷ k) h) (suc i) i no_stmt)
+viable k (items_start is) i h = items k h i is
+viable k (after_type_word a is) i h = by_token i k (after_type_word a is) (Punct Semicolon) (items k h (suc i) _)
+viable k (after_type_as a d is) i h = by_token i k (after_type_as a d is) (Punct Assign) (v_typed (alias_type a _ is a _) k h (suc i))
+viable k (after_alias a w is p n) i h = by_token i k (after_alias a w is p n) (Punct Assign) (v_typed (alias_type a w is p n) k h (suc i))
+viable k (after_import a is) i h = by_token i k (after_import a is) (Str []) (v_item k h (suc i) a is _)
+viable k (import_word a is n) i h = by_token i k (import_word a is n) (Name (codes "from")) (v_source k h (suc i) a is _)
+viable k (import_comma a is n) i h = by_token i k (import_comma a is n) (Punct OpenBrace) (v_names k h _ tt (suc i))
+viable k (names_start q) i h = v_names k (h.0) q (h.1) i
+viable k (after_name q p n) i h = by_token i k (after_name q p n) (Name (codes "as")) (v_as k (h.0) q (h.1) (suc i) p n)
+viable k (after_as q p n) i h = v_as k (h.0) q (h.1) i p n
+viable k (after_pair q) i h = v_pair k (h.0) q (h.1) i
+viable k (after_list a is m) i h = v_from k h i a is m
+viable k (after_from a is m) i h = v_source k h i a is m
+viable k (after_export a is) i h = by_token i k (after_export a is) (Punct OpenBrace) (v_names k h _ tt (suc i))
+viable k (export_type a is p) i h = by_token i k (export_type a is p) (Punct OpenBrace) (v_names k h _ tt (suc i))
+viable k (after_exports a is o ns) i h = v_exports k h i a is o ns
+viable k (exports_from a is o ns) i h = v_exports_from k h i a is o ns
+viable k (after_default a is) i h = by_token i k (after_default a is) (Number []) (numbered (in_default a is ∷ k) h i (suc i))
+viable k (item_end a is y) i h = v_item k h i a is y
+viable k (typing w a m) i h = v_type w k (h.0) i (h.1) a m (h.2) (h.3)
