@@ -11,3 +11,4 @@ pub mod Shapes
 pub mod Closing
 pub mod Typed
 pub mod Viable
+pub mod Shaped
