@@ -12,3 +12,4 @@ pub mod Closing
 pub mod Typed
 pub mod Viable
 pub mod Shaped
+pub mod ShapedCode

@@ -21,7 +21,7 @@ use Rattle.code_law.specs.Machine.{step}
 use Rattle.code_law.proofs.Shapes.{Hole, value_hole, arrow_hole, simple_hole, body_hole, statement_hole, block_hole, named_hole, default_hole, item_hole, function_hole, owner_hole, waiting_hole, Takes, Matches, Typing, Shaped, ShapedStep}
 use Rattle.code_law.proofs.Typed.{begin_typing, inside_shaped}
 
-choose : (b : Bool) (i : ℕ) (s r : Step) → ShapedStep i s → ShapedStep i r → ShapedStep i (if b then s else r)
+pub choose : (b : Bool) (i : ℕ) (s r : Step) → ShapedStep i s → ShapedStep i r → ShapedStep i (if b then s else r)
 choose true i s r h j = h
 choose false i s r h j = j
 
@@ -40,7 +40,7 @@ s_function is_value i j (in_item a w is ∷ k) h f = absurd h
 s_function is_value i j k h f = h
 s_function q i j k h f = absurd h
 
-s_block : (i j : ℕ) (k : Stack) → Takes block_hole k → (b : Block) → ShapedStep i (give_block j k b)
+pub s_block : (i j : ℕ) (k : Stack) → Takes block_hole k → (b : Block) → ShapedStep i (give_block j k b)
 s_block i j (in_function q s n g ∷ k) h b = s_function q i j k h _
 s_block i j (in_arrow g ∷ k) h b = h
 s_block i j (in_block s ss ∷ k) h b = h
@@ -49,7 +49,7 @@ s_block i j (in_else s bs ∷ k) h b = s_stmt i k h _
 s_block i j (in_loop s e ∷ k) h b = s_stmt i k h _
 s_block i j k h b = absurd h
 
-s_simple : (i j : ℕ) (k : Stack) → Takes simple_hole k → (y : Simple) → ShapedStep i (end_simple j k y)
+pub s_simple : (i j : ℕ) (k : Stack) → Takes simple_hole k → (y : Simple) → ShapedStep i (end_simple j k y)
 s_simple i j (in_block s ss ∷ k) h y = h
 s_simple i j (in_item a w is ∷ k) h y = h
 s_simple i j (in_if s bs a e ∷ k) h y = h
@@ -130,7 +130,7 @@ s_turn i j k h e asks x = s_ask i j k h e
 s_turn i j k h e sticks x = tt
 s_turn i j k h e ends x = s_close i j k h e x
 
-s_settle : (i j : ℕ) (k : Stack) → Takes value_hole k → (e : Ex) (x : TokenKind) → ShapedStep i (settle j k e x)
+pub s_settle : (i j : ℕ) (k : Stack) → Takes value_hole k → (e : Ex) (x : TokenKind) → ShapedStep i (settle j k e x)
 s_settle i j k h e x = s_turn i j k h e (turn x) x
 
 takes_marked : (i : ℕ) (x : Prefix) (k : Stack) → Takes value_hole k → Takes value_hole (marked i x k)
@@ -145,7 +145,7 @@ s_word i k h n kind_word = takes_marked i _ k h
 s_word i k h n function_word = h
 s_word i k h n other_word = tt
 
-s_want : (i : ℕ) (k : Stack) → Takes value_hole k → (x : TokenKind) → ShapedStep i (want_step i k x)
+pub s_want : (i : ℕ) (k : Stack) → Takes value_hole k → (x : TokenKind) → ShapedStep i (want_step i k x)
 s_want i k h (Name n) = s_word i k h n (value_word n)
 s_want i k h (Number n) = h
 s_want i k h (Str s) = h
@@ -157,46 +157,46 @@ s_want i k h (Punct Minus) = takes_marked i _ k h
 s_want i k h (Punct Plus) = takes_marked i _ k h
 s_want i k h (Punct _) = tt
 
-s_links : (i : ℕ) (k : Stack) → Takes value_hole k → (b : Ex) (ls : Links) (x : TokenKind) → ShapedStep i (links_step i k b ls x)
+pub s_links : (i : ℕ) (k : Stack) → Takes value_hole k → (b : Ex) (ls : Links) (x : TokenKind) → ShapedStep i (links_step i k b ls x)
 s_links i k h b ls (Punct Dot) = h
 s_links i k h b ls (Punct OpenBracket) = h
 s_links i k h b ls (Punct OpenParen) = h
 s_links i k h b ls x = s_settle i i k h (linked i b ls) x
 
-s_row_start : (i : ℕ) (k : Stack) → Takes value_hole k → (r : Row) (es : Exs) (x : TokenKind) → ShapedStep i (row_step i k r es x)
+pub s_row_start : (i : ℕ) (k : Stack) → Takes value_hole k → (r : Row) (es : Exs) (x : TokenKind) → ShapedStep i (row_step i k r es x)
 s_row_start i k h (array_row s) es (Punct CloseBracket) = h
 s_row_start i k h (call_row b ls s) es (Punct CloseParen) = h
 s_row_start i k h (array_row s) es x = s_want i (in_row (array_row s) es ∷ k) h x
 s_row_start i k h (call_row b ls s) es x = s_want i (in_row (call_row b ls s) es ∷ k) h x
 
-s_fields : (i : ℕ) (k : Stack) → Takes value_hole k → (s : ℕ) (fs : Fields) (x : TokenKind) → ShapedStep i (fields_step i k s fs x)
+pub s_fields : (i : ℕ) (k : Stack) → Takes value_hole k → (s : ℕ) (fs : Fields) (x : TokenKind) → ShapedStep i (fields_step i k s fs x)
 s_fields i k h s fs (Punct CloseBrace) = h
 s_fields i k h s fs (Name n) = h
 s_fields i k h s fs (Str n) = h
 s_fields i k h s fs _ = tt
 
-s_field_word : (i : ℕ) (k : Stack) → Takes value_hole k → (s : ℕ) (fs : Fields) (a : ℕ) (n : Bytes) (x : TokenKind) → ShapedStep i (field_step i k s fs a n x)
+pub s_field_word : (i : ℕ) (k : Stack) → Takes value_hole k → (s : ℕ) (fs : Fields) (a : ℕ) (n : Bytes) (x : TokenKind) → ShapedStep i (field_step i k s fs a n x)
 s_field_word i k h s fs a n (Punct Colon) = h
 s_field_word i k h s fs a n x = choose (is_reserved n) i fault _ tt (s_field i i k h s (more_field fs (field a i (shorthand n))) x)
 
-s_typed : (i : ℕ) (k : Stack) (w : Waiting) → Takes (waiting_hole w) k → ShapedStep i (typed k w)
+pub s_typed : (i : ℕ) (k : Stack) (w : Waiting) → Takes (waiting_hole w) k → ShapedStep i (typed k w)
 s_typed i k w h = (h, suc i, [], begin_typing (takes_function w) (suc i))
 
-s_paren : (i : ℕ) (k : Stack) → Takes value_hole k → (s : ℕ) (x : TokenKind) → ShapedStep i (paren_step i k s x)
+pub s_paren : (i : ℕ) (k : Stack) → Takes value_hole k → (s : ℕ) (x : TokenKind) → ShapedStep i (paren_step i k s x)
 s_paren i k h s (Punct CloseParen) = choose (may_arrow k) i (go k (parameters_end of_arrow s _ false)) fault h tt
 s_paren i k h s (Name n) = choose (is_reserved n) i (want_step i (in_parens s ∷ k) (Name n)) (go k (paren_word s i n)) (s_want i (in_parens s ∷ k) h (Name n)) h
 s_paren i k h s x = s_want i (in_parens s ∷ k) h x
 
-s_paren_word : (i : ℕ) (k : Stack) → Takes value_hole k → (s a : ℕ) (n : Bytes) (x : TokenKind) → ShapedStep i (paren_word_step i k s a n x)
+pub s_paren_word : (i : ℕ) (k : Stack) → Takes value_hole k → (s a : ℕ) (n : Bytes) (x : TokenKind) → ShapedStep i (paren_word_step i k s a n x)
 s_paren_word i k h s a n (Punct Colon) = choose (may_arrow k) i (typed k (parameter_type of_arrow s no_parameter a n false)) fault (s_typed i k (parameter_type of_arrow s no_parameter a n false) h) tt
 s_paren_word i k h s a n (Punct Question) = h
 s_paren_word i k h s a n x = s_links i (in_parens s ∷ k) h (ex a i (variable n)) no_link x
 
-s_paren_mark : (i : ℕ) (k : Stack) → Takes value_hole k → (s a : ℕ) (n : Bytes) (p : ℕ) (x : TokenKind) → ShapedStep i (paren_mark_step i k s a n p x)
+pub s_paren_mark : (i : ℕ) (k : Stack) → Takes value_hole k → (s a : ℕ) (n : Bytes) (p : ℕ) (x : TokenKind) → ShapedStep i (paren_mark_step i k s a n p x)
 s_paren_mark i k h s a n p (Punct Colon) = choose (may_arrow k) i (typed k (parameter_type of_arrow s no_parameter a n true)) fault (s_typed i k (parameter_type of_arrow s no_parameter a n true) h) tt
 s_paren_mark i k h s a n p x = s_want i (in_branch a no_arm (ex a p (variable n)) ∷ in_parens s ∷ k) h x
 
-s_parameter : (i : ℕ) (k : Stack) (o : Owner) → Takes (owner_hole o) k → (s : ℕ) (ps : Parameters) (x : TokenKind) → ShapedStep i (parameter_step i k o s ps x)
+pub s_parameter : (i : ℕ) (k : Stack) (o : Owner) → Takes (owner_hole o) k → (s : ℕ) (ps : Parameters) (x : TokenKind) → ShapedStep i (parameter_step i k o s ps x)
 s_parameter i k o h s ps (Punct CloseParen) = h
 s_parameter i k o h s ps (Name n) = choose (is_reserved n) i fault (go k (parameter_word o s ps i n)) tt h
 s_parameter i k o h s ps _ = tt
@@ -206,21 +206,21 @@ s_after_parameter i k o h s ps (Punct CloseParen) = h
 s_after_parameter i k o h s ps (Punct Comma) = h
 s_after_parameter i k o h s ps _ = tt
 
-s_parameter_word : (i : ℕ) (k : Stack) (o : Owner) → Takes (owner_hole o) k → (s : ℕ) (ps : Parameters) (a : ℕ) (n : Bytes) (x : TokenKind) → ShapedStep i (parameter_word_step i k o s ps a n x)
+pub s_parameter_word : (i : ℕ) (k : Stack) (o : Owner) → Takes (owner_hole o) k → (s : ℕ) (ps : Parameters) (a : ℕ) (n : Bytes) (x : TokenKind) → ShapedStep i (parameter_word_step i k o s ps a n x)
 s_parameter_word i k o h s ps a n (Punct Colon) = s_typed i k (parameter_type o s ps a n false) h
 s_parameter_word i k o h s ps a n (Punct Question) = h
 s_parameter_word i k of_arrow h s ps a n _ = tt
 s_parameter_word i k (of_function q f m) h s ps a n x = s_after_parameter i k (of_function q f m) h s (more_parameter ps (parameter a i n false None)) x
 
-s_parameter_mark : (i : ℕ) (k : Stack) (o : Owner) → Takes (owner_hole o) k → (s : ℕ) (ps : Parameters) (a : ℕ) (n : Bytes) (x : TokenKind) → ShapedStep i (parameter_mark_step k o s ps a n x)
+pub s_parameter_mark : (i : ℕ) (k : Stack) (o : Owner) → Takes (owner_hole o) k → (s : ℕ) (ps : Parameters) (a : ℕ) (n : Bytes) (x : TokenKind) → ShapedStep i (parameter_mark_step k o s ps a n x)
 s_parameter_mark i k o h s ps a n (Punct Colon) = s_typed i k (parameter_type o s ps a n true) h
 s_parameter_mark i k o h s ps a n _ = tt
 
-s_parameters_open : (i : ℕ) (k : Stack) (o : Owner) → Takes (owner_hole o) k → (x : TokenKind) → ShapedStep i (open_step i k o x)
+pub s_parameters_open : (i : ℕ) (k : Stack) (o : Owner) → Takes (owner_hole o) k → (x : TokenKind) → ShapedStep i (open_step i k o x)
 s_parameters_open i k o h (Punct OpenParen) = h
 s_parameters_open i k o h _ = tt
 
-s_function_start : (i : ℕ) (k : Stack) (q : FunctionKind) → Takes (function_hole q) k → (s : ℕ) (x : TokenKind) → ShapedStep i (function_step i k q s x)
+pub s_function_start : (i : ℕ) (k : Stack) (q : FunctionKind) → Takes (function_hole q) k → (s : ℕ) (x : TokenKind) → ShapedStep i (function_step i k q s x)
 s_function_start i k q h s (Name n) = choose (is_reserved n) i fault (go k (parameters_open (of_function q s (Some n)))) tt h
 s_function_start i k is_statement h s x = tt
 s_function_start i k is_value h s x = s_parameters_open i k (of_function is_value s None) h x
@@ -231,16 +231,16 @@ s_body i j k of_arrow h g (Punct ArrowMark) = h
 s_body i j k (of_function q s n) h g (Punct OpenBrace) = h
 s_body i j k o h g _ = tt
 
-s_end : (i : ℕ) (k : Stack) (o : Owner) → Takes (owner_hole o) k → (s : ℕ) (ps : Parameters) (c : Bool) (x : TokenKind) → ShapedStep i (end_step i k o s ps c x)
+pub s_end : (i : ℕ) (k : Stack) (o : Owner) → Takes (owner_hole o) k → (s : ℕ) (ps : Parameters) (c : Bool) (x : TokenKind) → ShapedStep i (end_step i k o s ps c x)
 s_end i k o h s ps c (Punct Colon) = s_typed i k (result_type o s ps c) h
 s_end i k o h s ps c x = s_body i i k o h (sig s i ps c None) x
 
-s_arrow : (i : ℕ) (k : Stack) → Takes arrow_hole k → (x : TokenKind) → ShapedStep i (arrow_step i k x)
+pub s_arrow : (i : ℕ) (k : Stack) → Takes arrow_hole k → (x : TokenKind) → ShapedStep i (arrow_step i k x)
 s_arrow i (in_arrow g ∷ k) h (Punct OpenBrace) = h
 s_arrow i (in_arrow g ∷ k) h x = s_want i (in_arrow g ∷ k) h x
 s_arrow i k h x = absurd h
 
-s_after_type : (i : ℕ) (k : Stack) (w : Waiting) → Takes (waiting_hole w) k → (t : Ty) (x : TokenKind) → ShapedStep i (after_type i k w t x)
+pub s_after_type : (i : ℕ) (k : Stack) (w : Waiting) → Takes (waiting_hole w) k → (t : Ty) (x : TokenKind) → ShapedStep i (after_type i k w t x)
 s_after_type i k (parameter_type o s ps a n m) h t x = s_after_parameter i k o h s _ x
 s_after_type i k (result_type o s ps c) h t x = s_body i i k o h _ x
 s_after_type i k (declared_type s w n) h t (Punct Assign) = h
