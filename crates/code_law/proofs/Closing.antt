@@ -7,13 +7,13 @@ use Rattle.js_grammar.specs.Words.{Bytes}
 use Rattle.js_grammar.specs.TypeSpelling.{Tokens}
 use Rattle.js_grammar.specs.Code.{Ex, ex, number, parens, prefixed, chain, cond, arrow, arrow_value, arrow_block, more_operand, operand, right_side, more_arm, arm, Block, block, Stmt, Stmts, no_stmt, more_stmt, stmt, function, function_ex, Function, Declaration, declaration, Simple, simple, Links, no_link, more_link, link, index, more_field, field, valued, more_ex, Branches, Exs}
 use Rattle.js_grammar.specs.Items.{Items, more_item, item, ItemForm}
-use Rattle.code_law.specs.Frames.{Row, array_row, call_row, FunctionKind, is_value, is_statement, is_default, in_prefix, in_chain, in_last, in_branch, in_parens, in_row, in_index, in_field, in_arrow, in_simple, in_declaration, in_if_test, in_loop_test, in_if, in_else, in_loop, in_function, in_block, in_item, in_default, Mode, want, after_links, settled, statements_start, want_body, after_branch, items_start, Stack, Step, fault, go, done, done_items, start_ex, start_sig, start_key}
+use Rattle.code_law.specs.Frames.{Row, array_row, call_row, FunctionKind, is_value, is_statement, is_default, in_prefix, in_chain, in_last, in_branch, in_parens, in_row, in_index, in_field, in_arrow, in_body, in_simple, in_declaration, in_if_test, in_loop_test, in_if, in_else, in_loop, in_function, in_block, in_item, in_default, Mode, want, after_links, settled, statements_start, want_body, after_branch, items_start, Stack, Step, fault, go, done, done_items, start_ex, start_sig, start_key}
 use Rattle.code_law.specs.Bodies.{give_stmt, give_body, give_item, give_declaration, give_function, give_block, end_simple, end_value, verb_form}
 use Rattle.code_law.specs.Ladder.{after_item, after_field, close, settle}
 use Rattle.code_law.specs.Expressions.{links_step, linked}
 use Rattle.code_law.specs.Statements.{statements_step, branch_step}
 use Rattle.code_law.specs.Machine.{step, Outcome, faulty, whole, whole_items, resume, run}
-use Rattle.code_law.proofs.Shapes.{Hole, value_hole, arrow_hole, simple_hole, body_hole, statement_hole, block_hole, named_hole, default_hole, item_hole, function_hole, Takes}
+use Rattle.code_law.proofs.Shapes.{Hole, value_hole, simple_hole, body_hole, statement_hole, block_hole, named_hole, default_hole, item_hole, function_hole, Takes}
 
 -- some tokens lead from the state to a whole module
 abbrev pub Completes : ℕ → Stack → Mode → Type 0
@@ -136,7 +136,7 @@ mutual
   blocks (in_function is_value s n g ∷ k) h i b = value_functions k h (closes k h) i (function s i n g b)
   blocks (in_function is_statement s n g ∷ k) h i b = named_functions k h i (function s i n g b)
   blocks (in_function is_default s n g ∷ k) h i b = default_functions k h i (function s i n g b)
-  blocks (in_arrow g ∷ k) h i b = settles k (closes k h) i _
+  blocks (in_body g ∷ k) h i b = settles k (closes k h) i _
   blocks (in_block s ss ∷ k) h i b = statements k (blocks k h) i s _
   blocks (in_if s bs a e ∷ k) h i b = branched k h i s _
   blocks (in_else s bs ∷ k) h i b = stmts k h i _

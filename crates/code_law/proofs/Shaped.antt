@@ -9,16 +9,16 @@ use Rattle.js_grammar.specs.Words.{Bytes}
 use Rattle.js_grammar.specs.TypeSpelling.{Tokens}
 use Rattle.js_grammar.specs.Types.{Key, Ty}
 use Rattle.js_grammar.specs.Machine as ty
-use Rattle.js_grammar.specs.Code.{Prefix, Level, rank, operand_rank, level_of, Operator, Binder, Ex, ex, ExForm, form_rank, prefixed, chain, cond, arrow, arrow_value, Exs, Links, no_link, Operands, no_operand, more_operand, operand, right_side, Fields, more_field, field, shorthand, variable, no_arm, Sig, sig, Parameters, no_parameter, more_parameter, parameter, Block, Stmts, Stmt, stmt, more_stmt, Simple, simple, SimpleForm, Branches, Function, Declaration, is_target, branches, no_else}
+use Rattle.js_grammar.specs.Code.{Prefix, Level, rank, operand_rank, level_of, Operator, Binder, Ex, ex, ExForm, form_rank, prefixed, chain, cond, arrow, arrow_value, Exs, Links, no_link, Operands, no_operand, more_operand, operand, right_side, Fields, more_field, field, shorthand, variable, Arms, no_arm, ex_rank, Sig, sig, Parameters, no_parameter, more_parameter, parameter, Block, Stmts, Stmt, stmt, more_stmt, Simple, simple, SimpleForm, Branches, Function, Declaration, is_target, branches, no_else}
 use Rattle.js_grammar.specs.Items.{Items, ItemForm, ImportForm, ExportList}
-use Rattle.code_law.specs.Frames.{Row, array_row, call_row, FunctionKind, is_value, is_statement, is_default, Wrap, opens_names, opens_both, opens_types, opens_exports, importing, exporting, Listing, listing, Owner, of_arrow, of_function, Verb, returns, throws, assigns, evaluates, Waiting, parameter_type, result_type, declared_type, alias_type, cast_type, in_prefix, in_chain, in_last, in_branch, in_parens, in_row, in_index, in_field, in_arrow, in_simple, in_declaration, in_if_test, in_loop_test, in_if, in_else, in_loop, in_function, in_block, in_item, in_default, Mode, want, after_links, after_dot, row_start, fields_start, after_word, after_key, paren_start, paren_word, paren_mark, function_start, parameters_open, parameter_start, parameter_word, parameter_mark, parameters_end, arrow_start, settled, statements_start, after_binder, after_declared, after_return, after_simple, after_if, after_while, want_body, after_branch, after_else, items_start, after_type_word, after_type_as, after_alias, after_import, import_word, import_comma, names_start, after_name, after_as, after_pair, after_list, after_from, after_export, export_type, after_exports, exports_from, after_default, item_end, typing, Stack, Step, fault, go, done, done_items, start_sig}
+use Rattle.code_law.specs.Frames.{Row, array_row, call_row, FunctionKind, is_value, is_statement, is_default, Wrap, opens_names, opens_both, opens_types, opens_exports, importing, exporting, Listing, listing, Owner, of_arrow, of_function, Verb, returns, throws, assigns, evaluates, Waiting, parameter_type, result_type, declared_type, alias_type, cast_type, in_prefix, in_chain, in_last, in_branch, in_parens, in_row, in_index, in_field, in_arrow, in_body, in_simple, in_declaration, in_if_test, in_loop_test, in_if, in_else, in_loop, in_function, in_block, in_item, in_default, Mode, want, after_links, after_dot, row_start, fields_start, after_word, after_key, paren_start, paren_word, paren_mark, function_start, parameters_open, parameter_start, parameter_word, parameter_mark, parameters_end, arrow_start, settled, statements_start, after_binder, after_declared, after_return, after_simple, after_if, after_while, want_body, after_branch, after_else, items_start, after_type_word, after_type_as, after_alias, after_import, import_word, import_comma, names_start, after_name, after_as, after_pair, after_list, after_from, after_export, export_type, after_exports, exports_from, after_default, item_end, typing, Stack, Step, fault, go, done, done_items, start_ex, start_sig}
 use Rattle.code_law.specs.Bodies.{give_stmt, give_body, give_item, give_declaration, give_function, give_block, end_simple, end_value, verb_form}
-use Rattle.code_law.specs.Ladder.{Joint, applies, casts, Turn, joins, asks, sticks, ends, turn, joint_level, after_item, after_field, close, ask, begin, open_chain, join, settle_at, settle}
+use Rattle.code_law.specs.Ladder.{Joint, applies, casts, Turn, joins, asks, sticks, ends, turn, joint_level, after_item, after_field, close, ask_test, ask, begin, open_chain, join, settle_at, settle}
 use Rattle.code_law.specs.Expressions.{ValueWord, variable_word, null_word, truth_of, kind_word, function_word, other_word, value_word, marked, may_arrow, word_step, want_step, linked, links_step, row_step, fields_step, field_step, key_step, typed, paren_step, paren_word_step, paren_mark_step, parameter_step, after_parameter, parameter_word_step, parameter_mark_step, open_step, function_step, open_body, end_step, arrow_step, after_type, takes_function, inside}
 use Rattle.code_law.specs.Statements.{StatementWord, binds, begins_function, if_word, else_word, while_word, return_word, throw_word, break_word, continue_word, begins_import, begins_export, plain_word, statement_word, simple_word, simple_step, block_word, statements_step, return_step, semicolon_step, body_step, is_else, end_branches, branch_step, after_else_word, else_step}
 use Rattle.code_law.specs.Modules.{top_word, items_step, type_word_step, type_as_step, alias_step, import_step, from_step, import_word_step, import_comma_step, add_name, has_names, end_names, names_step, pair_step, name_step, as_step, source_step, end_item, export_word, export_step, export_type_step, exports_step, exports_from_step, default_word, default_step}
 use Rattle.code_law.specs.Machine.{step}
-use Rattle.code_law.proofs.Shapes.{Hole, value_hole, arrow_hole, simple_hole, body_hole, statement_hole, block_hole, named_hole, default_hole, item_hole, function_hole, owner_hole, waiting_hole, Takes, Matches, Typing, Shaped, ShapedStep}
+use Rattle.code_law.proofs.Shapes.{Hole, value_hole, simple_hole, body_hole, statement_hole, block_hole, named_hole, default_hole, item_hole, function_hole, owner_hole, waiting_hole, Takes, Matches, Typing, Shaped, ShapedStep}
 use Rattle.code_law.proofs.Typed.{begin_typing, inside_shaped}
 
 pub choose : (b : Bool) (i : ℕ) (s r : Step) → ShapedStep i s → ShapedStep i r → ShapedStep i (if b then s else r)
@@ -42,7 +42,7 @@ s_function q i j k h f = absurd h
 
 pub s_block : (i j : ℕ) (k : Stack) → Takes block_hole k → (b : Block) → ShapedStep i (give_block j k b)
 s_block i j (in_function q s n g ∷ k) h b = s_function q i j k h _
-s_block i j (in_arrow g ∷ k) h b = h
+s_block i j (in_body g ∷ k) h b = h
 s_block i j (in_block s ss ∷ k) h b = h
 s_block i j (in_if s bs a e ∷ k) h b = h
 s_block i j (in_else s bs ∷ k) h b = s_stmt i k h _
@@ -102,11 +102,14 @@ s_close i j (in_default a is ∷ k) h e (Punct Semicolon) = h
 s_close i j (in_default a is ∷ k) h e _ = tt
 s_close i j k h e x = absurd h
 
+s_test : (i : ℕ) (k : Stack) → Takes value_hole k → (s : ℕ) (hs : Arms) (e : Ex) → ShapedStep i (ask_test k s hs e)
+s_test i k h s hs e = choose (nat_le 1 (ex_rank e)) i (go (in_branch s hs e ∷ k) want) fault h tt
+
 s_ask : (i j : ℕ) (k : Stack) → Takes value_hole k → (e : Ex) → ShapedStep i (ask j k e)
-s_ask i j (in_prefix s ps ∷ k) h e = s_ask i j k h _
-s_ask i j (in_chain s p f os d o ∷ k) h e = s_ask i j k h _
-s_ask i j (in_last s hs ∷ k) h e = h
-s_ask i j k h e = h
+s_ask i j (in_prefix s ps ∷ k) h e = s_ask i j k h (ex s j (prefixed ps e))
+s_ask i j (in_chain s p f os d o ∷ k) h e = s_ask i j k h (ex s j (chain p f (more_operand os (operand d j (right_side o e)))))
+s_ask i j (in_last s hs ∷ k) h e = s_test i k h s hs e
+s_ask i j k h e = s_test i k h (start_ex e) no_arm e
 
 s_begin : (i j : ℕ) (k : Stack) → Takes value_hole k → (s : ℕ) (p : Level) (f : Ex) (os : Operands) (w : Joint) → ShapedStep i (begin j k s p f os w)
 s_begin i j k h s p f os (applies o) = h
@@ -121,7 +124,9 @@ s_open i j k h (ex s t x) p w = choose (nat_le (operand_rank p) (form_rank x)) i
 s_join : (i j : ℕ) (k : Stack) → Takes value_hole k → (e : Ex) (p : Level) (w : Joint) → ShapedStep i (join j k e p w)
 s_join i j (in_prefix s ps ∷ k) h e p w = s_join i j k h _ p w
 s_join i j (in_chain s q f os d o ∷ k) h e p w =
-    choose (nat_lt (rank q) (rank p)) i (open_chain j (in_chain s q f os d o ∷ k) e p w) _ (s_open i j (in_chain s q f os d o ∷ k) h e p w) (s_join i j k h _ p w)
+    let b = in_chain s q f os d o ∷ k in
+    choose (nat_lt (rank q) (rank p)) i (if nat_le (operand_rank q) (rank p) then open_chain j b e p w else fault) (join j k (ex s j (chain q f (more_operand os (operand d j (right_side o e))))) p w)
+    (choose (nat_le (operand_rank q) (rank p)) i (open_chain j b e p w) fault (s_open i j b h e p w) tt) (s_join i j k h (ex s j (chain q f (more_operand os (operand d j (right_side o e))))) p w)
 s_join i j k h e p w = s_open i j k h e p w
 
 s_turn : (i j : ℕ) (k : Stack) → Takes value_hole k → (e : Ex) (c : Turn) (x : TokenKind) → ShapedStep i (settle_at j k e c x)
@@ -235,10 +240,9 @@ pub s_end : (i : ℕ) (k : Stack) (o : Owner) → Takes (owner_hole o) k → (s 
 s_end i k o h s ps c (Punct Colon) = s_typed i k (result_type o s ps c) h
 s_end i k o h s ps c x = s_body i i k o h (sig s i ps c None) x
 
-pub s_arrow : (i : ℕ) (k : Stack) → Takes arrow_hole k → (x : TokenKind) → ShapedStep i (arrow_step i k x)
-s_arrow i (in_arrow g ∷ k) h (Punct OpenBrace) = h
-s_arrow i (in_arrow g ∷ k) h x = s_want i (in_arrow g ∷ k) h x
-s_arrow i k h x = absurd h
+pub s_arrow : (i : ℕ) (k : Stack) → Takes value_hole k → (g : Sig) (x : TokenKind) → ShapedStep i (arrow_step i k g x)
+s_arrow i k h g (Punct OpenBrace) = h
+s_arrow i k h g x = s_want i (in_arrow g ∷ k) h x
 
 pub s_after_type : (i : ℕ) (k : Stack) (w : Waiting) → Takes (waiting_hole w) k → (t : Ty) (x : TokenKind) → ShapedStep i (after_type i k w t x)
 s_after_type i k (parameter_type o s ps a n m) h t x = s_after_parameter i k o h s _ x

@@ -4,14 +4,13 @@ use Rattle.js_grammar.specs.TypeSpelling.{Tokens}
 use Rattle.js_grammar.specs.Machine as ty
 use Rattle.js_grammar.proofs.Sound as ty_sound
 use Rattle.js_grammar.proofs.Kept as ty_kept
-use Rattle.code_law.specs.Frames.{FunctionKind, is_value, is_statement, is_default, opens_names, opens_both, opens_types, opens_exports, importing, exporting, Listing, listing, Owner, of_arrow, of_function, Waiting, parameter_type, result_type, declared_type, alias_type, cast_type, in_prefix, in_chain, in_last, in_branch, in_parens, in_row, in_index, in_field, in_arrow, in_simple, in_declaration, in_if_test, in_loop_test, in_if, in_else, in_loop, in_function, in_block, in_item, in_default, Mode, want, after_links, after_dot, row_start, fields_start, after_word, after_key, paren_start, paren_word, paren_mark, function_start, parameters_open, parameter_start, parameter_word, parameter_mark, parameters_end, arrow_start, settled, statements_start, after_binder, after_declared, after_return, after_simple, after_if, after_while, want_body, after_branch, after_else, items_start, after_type_word, after_type_as, after_alias, after_import, import_word, import_comma, names_start, after_name, after_as, after_pair, after_list, after_from, after_export, export_type, after_exports, exports_from, after_default, item_end, typing, Stack, Step, fault, go, done, done_items}
+use Rattle.code_law.specs.Frames.{FunctionKind, is_value, is_statement, is_default, opens_names, opens_both, opens_types, opens_exports, importing, exporting, Listing, listing, Owner, of_arrow, of_function, Waiting, parameter_type, result_type, declared_type, alias_type, cast_type, in_prefix, in_chain, in_last, in_branch, in_parens, in_row, in_index, in_field, in_arrow, in_body, in_simple, in_declaration, in_if_test, in_loop_test, in_if, in_else, in_loop, in_function, in_block, in_item, in_default, Mode, want, after_links, after_dot, row_start, fields_start, after_word, after_key, paren_start, paren_word, paren_mark, function_start, parameters_open, parameter_start, parameter_word, parameter_mark, parameters_end, arrow_start, settled, statements_start, after_binder, after_declared, after_return, after_simple, after_if, after_while, want_body, after_branch, after_else, items_start, after_type_word, after_type_as, after_alias, after_import, import_word, import_comma, names_start, after_name, after_as, after_pair, after_list, after_from, after_export, export_type, after_exports, exports_from, after_default, item_end, typing, Stack, Step, fault, go, done, done_items}
 use Rattle.code_law.specs.Expressions.{takes_function}
 
--- what a stack may wait for: an expression; an arrow's body; a simple statement; a body; a statement; a block; a declaration
+-- what a stack may wait for: an expression; a simple statement; a body; a statement; a block; a declaration
 -- or a named function; the function behind `export default`; an item
 pub data Hole : Type 0 where
   value_hole : Hole
-  arrow_hole : Hole
   simple_hole : Hole
   body_hole : Hole
   statement_hole : Hole
@@ -51,7 +50,6 @@ Takes value_hole (in_declaration s w n a ∷ k) = Takes named_hole k
 Takes value_hole (in_if_test s bs a ∷ k) = Takes statement_hole k
 Takes value_hole (in_loop_test s ∷ k) = Takes statement_hole k
 Takes value_hole (in_default a is ∷ k) = Takes item_hole k
-Takes arrow_hole (in_arrow g ∷ k) = Takes value_hole k
 Takes simple_hole (in_block s ss ∷ k) = Takes block_hole k
 Takes simple_hole (in_item a w is ∷ k) = Takes item_hole k
 Takes simple_hole (in_if s bs a e ∷ k) = Takes statement_hole k
@@ -62,7 +60,7 @@ Takes body_hole (in_else s bs ∷ k) = Takes statement_hole k
 Takes body_hole (in_loop s e ∷ k) = Takes statement_hole k
 Takes statement_hole (in_block s ss ∷ k) = Takes block_hole k
 Takes block_hole (in_function q s n g ∷ k) = Takes (function_hole q) k
-Takes block_hole (in_arrow g ∷ k) = Takes value_hole k
+Takes block_hole (in_body g ∷ k) = Takes value_hole k
 Takes block_hole (in_block s ss ∷ k) = Takes block_hole k
 Takes block_hole (in_if s bs a e ∷ k) = Takes statement_hole k
 Takes block_hole (in_else s bs ∷ k) = Takes statement_hole k
@@ -104,7 +102,7 @@ Shaped k (parameter_start o s ps) i = Takes (owner_hole o) k
 Shaped k (parameter_word o s ps a n) i = Takes (owner_hole o) k
 Shaped k (parameter_mark o s ps a n) i = Takes (owner_hole o) k
 Shaped k (parameters_end o s ps c) i = Takes (owner_hole o) k
-Shaped k arrow_start i = Takes arrow_hole k
+Shaped k (arrow_start g) i = Takes value_hole k
 Shaped k (settled e) i = Takes value_hole k
 Shaped k (statements_start s ss) i = Takes block_hole k
 Shaped k (after_binder s w) i = Takes named_hole k

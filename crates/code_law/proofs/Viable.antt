@@ -10,7 +10,7 @@ use Rattle.js_grammar.specs.Items.{Items, ImportForm, ItemForm, ExportList}
 use Rattle.code_law.specs.Frames.{Row, array_row, call_row, FunctionKind, opens_names, opens_both, opens_types, opens_exports, importing, exporting, Listing, listing, Owner, of_arrow, of_function, Waiting, parameter_type, result_type, declared_type, alias_type, cast_type, in_prefix, in_branch, in_parens, in_field, in_arrow, in_declaration, in_if_test, in_loop_test, in_if, in_else, in_loop, in_function, in_block, in_item, in_default, Mode, want, after_links, after_dot, row_start, fields_start, after_word, after_key, paren_start, paren_word, paren_mark, function_start, parameters_open, parameter_start, parameter_word, parameter_mark, parameters_end, arrow_start, settled, statements_start, after_binder, after_declared, after_return, after_simple, after_if, after_while, want_body, after_branch, after_else, items_start, after_type_word, after_type_as, after_alias, after_import, import_word, import_comma, names_start, after_name, after_as, after_pair, after_list, after_from, after_export, export_type, after_exports, exports_from, after_default, item_end, typing, Stack, Step}
 use Rattle.code_law.specs.Expressions.{after_type, takes_function}
 use Rattle.code_law.specs.Modules.{add_name}
-use Rattle.code_law.proofs.Shapes.{Hole, value_hole, arrow_hole, body_hole, block_hole, named_hole, item_hole, function_hole, owner_hole, waiting_hole, Takes, Matches, Typing, Shaped}
+use Rattle.code_law.proofs.Shapes.{Hole, value_hole, body_hole, block_hole, named_hole, item_hole, function_hole, owner_hole, waiting_hole, Takes, Matches, Typing, Shaped}
 use Rattle.code_law.proofs.Closing.{Completes, Goes, by_token, Closer, by_paren, by_bracket, by_brace, by_colon, by_semicolon, closer, Closes, after_closed, settles, wants, statements, bodies, items, closes, simples, stmts, branched, blocks}
 use Rattle.code_law.proofs.Typed.{begin_typing, after_typing}
 
@@ -21,18 +21,17 @@ numbered k h i j = after_closed k (closes k h) j (ex i j (number [])) no_link
 wanted : (k : Stack) → Takes value_hole k → (i : ℕ) → Completes i k want
 wanted k h i = wants k (closes k h) i
 
-block_of : (k : Stack) → Takes body_hole k → Takes block_hole k
+pub block_of : (k : Stack) → Takes body_hole k → Takes block_hole k
 block_of (in_if s bs a e ∷ k) h = h
 block_of (in_else s bs ∷ k) h = h
 block_of (in_loop s e ∷ k) h = h
 block_of k h = absurd h
 
-v_arrow : (k : Stack) → Takes arrow_hole k → (i : ℕ) → Completes i k arrow_start
-v_arrow (in_arrow g ∷ k) h i = by_token i (in_arrow g ∷ k) arrow_start (Number []) (numbered (in_arrow g ∷ k) h i (suc i))
-v_arrow k h i = absurd h
+v_arrow : (k : Stack) → Takes value_hole k → (i : ℕ) (g : Sig) → Completes i k (arrow_start g)
+v_arrow k h i g = by_token i k (arrow_start g) (Number []) (numbered (in_arrow g ∷ k) h i (suc i))
 
 v_end : (o : Owner) (k : Stack) → Takes (owner_hole o) k → (i s : ℕ) (ps : Parameters) (c : Bool) → Completes i k (parameters_end o s ps c)
-v_end of_arrow k h i s ps c = by_token i k (parameters_end of_arrow s ps c) (Punct ArrowMark) (v_arrow (in_arrow _ ∷ k) h (suc i))
+v_end of_arrow k h i s ps c = by_token i k (parameters_end of_arrow s ps c) (Punct ArrowMark) (v_arrow k h (suc i) _)
 v_end (of_function q a n) k h i s ps c = by_token i k (parameters_end (of_function q a n) s ps c) (Punct OpenBrace) (statements (in_function q a n _ ∷ k) (blocks (in_function q a n _ ∷ k) h) (suc i) i no_stmt)
 
 v_parameters : (o : Owner) (k : Stack) → Takes (owner_hole o) k → (i s : ℕ) (ps : Parameters) → Completes i k (parameter_start o s ps)
@@ -43,7 +42,7 @@ v_open o k h i = by_token i k (parameters_open o) (Punct OpenParen) (v_parameter
 
 v_type : (w : Waiting) (k : Stack) → Takes (waiting_hole w) k → (i z : ℕ) (a : ty.Stack) (m : ty.Mode) (q : Tokens) → Typing (takes_function w) z i a m q → Completes i k (typing w a m)
 v_type (parameter_type o s ps b n y) k h i z a m q r = after_typing i k (parameter_type o s ps b n y) z a m q r (Punct CloseParen) refl (λ j t. v_end o k h (suc j) s _ false)
-v_type (result_type of_arrow s ps c) k h i z a m q r = after_typing i k (result_type of_arrow s ps c) z a m q r (Punct ArrowMark) refl (λ j t. v_arrow (in_arrow _ ∷ k) h (suc j))
+v_type (result_type of_arrow s ps c) k h i z a m q r = after_typing i k (result_type of_arrow s ps c) z a m q r (Punct ArrowMark) refl (λ j t. v_arrow k h (suc j) _)
 v_type (result_type (of_function p b n) s ps c) k h i z a m q r =
     after_typing i k (result_type (of_function p b n) s ps c) z a m q r (Punct OpenBrace) refl (λ j t. statements (in_function p b n _ ∷ k) (blocks (in_function p b n _ ∷ k) h) (suc j) j no_stmt)
 v_type (declared_type s w n) k h i z a m q r = after_typing i k (declared_type s w n) z a m q r (Punct Assign) refl (λ j t. wanted (in_declaration s w n (Some t) ∷ k) h (suc j))
@@ -114,7 +113,7 @@ viable k (parameter_start o s ps) i h = v_parameters o k h i s ps
 viable k (parameter_word o s ps a n) i h = by_token i k (parameter_word o s ps a n) (Punct Colon) (v_typed (parameter_type o s ps a n false) k h (suc i))
 viable k (parameter_mark o s ps a n) i h = by_token i k (parameter_mark o s ps a n) (Punct Colon) (v_typed (parameter_type o s ps a n true) k h (suc i))
 viable k (parameters_end o s ps c) i h = v_end o k h i s ps c
-viable k arrow_start i h = v_arrow k h i
+viable k (arrow_start g) i h = v_arrow k h i g
 viable k (settled e) i h = settles k (closes k h) i e
 viable k (statements_start s ss) i h = statements k (blocks k h) i s ss
 viable k (after_binder s w) i h = by_token i k (after_binder s w) (Name (codes "a")) (by_token (suc i) k (after_declared s w (codes "a")) (Punct Assign) (wanted (in_declaration s w (codes "a") None ∷ k) h (suc (suc i))))
