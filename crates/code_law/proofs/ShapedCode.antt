@@ -10,7 +10,7 @@ use Rattle.js_grammar.specs.Types.{Key}
 use Rattle.js_grammar.specs.Machine as ty
 use Rattle.js_grammar.specs.Code.{Binder, Ex, ex, Fields, variable, Links, no_link, no_operand, block, Stmts, more_stmt, stmt, Simple, simple, return_bare, Branches, branches, no_else}
 use Rattle.js_grammar.specs.Items.{no_imported, no_exported, Items, ItemForm, ImportForm, import_default, ExportList, exports, export_names}
-use Rattle.code_law.specs.Frames.{Wrap, plain_item, exported_item, opens_names, opens_both, opens_types, opens_exports, importing, exporting, Listing, listing, declared_type, alias_type, cast_type, evaluates, in_simple, in_if, in_else, in_loop, in_block, in_item, in_default, Mode, want, after_links, after_dot, row_start, fields_start, after_word, after_key, paren_start, paren_word, paren_mark, function_start, parameters_open, parameter_start, parameter_word, parameter_mark, parameters_end, arrow_start, settled, statements_start, after_binder, after_declared, after_return, after_simple, after_if, after_while, want_body, after_branch, after_else, items_start, after_type_word, after_type_as, after_alias, after_import, import_word, import_comma, names_start, after_name, after_as, after_pair, after_list, after_from, after_export, export_type, after_exports, exports_from, after_default, item_end, typing, Stack, Step, fault, go, context, within_function, within_loop}
+use Rattle.code_law.specs.Frames.{Wrap, plain_item, exported_item, opens_names, opens_both, opens_types, opens_exports, importing, exporting, Listing, listing, returns, declared_type, alias_type, cast_type, evaluates, in_simple, in_if, in_else, in_loop, in_block, in_item, in_default, Mode, want, after_links, after_dot, row_start, fields_start, after_word, after_key, paren_start, paren_word, paren_mark, function_start, parameters_open, parameter_start, parameter_word, parameter_mark, parameters_end, arrow_start, settled, statements_start, after_binder, after_declared, after_return, after_simple, after_if, after_while, want_body, after_branch, after_else, items_start, after_type_word, after_type_as, after_alias, after_import, import_word, import_comma, names_start, after_name, after_as, after_pair, after_list, after_from, after_export, export_type, after_exports, exports_from, after_default, item_end, typing, Stack, Step, fault, go, context, within_function, within_loop}
 use Rattle.code_law.specs.Expressions.{after_type, typed, dot_step, key_step}
 use Rattle.code_law.specs.Statements.{StatementWord, binds, begins_function, if_word, else_word, while_word, return_word, throw_word, break_word, continue_word, begins_import, begins_export, plain_word, statement_word, simple_word, simple_step, block_word, statements_step, return_step, semicolon_step, binder_step, declared_step, if_step, while_step, body_step, is_else, end_branches, branch_step, after_else_word, else_step}
 use Rattle.code_law.specs.Modules.{top_word, items_step, may_alias, type_word_step, type_as_step, alias_step, import_step, from_step, import_word_step, import_comma_step, may_name, add_name, has_names, end_names, names_step, pair_step, name_step, as_step, source_step, end_item, export_word, export_step, export_type_step, are_local, exports_step, exports_from_step, default_word, default_step}
@@ -56,7 +56,7 @@ s_statements i k h s ss x = s_simple_step i (in_block s ss ∷ k) h x
 
 s_return : (i : ℕ) (k : Stack) → Takes simple_hole k → (s : ℕ) (x : TokenKind) → ShapedStep i (return_step i k s x)
 s_return i k h s (Punct Semicolon) = s_simple i i k h (simple s i return_bare)
-s_return i k h s x = s_want i (in_simple s _ ∷ k) h x
+s_return i k h s x = s_want i (in_simple s returns ∷ k) h x
 
 s_semicolon : (i : ℕ) (k : Stack) → Takes simple_hole k → (y : Simple) (x : TokenKind) → ShapedStep i (semicolon_step i k y x)
 s_semicolon i k h y (Punct Semicolon) = s_simple i i k h y

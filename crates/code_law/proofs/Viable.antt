@@ -5,7 +5,7 @@ use Rattle.js_token.specs.declared.punct.Punct.TheVariants.{OpenBrace, CloseBrac
 use Rattle.js_grammar.specs.Words.{Bytes}
 use Rattle.js_grammar.specs.TypeSpelling.{Tokens}
 use Rattle.js_grammar.specs.Machine as ty
-use Rattle.js_grammar.specs.Code.{Parameters, no_parameter, no_stmt, Exs, ex, number, no_link}
+use Rattle.js_grammar.specs.Code.{Parameters, no_parameter, no_stmt, Exs, Sig, ex, number, no_link}
 use Rattle.js_grammar.specs.Items.{Items, ImportForm, ItemForm, ExportList}
 use Rattle.code_law.specs.Frames.{Row, array_row, call_row, FunctionKind, opens_names, opens_both, opens_types, opens_exports, importing, exporting, Listing, listing, Owner, of_arrow, of_function, Waiting, parameter_type, result_type, declared_type, alias_type, cast_type, in_prefix, in_branch, in_parens, in_field, in_arrow, in_declaration, in_if_test, in_loop_test, in_if, in_else, in_loop, in_function, in_block, in_item, in_default, Mode, want, after_links, after_dot, row_start, fields_start, after_word, after_key, paren_start, paren_word, paren_mark, function_start, parameters_open, parameter_start, parameter_word, parameter_mark, parameters_end, arrow_start, settled, statements_start, after_binder, after_declared, after_return, after_simple, after_if, after_while, want_body, after_branch, after_else, items_start, after_type_word, after_type_as, after_alias, after_import, import_word, import_comma, names_start, after_name, after_as, after_pair, after_list, after_from, after_export, export_type, after_exports, exports_from, after_default, item_end, typing, Stack, Step}
 use Rattle.code_law.specs.Expressions.{after_type, takes_function}
