@@ -13,3 +13,4 @@ pub mod Typed
 pub mod Viable
 pub mod Shaped
 pub mod ShapedCode
+pub mod Main

@@ -123,4 +123,5 @@ Shaped k m i = Takes item_hole k
 
 abbrev pub ShapedStep : ℕ → Step → Type 0
 ShapedStep i (go k m) = Shaped k m (suc i)
+ShapedStep i (done e) = ⊥
 ShapedStep i s = Unit {0}
