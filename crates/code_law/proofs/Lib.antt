@@ -1,4 +1,5 @@
 pub mod Ladder
+pub mod States
 pub mod Embedded
 pub mod Begins
 pub mod Parameters
