@@ -15,3 +15,4 @@ pub mod Viable
 pub mod Shaped
 pub mod ShapedCode
 pub mod Main
+pub mod KeptModules

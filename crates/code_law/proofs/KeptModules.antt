@@ -1,0 +1,390 @@
+-- Each step at top level keeps what its state stands for.
+use Rattle.std.proofs.Common.{◌≡◌, refl, sym, ◌∙◌, ap, subst, ℕ, suc, ◌≤◌, arith, Bool, true, false, not, Option, Some, None, List, [], ◌∷◌, ◌++◌, append_assoc, codes, if◌then◌else◌}
+use Rattle.std.specs.Str.{bytes_eq}
+use Rattle.std.proofs.lemmas.Slice.Eq.{bytes_eq-Decides}
+use Rattle.js_token.specs.Words.{is_reserved}
+use Rattle.js_token.specs.declared.token.TokenKind.{TokenKind}
+use Rattle.js_token.specs.declared.token.TokenKind.TheVariants.{Name, Number, Str, Punct}
+use Rattle.js_token.specs.declared.punct.Punct.TheVariants.{OpenBrace, CloseBrace, Comma, Semicolon, Assign, PlusPlus}
+use Rattle.js_grammar.specs.Words.{Bytes, IsName}
+use Rattle.js_grammar.specs.TypeSpelling.{Tokens, opt}
+use Rattle.js_grammar.specs.TypeFits.{bump, CommaFits}
+use Rattle.js_grammar.specs.Machine as ty
+use Rattle.js_grammar.proofs.Sound as typed_spelling
+use Rattle.js_grammar.proofs.Kept as typed_places
+use Rattle.js_grammar.specs.Code.{Binder, const, let_word, Ex, ex, variable, Links, no_link, no_operand}
+use Rattle.js_grammar.specs.CodeSpelling.{binder_word, spell_ex, spell_links}
+use Rattle.js_grammar.specs.Items.{Importeds, no_imported, more_imported, imported, import_list, Exporteds, no_exported, more_exported, exported, ExportList, export_list, ImportForm, import_default, import_both, import_names, import_types, import_only, export_names, export_from, ItemForm, imports, exports, Items, more_item, item, has_importeds, has_exporteds, base_names, IsNoneOf, AreNames, AreLocal, from_word, type_word, spell_importeds, spell_begun_imports, spell_exporteds, spell_begun_exports, spell_items, spell_item_form, spell_import, spell_export_list, stop_import, stop_importeds, stop_begun_imports, stop_exporteds, stop_begun_exports, stop_item_form, stop_items, FitsImporteds, FitsImportList, FitsExporteds, FitsExportList, FitsItemForm}
+use Rattle.code_law.specs.Frames.{Wrap, plain_item, exported_item, default_item, Opening, opens_names, opens_both, opens_types, opens_exports, Names, importing, exporting, Listing, listing, Waiting, alias_type, cast_type, Frame, in_arrow, in_simple, in_item, in_default, evaluates, after_binder, function_start, is_statement, items_start, after_type_word, after_type_as, after_alias, after_import, import_word, import_comma, names_start, after_name, after_as, after_pair, after_list, after_from, after_export, export_type, after_exports, exports_from, after_default, item_end, typing, Stack, Step, fault, go, start_ex}
+use Rattle.code_law.specs.Bodies.{give_item}
+use Rattle.code_law.specs.Expressions.{want_step, links_step, typed, takes_function, inside}
+use Rattle.code_law.specs.Statements.{StatementWord, binds, begins_function, if_word, else_word, while_word, return_word, throw_word, break_word, continue_word, begins_import, begins_export, plain_word, reserved_statement, statement_word, simple_word, simple_step}
+use Rattle.code_law.specs.Modules.{top_word, items_step, is_none_of, may_alias, type_word_step, type_as_step, alias_step, import_step, from_step, import_word_step, import_comma_step, add_name, has_names, may_name, end_names, names_step, pair_step, name_step, as_step, source_step, end_item, export_word, export_step, export_type_step, are_names, are_local, exports_step, exports_from_step, default_word, default_step}
+use Rattle.code_law.proofs.States.{import_token, export_token, default_token, as_token, spell_listing, spell_pair, imports_names, spell_wrap, spell_opening, spell_begun_names, spell_names, spell_before, spell_short, spell_waiting, spell_frame, spell_mode, starts_plain, not_function, not_function_word, is_plain_word, Opens, Claim, Stands, takes_ex, IsBottom, FitsTop, FitsStack, FitsLinked, FitsNames, FitsOpening, FitsListing, takes_simple, stop_names, stop_begun_names, begun_end, names_end, stop_before, is_short, may_wrap, FitsAliasAt, FitsWaiting, type_start, start_wrapped, FitsMode, AreRead, FitsStep}
+
+no_true : {A : Type 0} → false ≡ true → A
+no_true e = absurd (let f : false ≡ true = e in cc)
+
+-- a spelling that begins so does whatever is put behind
+opens_on : (p : TokenKind → Bool) (x : TokenKind) (s : Tokens → Tokens) → Opens p s → Opens p (λ l. s (x ∷ l))
+opens_on p x s o = (o.0, o.1, λ l. o.2 (x ∷ l))
+
+opens_same : (p : TokenKind → Bool) (s r : Tokens → Tokens) → ((l : Tokens) → s l ≡ r l) → Opens p s → Opens p r
+opens_same p s r h o = (o.0, o.1, λ l. ((o.2 l).0, sym (h l) ∙ (o.2 l).1))
+
+claim_on : (f : Frame) (x : TokenKind) (s : Tokens → Tokens) → Claim f s → Claim f (λ l. s (x ∷ l))
+claim_on (in_simple i evaluates) x s c = opens_on _ x s c
+claim_on (in_arrow g) x s c = opens_on _ x s c
+claim_on (in_default a is) x s c = opens_on _ x s c
+claim_on f x s c = c
+
+claim_same : (f : Frame) (s r : Tokens → Tokens) → ((l : Tokens) → s l ≡ r l) → Claim f s → Claim f r
+claim_same (in_simple i evaluates) s r h c = opens_same _ s r h c
+claim_same (in_arrow g) s r h c = opens_same _ s r h c
+claim_same (in_default a is) s r h c = opens_same _ s r h c
+claim_same f s r h c = c
+
+pub stands_on : (q : Tokens) (x : TokenKind) (k : Stack) (s : Tokens → Tokens) → Stands q k s → Stands (q ++ x ∷ []) k (λ l. s (x ∷ l))
+stands_on q x [] s h = λ l. h (x ∷ l) ∙ sym (append_assoc q (x ∷ []) l)
+stands_on q x (f ∷ k) s h = (claim_on f x s (h.0), stands_on q x k (λ l. spell_frame f (s l)) (h.1))
+
+pub stands_same : (q : Tokens) (k : Stack) (s r : Tokens → Tokens) → ((l : Tokens) → s l ≡ r l) → Stands q k s → Stands q k r
+stands_same q [] s r e h = λ l. sym (e l) ∙ h l
+stands_same q (f ∷ k) s r e h = (claim_same f s r e (h.0), stands_same q k (λ l. spell_frame f (s l)) (λ l. spell_frame f (r l)) (λ l. ap (spell_frame f) (e l)) (h.1))
+
+at_bottom : (q : Tokens) (k : Stack) (s : Tokens → Tokens) → IsBottom k → Stands q k s → (l : Tokens) → s l ≡ q ++ l
+at_bottom q [] s b h = h
+at_bottom q (f ∷ k) s b h = absurd b
+
+stack_bottom : (k : Stack) → IsBottom k → FitsStack k 0
+stack_bottom [] b = refl
+stack_bottom (f ∷ k) b = absurd b
+
+is_word : (n w : Bytes) → bytes_eq n w ≡ true → w ≡ n
+is_word n w e = sym ((bytes_eq-Decides n w).0 e)
+
+none_of : (ws : List Bytes) (n : Bytes) → is_none_of ws n ≡ true → IsNoneOf ws n
+none_of [] n e = tt
+none_of (w ∷ ws) n e = by (bytes_eq n w) refl (none_of ws n) e
+  where
+    by : (b : Bool) → bytes_eq n w ≡ b → (is_none_of ws n ≡ true → IsNoneOf ws n) → (if b then false else is_none_of ws n) ≡ true → IsNoneOf (w ∷ ws) n
+    by true h r e = no_true e
+    by false h r e = ((λ d. no_true (sym h ∙ (bytes_eq-Decides n w).1 d)), r e)
+
+alias_name : (n : Bytes) → may_alias n ≡ true → IsName n × IsNoneOf base_names n
+alias_name n e = by (is_reserved n) refl e
+  where
+    by : (b : Bool) → is_reserved n ≡ b → (if b then false else is_none_of base_names n) ≡ true → IsName n × IsNoneOf base_names n
+    by true h e = no_true e
+    by false h e = (h, none_of base_names n e)
+
+names_are : (ns : Exporteds) → are_names ns ≡ true → AreNames ns
+names_are no_exported e = tt
+names_are (more_exported ns (exported f t n w)) e = by (is_reserved n) refl (names_are ns) e
+  where
+    by : (b : Bool) → is_reserved n ≡ b → (are_names ns ≡ true → AreNames ns) → (if b then false else are_names ns) ≡ true → AreNames ns × IsName n
+    by true h r e = no_true e
+    by false h r e = (r e, h)
+
+local_is : (ns : ExportList) → are_local ns ≡ true → AreLocal ns
+local_is (export_list f t ns c) e = names_are ns e
+
+not_reserved : (b : Bool) → not b ≡ true → b ≡ false
+not_reserved true e = no_true e
+not_reserved false e = refl
+
+stop_from : (m : ImportForm) → imports_names m ≡ true → (j : ℕ) → stop_import m j ≡ suc (stop_before m j)
+stop_from (import_default n) e j = refl
+stop_from (import_both n ns) e j = refl
+stop_from (import_names ns) e j = refl
+stop_from (import_types ns) e j = refl
+stop_from import_only e j = no_true e
+
+spell_from : (m : ImportForm) → imports_names m ≡ true → (l : Tokens) → spell_before m (from_word ∷ l) ≡ spell_import m l
+spell_from (import_default n) e l = refl
+spell_from (import_both n ns) e l = refl
+spell_from (import_names ns) e l = refl
+spell_from (import_types ns) e l = refl
+spell_from import_only e l = no_true e
+
+spell_ended : (y : ItemForm) → is_short y ≡ true → (l : Tokens) → spell_short y (Punct Semicolon ∷ l) ≡ spell_item_form y l
+spell_ended (imports m s) e l = refl
+spell_ended (exports (export_from o ns s)) e l = refl
+spell_ended (exports (export_names o ns)) e l = refl
+spell_ended y e l = no_true e
+
+-- a list in braces, whose place is z
+import_list_fits : (s i : ℕ) (ns : Importeds) (c : Bool) (z : ℕ) → s ≡ z → FitsImporteds ns (suc s) → i ≡ bump c (stop_importeds ns (suc s)) → CommaFits c (has_importeds ns) → FitsImportList (import_list s (suc i) ns c) z
+import_list_fits s i ns c z e f j d = (e, ap suc (j ∙ ap (λ z. bump c (stop_importeds ns (suc z))) e), subst (λ z. FitsImporteds ns (suc z)) e f, d)
+
+export_list_fits : (s i : ℕ) (ns : Exporteds) (c : Bool) (z : ℕ) → s ≡ z → FitsExporteds ns (suc s) → i ≡ bump c (stop_exporteds ns (suc s)) → CommaFits c (has_exporteds ns) → FitsExportList (export_list s (suc i) ns c) z
+export_list_fits s i ns c z e f j d = (e, ap suc (j ∙ ap (λ z. bump c (stop_exporteds ns (suc z))) e), subst (λ z. FitsExporteds ns (suc z)) e f, d)
+
+begun_stop : (a : ℕ) (is : Items) (o : Opening) (z : ℕ) (ns : Names) (i : ℕ) → stop_begun_names ns i ≡ bump (has_names (listing a is o z ns)) (stop_names ns i)
+begun_stop a is o z (importing no_imported) i = refl
+begun_stop a is o z (importing (more_imported ns n)) i = refl
+begun_stop a is o z (exporting no_exported) i = refl
+begun_stop a is o z (exporting (more_exported ns n)) i = refl
+
+begun_spelled : (a : ℕ) (is : Items) (o : Opening) (z : ℕ) (ns : Names) (l : Tokens) → spell_begun_names ns l ≡ spell_names ns (opt (has_names (listing a is o z ns)) (Punct Comma) l)
+begun_spelled a is o z (importing no_imported) l = refl
+begun_spelled a is o z (importing (more_imported ns n)) l = refl
+begun_spelled a is o z (exporting no_exported) l = refl
+begun_spelled a is o z (exporting (more_exported ns n)) l = refl
+
+-- the place behind a name, or a pair, that begins at b
+abbrev behind : Option Bytes → ℕ → ℕ
+behind None b = suc b
+behind (Some m) b = suc (suc (suc b))
+
+abbrev named_as : Option Bytes → Bytes → Bytes
+named_as None n = n
+named_as (Some m) n = m
+
+abbrev spell_as : Option Bytes → Tokens → Tokens
+spell_as None l = l
+spell_as (Some m) l = as_token ∷ Name m ∷ l
+
+opened : (o : Opening) (ns rs : Importeds) (a z : ℕ) → FitsOpening o (importing ns) a z → FitsOpening o (importing rs) a z
+opened opens_names ns rs a z h = h
+opened (opens_both n) ns rs a z h = h
+opened opens_types ns rs a z h = h
+opened (opens_exports c) ns rs a z h = absurd h
+
+opened_exports : (o : Opening) (ns rs : Exporteds) (a z : ℕ) → FitsOpening o (exporting ns) a z → FitsOpening o (exporting rs) a z
+opened_exports opens_names ns rs a z h = absurd h
+opened_exports (opens_both n) ns rs a z h = absurd h
+opened_exports opens_types ns rs a z h = absurd h
+opened_exports (opens_exports c) ns rs a z h = h
+
+added : (k : Stack) (r : Listing) (b j : ℕ) (n : Bytes) (m : Option Bytes) → FitsListing k r → b ≡ begun_end r → j ≡ behind m b → may_name r (named_as m n) ≡ true →
+    FitsListing k (add_name r b j n m) × (has_names (add_name r b j n m) ≡ true) × (j ≡ names_end (add_name r b j n m))
+added k (listing a is o z (importing ns)) b j n None h e d y = ((h.0, opened o ns _ a z (h.1), (h.2, (e, d ∙ ap suc e, not_reserved (is_reserved n) y))), refl, d ∙ ap suc e)
+added k (listing a is o z (importing ns)) b j n (Some m) h e d y = ((h.0, opened o ns _ a z (h.1), (h.2, (e, d ∙ ap (λ b. suc (suc (suc b))) e, not_reserved (is_reserved m) y))), refl, d ∙ ap (λ b. suc (suc (suc b))) e)
+added k (listing a is o z (exporting ns)) b j n None h e d y = ((h.0, opened_exports o ns _ a z (h.1), (h.2, (e, d ∙ ap suc e))), refl, d ∙ ap suc e)
+added k (listing a is o z (exporting ns)) b j n (Some m) h e d y = ((h.0, opened_exports o ns _ a z (h.1), (h.2, (e, d ∙ ap (λ b. suc (suc (suc b))) e))), refl, d ∙ ap (λ b. suc (suc (suc b))) e)
+
+added_spelled : (r : Listing) (b j : ℕ) (n : Bytes) (m : Option Bytes) (l : Tokens) → spell_listing r (Name n ∷ spell_as m l) ≡ spell_pair (add_name r b j n m) l
+added_spelled (listing a is o z (importing ns)) b j n None l = refl
+added_spelled (listing a is o z (importing ns)) b j n (Some m) l = refl
+added_spelled (listing a is o z (exporting ns)) b j n None l = refl
+added_spelled (listing a is o z (exporting ns)) b j n (Some m) l = refl
+
+in_items : (k : Stack) (a : ℕ) (is : Items) (w : Wrap) → FitsTop k a is → FitsStack k 0
+in_items k a is w t = stack_bottom k (t.0)
+
+-- what a word is that begins a statement
+abbrev pub IsStatement : StatementWord → Bytes → Type 0
+IsStatement (binds w) n = n ≡ binder_word w
+IsStatement begins_function n = n ≡ codes "function"
+IsStatement if_word n = n ≡ codes "if"
+IsStatement else_word n = n ≡ codes "else"
+IsStatement while_word n = n ≡ codes "while"
+IsStatement return_word n = n ≡ codes "return"
+IsStatement throw_word n = n ≡ codes "throw"
+IsStatement break_word n = n ≡ codes "break"
+IsStatement continue_word n = n ≡ codes "continue"
+IsStatement begins_import n = n ≡ codes "import"
+IsStatement begins_export n = n ≡ codes "export"
+IsStatement plain_word n = Unit {0}
+
+pick : (x y : StatementWord) (b : Bool) (n : Bytes) → (b ≡ true → IsStatement x n) → IsStatement y n → IsStatement (if b then x else y) n
+pick x y true n f g = f refl
+pick x y false n f g = g
+
+pub statement_is : (n : Bytes) → IsStatement (statement_word n) n
+statement_is n =
+    pick (reserved_statement n) plain_word (is_reserved n) n (λ r.
+    (pick (binds const) _ (bytes_eq n (codes "const")) n (λ e. is (codes "const") e)
+    (pick (binds let_word) _ (bytes_eq n (codes "let")) n (λ e. is (codes "let") e)
+    (pick begins_function _ (bytes_eq n (codes "function")) n (λ e. is (codes "function") e)
+    (pick if_word _ (bytes_eq n (codes "if")) n (λ e. is (codes "if") e)
+    (pick else_word _ (bytes_eq n (codes "else")) n (λ e. is (codes "else") e)
+    (pick while_word _ (bytes_eq n (codes "while")) n (λ e. is (codes "while") e)
+    (pick return_word _ (bytes_eq n (codes "return")) n (λ e. is (codes "return") e)
+    (pick throw_word _ (bytes_eq n (codes "throw")) n (λ e. is (codes "throw") e)
+    (pick break_word _ (bytes_eq n (codes "break")) n (λ e. is (codes "break") e)
+    (pick continue_word _ (bytes_eq n (codes "continue")) n (λ e. is (codes "continue") e)
+    (pick begins_import _ (bytes_eq n (codes "import")) n (λ e. is (codes "import") e)
+    (pick begins_export plain_word (bytes_eq n (codes "export")) n (λ e. is (codes "export") e) tt))))))))))))) tt
+  where
+    is : (w : Bytes) → bytes_eq n w ≡ true → n ≡ w
+    is w e = (bytes_eq-Decides n w).0 e
+
+module _ (q p : Tokens) (i : ℕ) where
+  k_if : (b : Bool) (s : Step) → (b ≡ true → FitsStep q p i s) → FitsStep q p i (if b then s else fault)
+  k_if true s h = h refl
+  k_if false s h = tt
+
+  k_unless : (b : Bool) (s : Step) → (b ≡ false → FitsStep q p i s) → FitsStep q p i (if b then fault else s)
+  k_unless true s h = tt
+  k_unless false s h = h refl
+
+  pub k_give_item : (k : Stack) (a : ℕ) (is : Items) (x : ItemForm) → FitsTop k a is → FitsItemForm x a → suc i ≡ stop_item_form x a → Stands p k (λ l. spell_items is (spell_item_form x l)) → FitsStep q p i (give_item (suc i) k a is x)
+  k_give_item k a is x t h j s =
+      ((t.0, (t.1, (t.2, j ∙ ap (stop_item_form x) (t.2), subst (FitsItemForm x) (t.2) h)), j ∙ ap (stop_item_form x) (t.2)), s)
+
+module _ (q p : Tokens) (i : ℕ) (k : Stack) where
+  k_alias : (a : ℕ) (w : Wrap) (is : Items) (n : ℕ) (b : Bytes) → FitsMode k (after_alias a w is n b) i → (x : TokenKind) → Stands p k (λ l. spell_mode (after_alias a w is n b) (x ∷ l)) → FitsStep q p i (alias_step k a w is n b x)
+  k_alias a w is n b h (Punct Assign) s = ((h.0, ap suc (h.1)), s)
+  k_alias a w is n b h _ s = tt
+
+  k_import : (a : ℕ) (is : Items) → FitsMode k (after_import a is) i → (x : TokenKind) → Stands p k (λ l. spell_mode (after_import a is) (x ∷ l)) → FitsStep q p i (import_step i k a is x)
+  k_import a is h (Str b) s = ((h.0, refl, tt, ap (λ j. suc (suc j)) (h.1)), s)
+  k_import a is h (Name n) s = k_unless q p i (is_reserved n) (go k (import_word a is n)) (λ e. ((h.0, e, ap suc (h.1)), s))
+  k_import a is h (Punct OpenBrace) s = (((h.0, h.1, tt), ap suc refl), s)
+  k_import a is h _ s = tt
+
+  k_from : (a : ℕ) (is : Items) (m : ImportForm) → FitsMode k (after_list a is m) i → (x : TokenKind) → Stands p k (λ l. spell_mode (after_list a is m) (x ∷ l)) → FitsStep q p i (from_step k a is m x)
+  k_from a is m h (Name n) s =
+      k_if q p i (bytes_eq n (codes "from")) (go k (after_from a is m)) (λ e. ((h.0, h.1, h.2, ap suc (h.3) ∙ sym (stop_from m (h.2) (suc a))),
+      stands_same p k (λ l. spell_items is (import_token ∷ spell_before m (Name n ∷ l))) (λ l. spell_items is (import_token ∷ spell_import m l))
+      (λ l. ap (λ z. spell_items is (import_token ∷ z)) (ap (λ n. spell_before m (Name n ∷ l)) (sym (is_word n (codes "from") e)) ∙ spell_from m (h.2) l)) s))
+  k_from a is m h _ s = tt
+
+  k_import_word : (a : ℕ) (is : Items) (n : Bytes) → FitsMode k (import_word a is n) i → (x : TokenKind) → Stands p k (λ l. spell_mode (import_word a is n) (x ∷ l)) → FitsStep q p i (import_word_step i k a is n x)
+  k_import_word a is n h (Punct OpenBrace) s =
+      k_if q p i (bytes_eq n (codes "type")) (go k (names_start (listing a is opens_types i (importing no_imported)))) (λ e. (((h.0, h.2, tt), refl),
+      stands_same p k (λ l. spell_items is (import_token ∷ Name n ∷ Punct OpenBrace ∷ l)) (λ l. spell_items is (import_token ∷ type_word ∷ Punct OpenBrace ∷ l))
+      (λ l. ap (λ n. spell_items is (import_token ∷ Name n ∷ Punct OpenBrace ∷ l)) (sym (is_word n (codes "type") e))) s))
+  k_import_word a is n h (Punct Comma) s = ((h.0, h.1, ap suc (h.2)), s)
+  k_import_word a is n h x s = k_from a is (import_default n) (h.0, h.1, refl, h.2) x s
+
+  k_import_comma : (a : ℕ) (is : Items) (n : Bytes) → FitsMode k (import_comma a is n) i → (x : TokenKind) → Stands p k (λ l. spell_mode (import_comma a is n) (x ∷ l)) → FitsStep q p i (import_comma_step i k a is n x)
+  k_import_comma a is n h (Punct OpenBrace) s = (((h.0, (h.1, h.2), tt), refl), s)
+  k_import_comma a is n h _ s = tt
+
+  k_source : (a : ℕ) (is : Items) (m : ImportForm) → FitsMode k (after_from a is m) i → (x : TokenKind) → Stands p k (λ l. spell_mode (after_from a is m) (x ∷ l)) → FitsStep q p i (source_step k a is m x)
+  k_source a is m h (Str b) s = ((h.0, refl, h.1, ap (λ j. suc (suc j)) (h.3)), s)
+  k_source a is m h _ s = tt
+
+  k_end_item : (a : ℕ) (is : Items) (y : ItemForm) → FitsMode k (item_end a is y) i → (x : TokenKind) → Stands p k (λ l. spell_mode (item_end a is y) (x ∷ l)) → FitsStep q p i (end_item i k a is y x)
+  k_end_item a is y h (Punct Semicolon) s =
+      k_give_item q p i k a is y (h.0) (h.2) (h.3) (stands_same p k (λ l. spell_items is (spell_short y (Punct Semicolon ∷ l))) (λ l. spell_items is (spell_item_form y l)) (λ l. ap (spell_items is) (spell_ended y (h.1) l)) s)
+  k_end_item a is y h _ s = tt
+
+  -- the brace at i ends a list of names
+  k_end_names : (a : ℕ) (is : Items) (o : Opening) (z : ℕ) (ns : Names) (c : Bool) → FitsTop k a is → FitsOpening o ns a z → FitsNames ns (suc z) → i ≡ bump c (stop_names ns (suc z)) → CommaFits c (has_names (listing a is o z ns)) →
+      Stands p k (λ l. spell_items is (spell_opening o (Punct OpenBrace ∷ spell_names ns (opt c (Punct Comma) (Punct CloseBrace ∷ l))))) → FitsStep q p i (end_names i k (listing a is o z ns) c)
+  k_end_names a is opens_names z (importing ns) c t o f j d s =
+      let g = import_list_fits z i ns c (suc a) o f j d in ((t, g, refl, g.1 ∙ refl), s)
+  k_end_names a is (opens_both n) z (importing ns) c t o f j d s =
+      let g = import_list_fits z i ns c (suc (suc (suc a))) (o.1) f j d in ((t, (o.0, g), refl, g.1), s)
+  k_end_names a is opens_types z (importing ns) c t o f j d s =
+      let g = import_list_fits z i ns c (suc (suc a)) o f j d in ((t, g, refl, g.1), s)
+  k_end_names a is (opens_exports b) z (exporting ns) c t o f j d s =
+      let g = export_list_fits z i ns c (bump b (suc a)) o f j d in ((t, g, g.1), s)
+  k_end_names a is opens_names z (exporting ns) c t o f j d s = absurd o
+  k_end_names a is (opens_both n) z (exporting ns) c t o f j d s = absurd o
+  k_end_names a is opens_types z (exporting ns) c t o f j d s = absurd o
+  k_end_names a is (opens_exports b) z (importing ns) c t o f j d s = absurd o
+
+  k_names : (r : Listing) → FitsMode k (names_start r) i → (x : TokenKind) → Stands p k (λ l. spell_mode (names_start r) (x ∷ l)) → FitsStep q p i (names_step i k r x)
+  k_names (listing a is o z ns) h (Punct CloseBrace) s =
+      k_end_names a is o z ns (has_names (listing a is o z ns)) (h.0.0) (h.0.1) (h.0.2) (h.1 ∙ begun_stop a is o z ns (suc z)) (λ e. e)
+      (stands_same p k (λ l. spell_items is (spell_opening o (Punct OpenBrace ∷ spell_begun_names ns (Punct CloseBrace ∷ l)))) _ (λ l. ap (λ l. spell_items is (spell_opening o (Punct OpenBrace ∷ l))) (begun_spelled a is o z ns (Punct CloseBrace ∷ l))) s)
+  k_names r h (Name n) s = ((h.0, h.1, refl), s)
+  k_names r h _ s = tt
+
+  k_pair : (r : Listing) → FitsMode k (after_pair r) i → (x : TokenKind) → Stands p k (λ l. spell_pair r (x ∷ l)) → FitsStep q p i (pair_step i k r x)
+  k_pair (listing a is o z ns) h (Punct CloseBrace) s = k_end_names a is o z ns false (h.0.0) (h.0.1) (h.0.2) (h.2) (λ e. no_true e) s
+  k_pair (listing a is o z (importing (more_imported ns n))) h (Punct Comma) s = ((h.0, ap suc (h.2)), s)
+  k_pair (listing a is o z (importing no_imported)) h (Punct Comma) s = no_true (h.1)
+  k_pair (listing a is o z (exporting (more_exported ns n))) h (Punct Comma) s = ((h.0, ap suc (h.2)), s)
+  k_pair (listing a is o z (exporting no_exported)) h (Punct Comma) s = no_true (h.1)
+  k_pair r h _ s = tt
+
+  k_name : (r : Listing) (b : ℕ) (n : Bytes) → FitsMode k (after_name r b n) i → (x : TokenKind) → Stands p k (λ l. spell_mode (after_name r b n) (x ∷ l)) → FitsStep q p i (name_step i k r b n x)
+  k_name r b n h (Name m) s =
+      k_if q p i (bytes_eq m (codes "as")) (go k (after_as r b n)) (λ e. ((h.0, h.1, ap suc (h.2)),
+      stands_same p k (λ l. spell_listing r (Name n ∷ Name m ∷ l)) (λ l. spell_listing r (Name n ∷ as_token ∷ l)) (λ l. ap (λ m. spell_listing r (Name n ∷ Name m ∷ l)) (sym (is_word m (codes "as") e))) s))
+  k_name r b n h x s =
+      k_if q p i (may_name r n) (pair_step i k (add_name r b i n None) x) (λ e. k_pair (add_name r b i n None) (added k r b i n None (h.0) (h.1) (h.2) e) x
+      (stands_same p k (λ l. spell_listing r (Name n ∷ x ∷ l)) (λ l. spell_pair (add_name r b i n None) (x ∷ l)) (λ l. added_spelled r b i n None (x ∷ l)) s))
+
+  k_as : (r : Listing) (b : ℕ) (n : Bytes) → FitsMode k (after_as r b n) i → (x : TokenKind) → Stands p k (λ l. spell_mode (after_as r b n) (x ∷ l)) → FitsStep q p i (as_step i k r b n x)
+  k_as r b n h (Name m) s =
+      k_if q p i (may_name r m) (go k (after_pair (add_name r b (suc i) n (Some m)))) (λ e. (added k r b (suc i) n (Some m) (h.0) (h.1) (ap suc (h.2)) e,
+      stands_same p k (λ l. spell_listing r (Name n ∷ as_token ∷ Name m ∷ l)) (λ l. spell_pair (add_name r b (suc i) n (Some m)) l) (λ l. added_spelled r b (suc i) n (Some m) l) s))
+  k_as r b n h _ s = tt
+
+  k_export_type : (a : ℕ) (is : Items) (b : ℕ) → FitsMode k (export_type a is b) i → (x : TokenKind) → Stands p k (λ l. spell_mode (export_type a is b) (x ∷ l)) → FitsStep q p i (export_type_step i k a is b x)
+  k_export_type a is b h (Name n) s = k_if q p i (may_alias n) (go k (after_alias a exported_item is b n)) (λ e. (((h.0, refl, h.1, (alias_name n e).0, (alias_name n e).1), ap suc (h.2)), s))
+  k_export_type a is b h (Punct OpenBrace) s = (((h.0, h.2 ∙ ap suc (h.1), tt), refl), s)
+  k_export_type a is b h _ s = tt
+
+  k_exports : (a : ℕ) (is : Items) (o : Bool) (ns : ExportList) → FitsMode k (after_exports a is o ns) i → (x : TokenKind) → Stands p k (λ l. spell_mode (after_exports a is o ns) (x ∷ l)) → FitsStep q p i (exports_step i k a is o ns x)
+  k_exports a is o ns h (Name n) s =
+      k_if q p i (bytes_eq n (codes "from")) (go k (exports_from a is o ns)) (λ e. ((h.0, h.1, ap suc (h.2)),
+      stands_same p k (λ l. spell_items is (export_token ∷ opt o type_word (spell_export_list ns (Name n ∷ l)))) (λ l. spell_items is (export_token ∷ opt o type_word (spell_export_list ns (from_word ∷ l))))
+      (λ l. ap (λ n. spell_items is (export_token ∷ opt o type_word (spell_export_list ns (Name n ∷ l)))) (sym (is_word n (codes "from") e))) s))
+  k_exports a is o ns h x s = k_if q p i (are_local ns) (end_item i k a is (exports (export_names o ns)) x) (λ e. k_end_item a is (exports (export_names o ns)) (h.0, refl, (local_is ns e, h.1), ap suc (h.2)) x s)
+
+  k_exports_from : (a : ℕ) (is : Items) (o : Bool) (ns : ExportList) → FitsMode k (exports_from a is o ns) i → (x : TokenKind) → Stands p k (λ l. spell_mode (exports_from a is o ns) (x ∷ l)) → FitsStep q p i (exports_from_step k a is o ns x)
+  k_exports_from a is o ns h (Str b) s = ((h.0, refl, h.1, ap (λ j. suc (suc j)) (h.2)), s)
+  k_exports_from a is o ns h _ s = tt
+
+  k_export_word : (a : ℕ) (is : Items) → FitsMode k (after_export a is) i → (n : Bytes) (w : StatementWord) → IsStatement w n → Stands p k (λ l. spell_items is (export_token ∷ Name n ∷ l)) → FitsStep q p i (export_word i k a is n w)
+  k_export_word a is h n (binds w) e s = ((((h.0, h.1), in_items k a is exported_item (h.0)), refl, refl), (tt, stands_same p k _ _ (λ l. ap (λ n. spell_items is (export_token ∷ Name n ∷ l)) e) s))
+  k_export_word a is h n begins_function e s = ((((h.0, h.1), in_items k a is exported_item (h.0)), refl, refl), (tt, stands_same p k _ _ (λ l. ap (λ n. spell_items is (export_token ∷ Name n ∷ l)) e) s))
+  k_export_word a is h n w e s = other (bytes_eq n (codes "type")) refl
+    where
+      other : (b : Bool) → bytes_eq n (codes "type") ≡ b → FitsStep q p i (if b then go k (export_type a is i) else if bytes_eq n (codes "default") then go k (after_default a is) else fault)
+      other true e = ((h.0, h.1, refl), stands_same p k _ _ (λ l. ap (λ n. spell_items is (export_token ∷ Name n ∷ l)) (sym (is_word n (codes "type") e))) s)
+      other false _ = k_if q p i (bytes_eq n (codes "default")) (go k (after_default a is)) (λ e. ((h.0, ap suc (h.1)), stands_same p k _ _ (λ l. ap (λ n. spell_items is (export_token ∷ Name n ∷ l)) (sym (is_word n (codes "default") e))) s))
+
+  module _
+      (k_want : (k : Stack) (x : TokenKind) → FitsStack k i → takes_ex k ≡ true → Stands p k (λ l. x ∷ l) → FitsStep q p i (want_step i k x))
+      (k_links : (k : Stack) (b : Ex) (ls : Links) (x : TokenKind) → FitsStack k (start_ex b) → takes_ex k ≡ true → FitsLinked b ls i → Stands p k (λ l. spell_ex b (spell_links ls (x ∷ l))) → FitsStep q p i (links_step i k b ls x))
+      (k_typing : (k : Stack) (w : Waiting) (a : ty.Stack) (m : ty.Mode) (x : TokenKind) → FitsWaiting k w → typed_places.FitsMode (takes_function w) (type_start w) a m i → Stands p k (λ l. spell_waiting w (typed_spelling.so_far a m (x ∷ l))) →
+          FitsStep q p i (inside i k w (ty.step (takes_function w) i a m x) x))
+    where
+    k_plain : (d : Stack) (x : TokenKind) → FitsStack d i → takes_simple d true ≡ true → starts_plain x ≡ true → Stands p d (λ l. x ∷ l) → FitsStep q p i (want_step i (in_simple i evaluates ∷ d) x)
+    k_plain d x h t e s = k_want (in_simple i evaluates ∷ d) x ((t, refl), h) refl ((x, e, λ l. (l, refl)), s)
+
+    k_top_word : (is : Items) → FitsTop k i is → (n : Bytes) (w : StatementWord) → statement_word n ≡ w → IsStatement w n → Stands p k (λ l. spell_items is (Name n ∷ l)) → FitsStep q p i (top_word i k is n w)
+    k_top_word is t n (binds w) d e s = ((((t, refl), stack_bottom k (t.0)), refl, refl), (tt, stands_same p k _ _ (λ l. ap (λ n. spell_items is (Name n ∷ l)) e) s))
+    k_top_word is t n begins_function d e s = ((((t, refl), stack_bottom k (t.0)), refl, refl), (tt, stands_same p k _ _ (λ l. ap (λ n. spell_items is (Name n ∷ l)) e) s))
+    k_top_word is t n begins_import d e s = ((t, refl), stands_same p k _ _ (λ l. ap (λ n. spell_items is (Name n ∷ l)) e) s)
+    k_top_word is t n begins_export d e s = ((t, refl), stands_same p k _ _ (λ l. ap (λ n. spell_items is (Name n ∷ l)) e) s)
+    k_top_word is t n plain_word d e s = by (bytes_eq n (codes "type")) refl
+      where
+        by : (b : Bool) → bytes_eq n (codes "type") ≡ b → FitsStep q p i (if b then go k (after_type_word i is) else simple_word i (in_item i plain_item is ∷ k) n plain_word)
+        by true e = ((t, refl), stands_same p k _ _ (λ l. ap (λ n. spell_items is (Name n ∷ l)) (sym (is_word n (codes "type") e))) s)
+        by false e = k_plain (in_item i plain_item is ∷ k) (Name n) ((t, refl), stack_bottom k (t.0)) refl (ap is_plain_word d) (tt, s)
+    k_top_word is t n w d e s = tt
+
+    k_items : (is : Items) → FitsTop k i is → (x : TokenKind) → Stands q k (spell_items is) → Stands p k (λ l. spell_items is (x ∷ l)) → FitsStep q p i (items_step i k is x)
+    k_items is t (Punct PlusPlus) r s = (t.1, t.2, at_bottom q k (spell_items is) (t.0) r)
+    k_items is t (Name n) r s = k_top_word is t n (statement_word n) refl (statement_is n) s
+    k_items is t (Punct OpenBrace) r s = tt
+    k_items is t x r s = k_plain (in_item i plain_item is ∷ k) x ((t, refl), stack_bottom k (t.0)) refl refl (tt, s)
+
+    k_type_word : (a : ℕ) (is : Items) → FitsMode k (after_type_word a is) i → (x : TokenKind) → Stands p k (λ l. spell_mode (after_type_word a is) (x ∷ l)) → FitsStep q p i (type_word_step i k a is x)
+    k_type_word a is h (Name n) s = by (bytes_eq n (codes "as")) refl
+      where
+        by : (b : Bool) → bytes_eq n (codes "as") ≡ b → FitsStep q p i (if b then go k (after_type_as a i is) else if may_alias n then go k (after_alias a plain_item is a n) else fault)
+        by true e = ((h.0, h.1, refl), stands_same p k _ _ (λ l. ap (λ n. spell_items is (type_word ∷ Name n ∷ l)) (sym (is_word n (codes "as") e))) s)
+        by false e = k_if q p i (may_alias n) (go k (after_alias a plain_item is a n)) (λ e. (((h.0, refl, refl, (alias_name n e).0, (alias_name n e).1), ap suc (h.1)), s))
+    k_type_word a is h x s =
+        let r : 10 ≤ 10 = omega arith in
+        k_links (in_simple a evaluates ∷ in_item a plain_item is ∷ k) (ex a i (variable (codes "type"))) no_link x ((refl, refl), ((h.0, refl), stack_bottom k (h.0.0))) refl
+        (r, (refl, h.1, refl), tt, h.1) ((type_word, refl, λ l. (x ∷ l, refl)), (tt, s))
+
+    k_type_as : (a d : ℕ) (is : Items) → FitsMode k (after_type_as a d is) i → (x : TokenKind) → Stands p k (λ l. spell_mode (after_type_as a d is) (x ∷ l)) → FitsStep q p i (type_as_step i k a d is x)
+    k_type_as a d is h (Punct Assign) s = let n = alias_name (codes "as") refl in (((h.0, refl, refl, n.0, n.1), ap suc (h.2 ∙ ap suc (h.1))), s)
+    k_type_as a d is h x s =
+        let b = in_simple a evaluates ∷ in_item a plain_item is ∷ k in
+        let r : 6 ≤ 10 = omega arith in
+        let z : 0 ≤ 6 = omega arith in
+        k_typing b (cast_type a (ex a d (variable (codes "type"))) no_operand d) [] ty.want x
+        (((refl, refl), ((h.0, refl), stack_bottom k (h.0.0))), refl, z, (r, (refl, h.1, refl), tt, h.1)) (h.2) ((type_word, refl, λ l. (as_token ∷ x ∷ l, refl)), (tt, s))
+
+    k_default_word : (a : ℕ) (is : Items) → FitsMode k (after_default a is) i → (n : Bytes) (w : StatementWord) → statement_word n ≡ w → IsStatement w n → Stands p k (λ l. spell_mode (after_default a is) (Name n ∷ l)) → FitsStep q p i (default_word i k a is n w)
+    k_default_word a is h n begins_function d e s =
+        ((((h.0, h.1), stack_bottom k (h.0.0)), refl, refl), (tt, stands_same p k _ _ (λ l. ap (λ n. spell_items is (export_token ∷ default_token ∷ Name n ∷ l)) e) s))
+    k_default_word a is h n w d e s = k_want (in_default a is ∷ k) (Name n) ((h.0, h.1), stack_bottom k (h.0.0)) refl ((Name n, ap not_function_word d, λ l. (l, refl)), s)
+
+    k_default : (a : ℕ) (is : Items) → FitsMode k (after_default a is) i → (x : TokenKind) → Stands p k (λ l. spell_mode (after_default a is) (x ∷ l)) → FitsStep q p i (default_step i k a is x)
+    k_default a is h (Name n) s = k_default_word a is h n (statement_word n) refl (statement_is n) s
+    k_default a is h x s = k_want (in_default a is ∷ k) x ((h.0, h.1), stack_bottom k (h.0.0)) refl ((x, refl, λ l. (l, refl)), s)
