@@ -1,5 +1,7 @@
 pub mod Ladder
 pub mod States
+pub mod Stands
+pub mod KeptBodies
 pub mod Embedded
 pub mod Begins
 pub mod Parameters

@@ -178,6 +178,7 @@ context [] = top_context
 context (in_function q s n g ∷ k) = body_context
 context (in_body g ∷ k) = body_context
 context (in_loop s e ∷ k) = looping (context k)
+context (in_item a w is ∷ k) = top_context
 context (f ∷ k) = context k
 
 abbrev pub within_function : Context → Bool
