@@ -20,37 +20,15 @@ use Rattle.code_law.specs.Bodies.{give_item}
 use Rattle.code_law.specs.Expressions.{want_step, links_step, typed, takes_function, inside}
 use Rattle.code_law.specs.Statements.{StatementWord, binds, begins_function, if_word, else_word, while_word, return_word, throw_word, break_word, continue_word, begins_import, begins_export, plain_word, reserved_statement, statement_word, simple_word, simple_step}
 use Rattle.code_law.specs.Modules.{top_word, items_step, is_none_of, may_alias, type_word_step, type_as_step, alias_step, import_step, from_step, import_word_step, import_comma_step, add_name, has_names, may_name, end_names, names_step, pair_step, name_step, as_step, source_step, end_item, export_word, export_step, export_type_step, are_names, are_local, exports_step, exports_from_step, default_word, default_step}
+use Rattle.code_law.proofs.StatementWords.{IsStatement, statement_is}
+use Rattle.code_law.proofs.Stands.{stands_moved}
 use Rattle.code_law.proofs.States.{import_token, export_token, default_token, as_token, spell_listing, spell_pair, imports_names, spell_wrap, spell_opening, spell_begun_names, spell_names, spell_before, spell_short, spell_waiting, spell_frame, spell_mode, starts_plain, not_function, not_function_word, is_plain_word, Opens, Claim, Stands, takes_ex, IsBottom, FitsTop, FitsStack, FitsLinked, FitsNames, FitsOpening, FitsListing, takes_simple, stop_names, stop_begun_names, begun_end, names_end, stop_before, is_short, may_wrap, FitsAliasAt, FitsWaiting, type_start, start_wrapped, FitsMode, AreRead, FitsStep}
 
 no_true : {A : Type 0} → false ≡ true → A
 no_true e = absurd (let f : false ≡ true = e in cc)
 
--- a spelling that begins so does whatever is put behind
-opens_on : (p : TokenKind → Bool) (x : TokenKind) (s : Tokens → Tokens) → Opens p s → Opens p (λ l. s (x ∷ l))
-opens_on p x s o = (o.0, o.1, λ l. o.2 (x ∷ l))
-
-opens_same : (p : TokenKind → Bool) (s r : Tokens → Tokens) → ((l : Tokens) → s l ≡ r l) → Opens p s → Opens p r
-opens_same p s r h o = (o.0, o.1, λ l. ((o.2 l).0, sym (h l) ∙ (o.2 l).1))
-
-claim_on : (f : Frame) (x : TokenKind) (s : Tokens → Tokens) → Claim f s → Claim f (λ l. s (x ∷ l))
-claim_on (in_simple i evaluates) x s c = opens_on _ x s c
-claim_on (in_arrow g) x s c = opens_on _ x s c
-claim_on (in_default a is) x s c = opens_on _ x s c
-claim_on f x s c = c
-
-claim_same : (f : Frame) (s r : Tokens → Tokens) → ((l : Tokens) → s l ≡ r l) → Claim f s → Claim f r
-claim_same (in_simple i evaluates) s r h c = opens_same _ s r h c
-claim_same (in_arrow g) s r h c = opens_same _ s r h c
-claim_same (in_default a is) s r h c = opens_same _ s r h c
-claim_same f s r h c = c
-
-pub stands_on : (q : Tokens) (x : TokenKind) (k : Stack) (s : Tokens → Tokens) → Stands q k s → Stands (q ++ x ∷ []) k (λ l. s (x ∷ l))
-stands_on q x [] s h = λ l. h (x ∷ l) ∙ sym (append_assoc q (x ∷ []) l)
-stands_on q x (f ∷ k) s h = (claim_on f x s (h.0), stands_on q x k (λ l. spell_frame f (s l)) (h.1))
-
-pub stands_same : (q : Tokens) (k : Stack) (s r : Tokens → Tokens) → ((l : Tokens) → s l ≡ r l) → Stands q k s → Stands q k r
-stands_same q [] s r e h = λ l. sym (e l) ∙ h l
-stands_same q (f ∷ k) s r e h = (claim_same f s r e (h.0), stands_same q k (λ l. spell_frame f (s l)) (λ l. spell_frame f (r l)) (λ l. ap (spell_frame f) (e l)) (h.1))
+stands_same : (q : Tokens) (k : Stack) (s r : Tokens → Tokens) → ((l : Tokens) → s l ≡ r l) → Stands q k s → Stands q k r
+stands_same q k s r e h = stands_moved q k s r (λ l. sym (e l)) h
 
 at_bottom : (q : Tokens) (k : Stack) (s : Tokens → Tokens) → IsBottom k → Stands q k s → (l : Tokens) → s l ≡ q ++ l
 at_bottom q [] s b h = h
@@ -172,44 +150,6 @@ added_spelled (listing a is o z (exporting ns)) b j n (Some m) l = refl
 
 in_items : (k : Stack) (a : ℕ) (is : Items) (w : Wrap) → FitsTop k a is → FitsStack k 0
 in_items k a is w t = stack_bottom k (t.0)
-
--- what a word is that begins a statement
-abbrev pub IsStatement : StatementWord → Bytes → Type 0
-IsStatement (binds w) n = n ≡ binder_word w
-IsStatement begins_function n = n ≡ codes "function"
-IsStatement if_word n = n ≡ codes "if"
-IsStatement else_word n = n ≡ codes "else"
-IsStatement while_word n = n ≡ codes "while"
-IsStatement return_word n = n ≡ codes "return"
-IsStatement throw_word n = n ≡ codes "throw"
-IsStatement break_word n = n ≡ codes "break"
-IsStatement continue_word n = n ≡ codes "continue"
-IsStatement begins_import n = n ≡ codes "import"
-IsStatement begins_export n = n ≡ codes "export"
-IsStatement plain_word n = Unit {0}
-
-pick : (x y : StatementWord) (b : Bool) (n : Bytes) → (b ≡ true → IsStatement x n) → IsStatement y n → IsStatement (if b then x else y) n
-pick x y true n f g = f refl
-pick x y false n f g = g
-
-pub statement_is : (n : Bytes) → IsStatement (statement_word n) n
-statement_is n =
-    pick (reserved_statement n) plain_word (is_reserved n) n (λ r.
-    (pick (binds const) _ (bytes_eq n (codes "const")) n (λ e. is (codes "const") e)
-    (pick (binds let_word) _ (bytes_eq n (codes "let")) n (λ e. is (codes "let") e)
-    (pick begins_function _ (bytes_eq n (codes "function")) n (λ e. is (codes "function") e)
-    (pick if_word _ (bytes_eq n (codes "if")) n (λ e. is (codes "if") e)
-    (pick else_word _ (bytes_eq n (codes "else")) n (λ e. is (codes "else") e)
-    (pick while_word _ (bytes_eq n (codes "while")) n (λ e. is (codes "while") e)
-    (pick return_word _ (bytes_eq n (codes "return")) n (λ e. is (codes "return") e)
-    (pick throw_word _ (bytes_eq n (codes "throw")) n (λ e. is (codes "throw") e)
-    (pick break_word _ (bytes_eq n (codes "break")) n (λ e. is (codes "break") e)
-    (pick continue_word _ (bytes_eq n (codes "continue")) n (λ e. is (codes "continue") e)
-    (pick begins_import _ (bytes_eq n (codes "import")) n (λ e. is (codes "import") e)
-    (pick begins_export plain_word (bytes_eq n (codes "export")) n (λ e. is (codes "export") e) tt))))))))))))) tt
-  where
-    is : (w : Bytes) → bytes_eq n w ≡ true → n ≡ w
-    is w e = (bytes_eq-Decides n w).0 e
 
 module _ (q p : Tokens) (i : ℕ) where
   k_if : (b : Bool) (s : Step) → (b ≡ true → FitsStep q p i s) → FitsStep q p i (if b then s else fault)

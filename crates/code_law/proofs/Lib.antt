@@ -17,4 +17,6 @@ pub mod Viable
 pub mod Shaped
 pub mod ShapedCode
 pub mod Main
+pub mod StatementWords
+pub mod KeptStatements
 pub mod KeptModules
