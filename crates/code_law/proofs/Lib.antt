@@ -19,4 +19,5 @@ pub mod ShapedCode
 pub mod Main
 pub mod StatementWords
 pub mod KeptStatements
+pub mod KeptParameters
 pub mod KeptModules
