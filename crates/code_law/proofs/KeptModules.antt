@@ -165,24 +165,24 @@ module _ (q p : Tokens) (i : ℕ) where
       ((t.0, (t.1, (t.2, j ∙ ap (stop_item_form x) (t.2), subst (FitsItemForm x) (t.2) h)), j ∙ ap (stop_item_form x) (t.2)), s)
 
 module _ (q p : Tokens) (i : ℕ) (k : Stack) where
-  k_alias : (a : ℕ) (w : Wrap) (is : Items) (n : ℕ) (b : Bytes) → FitsMode k (after_alias a w is n b) i → (x : TokenKind) → Stands p k (λ l. spell_mode (after_alias a w is n b) (x ∷ l)) → FitsStep q p i (alias_step k a w is n b x)
+  pub k_alias : (a : ℕ) (w : Wrap) (is : Items) (n : ℕ) (b : Bytes) → FitsMode k (after_alias a w is n b) i → (x : TokenKind) → Stands p k (λ l. spell_mode (after_alias a w is n b) (x ∷ l)) → FitsStep q p i (alias_step k a w is n b x)
   k_alias a w is n b h (Punct Assign) s = ((h.0, ap suc (h.1)), s)
   k_alias a w is n b h _ s = tt
 
-  k_import : (a : ℕ) (is : Items) → FitsMode k (after_import a is) i → (x : TokenKind) → Stands p k (λ l. spell_mode (after_import a is) (x ∷ l)) → FitsStep q p i (import_step i k a is x)
+  pub k_import : (a : ℕ) (is : Items) → FitsMode k (after_import a is) i → (x : TokenKind) → Stands p k (λ l. spell_mode (after_import a is) (x ∷ l)) → FitsStep q p i (import_step i k a is x)
   k_import a is h (Str b) s = ((h.0, refl, tt, ap (λ j. suc (suc j)) (h.1)), s)
   k_import a is h (Name n) s = k_unless q p i (is_reserved n) (go k (import_word a is n)) (λ e. ((h.0, e, ap suc (h.1)), s))
   k_import a is h (Punct OpenBrace) s = (((h.0, h.1, tt), ap suc refl), s)
   k_import a is h _ s = tt
 
-  k_from : (a : ℕ) (is : Items) (m : ImportForm) → FitsMode k (after_list a is m) i → (x : TokenKind) → Stands p k (λ l. spell_mode (after_list a is m) (x ∷ l)) → FitsStep q p i (from_step k a is m x)
+  pub k_from : (a : ℕ) (is : Items) (m : ImportForm) → FitsMode k (after_list a is m) i → (x : TokenKind) → Stands p k (λ l. spell_mode (after_list a is m) (x ∷ l)) → FitsStep q p i (from_step k a is m x)
   k_from a is m h (Name n) s =
       k_if q p i (bytes_eq n (codes "from")) (go k (after_from a is m)) (λ e. ((h.0, h.1, h.2, ap suc (h.3) ∙ sym (stop_from m (h.2) (suc a))),
       stands_same p k (λ l. spell_items is (import_token ∷ spell_before m (Name n ∷ l))) (λ l. spell_items is (import_token ∷ spell_import m l))
       (λ l. ap (λ z. spell_items is (import_token ∷ z)) (ap (λ n. spell_before m (Name n ∷ l)) (sym (is_word n (codes "from") e)) ∙ spell_from m (h.2) l)) s))
   k_from a is m h _ s = tt
 
-  k_import_word : (a : ℕ) (is : Items) (n : Bytes) → FitsMode k (import_word a is n) i → (x : TokenKind) → Stands p k (λ l. spell_mode (import_word a is n) (x ∷ l)) → FitsStep q p i (import_word_step i k a is n x)
+  pub k_import_word : (a : ℕ) (is : Items) (n : Bytes) → FitsMode k (import_word a is n) i → (x : TokenKind) → Stands p k (λ l. spell_mode (import_word a is n) (x ∷ l)) → FitsStep q p i (import_word_step i k a is n x)
   k_import_word a is n h (Punct OpenBrace) s =
       k_if q p i (bytes_eq n (codes "type")) (go k (names_start (listing a is opens_types i (importing no_imported)))) (λ e. (((h.0, h.2, tt), refl),
       stands_same p k (λ l. spell_items is (import_token ∷ Name n ∷ Punct OpenBrace ∷ l)) (λ l. spell_items is (import_token ∷ type_word ∷ Punct OpenBrace ∷ l))
@@ -190,15 +190,15 @@ module _ (q p : Tokens) (i : ℕ) (k : Stack) where
   k_import_word a is n h (Punct Comma) s = ((h.0, h.1, ap suc (h.2)), s)
   k_import_word a is n h x s = k_from a is (import_default n) (h.0, h.1, refl, h.2) x s
 
-  k_import_comma : (a : ℕ) (is : Items) (n : Bytes) → FitsMode k (import_comma a is n) i → (x : TokenKind) → Stands p k (λ l. spell_mode (import_comma a is n) (x ∷ l)) → FitsStep q p i (import_comma_step i k a is n x)
+  pub k_import_comma : (a : ℕ) (is : Items) (n : Bytes) → FitsMode k (import_comma a is n) i → (x : TokenKind) → Stands p k (λ l. spell_mode (import_comma a is n) (x ∷ l)) → FitsStep q p i (import_comma_step i k a is n x)
   k_import_comma a is n h (Punct OpenBrace) s = (((h.0, (h.1, h.2), tt), refl), s)
   k_import_comma a is n h _ s = tt
 
-  k_source : (a : ℕ) (is : Items) (m : ImportForm) → FitsMode k (after_from a is m) i → (x : TokenKind) → Stands p k (λ l. spell_mode (after_from a is m) (x ∷ l)) → FitsStep q p i (source_step k a is m x)
+  pub k_source : (a : ℕ) (is : Items) (m : ImportForm) → FitsMode k (after_from a is m) i → (x : TokenKind) → Stands p k (λ l. spell_mode (after_from a is m) (x ∷ l)) → FitsStep q p i (source_step k a is m x)
   k_source a is m h (Str b) s = ((h.0, refl, h.1, ap (λ j. suc (suc j)) (h.3)), s)
   k_source a is m h _ s = tt
 
-  k_end_item : (a : ℕ) (is : Items) (y : ItemForm) → FitsMode k (item_end a is y) i → (x : TokenKind) → Stands p k (λ l. spell_mode (item_end a is y) (x ∷ l)) → FitsStep q p i (end_item i k a is y x)
+  pub k_end_item : (a : ℕ) (is : Items) (y : ItemForm) → FitsMode k (item_end a is y) i → (x : TokenKind) → Stands p k (λ l. spell_mode (item_end a is y) (x ∷ l)) → FitsStep q p i (end_item i k a is y x)
   k_end_item a is y h (Punct Semicolon) s =
       k_give_item q p i k a is y (h.0) (h.2) (h.3) (stands_same p k (λ l. spell_items is (spell_short y (Punct Semicolon ∷ l))) (λ l. spell_items is (spell_item_form y l)) (λ l. ap (spell_items is) (spell_ended y (h.1) l)) s)
   k_end_item a is y h _ s = tt
@@ -219,14 +219,14 @@ module _ (q p : Tokens) (i : ℕ) (k : Stack) where
   k_end_names a is opens_types z (exporting ns) c t o f j d s = absurd o
   k_end_names a is (opens_exports b) z (importing ns) c t o f j d s = absurd o
 
-  k_names : (r : Listing) → FitsMode k (names_start r) i → (x : TokenKind) → Stands p k (λ l. spell_mode (names_start r) (x ∷ l)) → FitsStep q p i (names_step i k r x)
+  pub k_names : (r : Listing) → FitsMode k (names_start r) i → (x : TokenKind) → Stands p k (λ l. spell_mode (names_start r) (x ∷ l)) → FitsStep q p i (names_step i k r x)
   k_names (listing a is o z ns) h (Punct CloseBrace) s =
       k_end_names a is o z ns (has_names (listing a is o z ns)) (h.0.0) (h.0.1) (h.0.2) (h.1 ∙ begun_stop a is o z ns (suc z)) (λ e. e)
       (stands_same p k (λ l. spell_items is (spell_opening o (Punct OpenBrace ∷ spell_begun_names ns (Punct CloseBrace ∷ l)))) _ (λ l. ap (λ l. spell_items is (spell_opening o (Punct OpenBrace ∷ l))) (begun_spelled a is o z ns (Punct CloseBrace ∷ l))) s)
   k_names r h (Name n) s = ((h.0, h.1, refl), s)
   k_names r h _ s = tt
 
-  k_pair : (r : Listing) → FitsMode k (after_pair r) i → (x : TokenKind) → Stands p k (λ l. spell_pair r (x ∷ l)) → FitsStep q p i (pair_step i k r x)
+  pub k_pair : (r : Listing) → FitsMode k (after_pair r) i → (x : TokenKind) → Stands p k (λ l. spell_pair r (x ∷ l)) → FitsStep q p i (pair_step i k r x)
   k_pair (listing a is o z ns) h (Punct CloseBrace) s = k_end_names a is o z ns false (h.0.0) (h.0.1) (h.0.2) (h.2) (λ e. no_true e) s
   k_pair (listing a is o z (importing (more_imported ns n))) h (Punct Comma) s = ((h.0, ap suc (h.2)), s)
   k_pair (listing a is o z (importing no_imported)) h (Punct Comma) s = no_true (h.1)
@@ -234,7 +234,7 @@ module _ (q p : Tokens) (i : ℕ) (k : Stack) where
   k_pair (listing a is o z (exporting no_exported)) h (Punct Comma) s = no_true (h.1)
   k_pair r h _ s = tt
 
-  k_name : (r : Listing) (b : ℕ) (n : Bytes) → FitsMode k (after_name r b n) i → (x : TokenKind) → Stands p k (λ l. spell_mode (after_name r b n) (x ∷ l)) → FitsStep q p i (name_step i k r b n x)
+  pub k_name : (r : Listing) (b : ℕ) (n : Bytes) → FitsMode k (after_name r b n) i → (x : TokenKind) → Stands p k (λ l. spell_mode (after_name r b n) (x ∷ l)) → FitsStep q p i (name_step i k r b n x)
   k_name r b n h (Name m) s =
       k_if q p i (bytes_eq m (codes "as")) (go k (after_as r b n)) (λ e. ((h.0, h.1, ap suc (h.2)),
       stands_same p k (λ l. spell_listing r (Name n ∷ Name m ∷ l)) (λ l. spell_listing r (Name n ∷ as_token ∷ l)) (λ l. ap (λ m. spell_listing r (Name n ∷ Name m ∷ l)) (sym (is_word m (codes "as") e))) s))
@@ -242,25 +242,25 @@ module _ (q p : Tokens) (i : ℕ) (k : Stack) where
       k_if q p i (may_name r n) (pair_step i k (add_name r b i n None) x) (λ e. k_pair (add_name r b i n None) (added k r b i n None (h.0) (h.1) (h.2) e) x
       (stands_same p k (λ l. spell_listing r (Name n ∷ x ∷ l)) (λ l. spell_pair (add_name r b i n None) (x ∷ l)) (λ l. added_spelled r b i n None (x ∷ l)) s))
 
-  k_as : (r : Listing) (b : ℕ) (n : Bytes) → FitsMode k (after_as r b n) i → (x : TokenKind) → Stands p k (λ l. spell_mode (after_as r b n) (x ∷ l)) → FitsStep q p i (as_step i k r b n x)
+  pub k_as : (r : Listing) (b : ℕ) (n : Bytes) → FitsMode k (after_as r b n) i → (x : TokenKind) → Stands p k (λ l. spell_mode (after_as r b n) (x ∷ l)) → FitsStep q p i (as_step i k r b n x)
   k_as r b n h (Name m) s =
       k_if q p i (may_name r m) (go k (after_pair (add_name r b (suc i) n (Some m)))) (λ e. (added k r b (suc i) n (Some m) (h.0) (h.1) (ap suc (h.2)) e,
       stands_same p k (λ l. spell_listing r (Name n ∷ as_token ∷ Name m ∷ l)) (λ l. spell_pair (add_name r b (suc i) n (Some m)) l) (λ l. added_spelled r b (suc i) n (Some m) l) s))
   k_as r b n h _ s = tt
 
-  k_export_type : (a : ℕ) (is : Items) (b : ℕ) → FitsMode k (export_type a is b) i → (x : TokenKind) → Stands p k (λ l. spell_mode (export_type a is b) (x ∷ l)) → FitsStep q p i (export_type_step i k a is b x)
+  pub k_export_type : (a : ℕ) (is : Items) (b : ℕ) → FitsMode k (export_type a is b) i → (x : TokenKind) → Stands p k (λ l. spell_mode (export_type a is b) (x ∷ l)) → FitsStep q p i (export_type_step i k a is b x)
   k_export_type a is b h (Name n) s = k_if q p i (may_alias n) (go k (after_alias a exported_item is b n)) (λ e. (((h.0, refl, h.1, (alias_name n e).0, (alias_name n e).1), ap suc (h.2)), s))
   k_export_type a is b h (Punct OpenBrace) s = (((h.0, h.2 ∙ ap suc (h.1), tt), refl), s)
   k_export_type a is b h _ s = tt
 
-  k_exports : (a : ℕ) (is : Items) (o : Bool) (ns : ExportList) → FitsMode k (after_exports a is o ns) i → (x : TokenKind) → Stands p k (λ l. spell_mode (after_exports a is o ns) (x ∷ l)) → FitsStep q p i (exports_step i k a is o ns x)
+  pub k_exports : (a : ℕ) (is : Items) (o : Bool) (ns : ExportList) → FitsMode k (after_exports a is o ns) i → (x : TokenKind) → Stands p k (λ l. spell_mode (after_exports a is o ns) (x ∷ l)) → FitsStep q p i (exports_step i k a is o ns x)
   k_exports a is o ns h (Name n) s =
       k_if q p i (bytes_eq n (codes "from")) (go k (exports_from a is o ns)) (λ e. ((h.0, h.1, ap suc (h.2)),
       stands_same p k (λ l. spell_items is (export_token ∷ opt o type_word (spell_export_list ns (Name n ∷ l)))) (λ l. spell_items is (export_token ∷ opt o type_word (spell_export_list ns (from_word ∷ l))))
       (λ l. ap (λ n. spell_items is (export_token ∷ opt o type_word (spell_export_list ns (Name n ∷ l)))) (sym (is_word n (codes "from") e))) s))
   k_exports a is o ns h x s = k_if q p i (are_local ns) (end_item i k a is (exports (export_names o ns)) x) (λ e. k_end_item a is (exports (export_names o ns)) (h.0, refl, (local_is ns e, h.1), ap suc (h.2)) x s)
 
-  k_exports_from : (a : ℕ) (is : Items) (o : Bool) (ns : ExportList) → FitsMode k (exports_from a is o ns) i → (x : TokenKind) → Stands p k (λ l. spell_mode (exports_from a is o ns) (x ∷ l)) → FitsStep q p i (exports_from_step k a is o ns x)
+  pub k_exports_from : (a : ℕ) (is : Items) (o : Bool) (ns : ExportList) → FitsMode k (exports_from a is o ns) i → (x : TokenKind) → Stands p k (λ l. spell_mode (exports_from a is o ns) (x ∷ l)) → FitsStep q p i (exports_from_step k a is o ns x)
   k_exports_from a is o ns h (Str b) s = ((h.0, refl, h.1, ap (λ j. suc (suc j)) (h.2)), s)
   k_exports_from a is o ns h _ s = tt
 
@@ -272,6 +272,11 @@ module _ (q p : Tokens) (i : ℕ) (k : Stack) where
       other : (b : Bool) → bytes_eq n (codes "type") ≡ b → FitsStep q p i (if b then go k (export_type a is i) else if bytes_eq n (codes "default") then go k (after_default a is) else fault)
       other true e = ((h.0, h.1, refl), stands_same p k _ _ (λ l. ap (λ n. spell_items is (export_token ∷ Name n ∷ l)) (sym (is_word n (codes "type") e))) s)
       other false _ = k_if q p i (bytes_eq n (codes "default")) (go k (after_default a is)) (λ e. ((h.0, ap suc (h.1)), stands_same p k _ _ (λ l. ap (λ n. spell_items is (export_token ∷ Name n ∷ l)) (sym (is_word n (codes "default") e))) s))
+
+  pub k_export : (a : ℕ) (is : Items) → FitsMode k (after_export a is) i → (x : TokenKind) → Stands p k (λ l. spell_mode (after_export a is) (x ∷ l)) → FitsStep q p i (export_step i k a is x)
+  k_export a is h (Name n) s = k_export_word a is h n (statement_word n) (statement_is n) s
+  k_export a is h (Punct OpenBrace) s = (((h.0, h.1, tt), refl), s)
+  k_export a is h _ s = tt
 
   module _
       (k_want : (k : Stack) (x : TokenKind) → FitsStack k i → takes_ex k ≡ true → Stands p k (λ l. x ∷ l) → FitsStep q p i (want_step i k x))
@@ -294,13 +299,13 @@ module _ (q p : Tokens) (i : ℕ) (k : Stack) where
         by false e = k_plain (in_item i plain_item is ∷ k) (Name n) ((t, refl), stack_bottom k (t.0)) refl (ap is_plain_word d) (tt, s)
     k_top_word is t n w d e s = tt
 
-    k_items : (is : Items) → FitsTop k i is → (x : TokenKind) → Stands q k (spell_items is) → Stands p k (λ l. spell_items is (x ∷ l)) → FitsStep q p i (items_step i k is x)
+    pub k_items : (is : Items) → FitsTop k i is → (x : TokenKind) → Stands q k (spell_items is) → Stands p k (λ l. spell_items is (x ∷ l)) → FitsStep q p i (items_step i k is x)
     k_items is t (Punct PlusPlus) r s = (t.1, t.2, at_bottom q k (spell_items is) (t.0) r)
     k_items is t (Name n) r s = k_top_word is t n (statement_word n) refl (statement_is n) s
     k_items is t (Punct OpenBrace) r s = tt
     k_items is t x r s = k_plain (in_item i plain_item is ∷ k) x ((t, refl), stack_bottom k (t.0)) refl refl (tt, s)
 
-    k_type_word : (a : ℕ) (is : Items) → FitsMode k (after_type_word a is) i → (x : TokenKind) → Stands p k (λ l. spell_mode (after_type_word a is) (x ∷ l)) → FitsStep q p i (type_word_step i k a is x)
+    pub k_type_word : (a : ℕ) (is : Items) → FitsMode k (after_type_word a is) i → (x : TokenKind) → Stands p k (λ l. spell_mode (after_type_word a is) (x ∷ l)) → FitsStep q p i (type_word_step i k a is x)
     k_type_word a is h (Name n) s = by (bytes_eq n (codes "as")) refl
       where
         by : (b : Bool) → bytes_eq n (codes "as") ≡ b → FitsStep q p i (if b then go k (after_type_as a i is) else if may_alias n then go k (after_alias a plain_item is a n) else fault)
@@ -311,7 +316,7 @@ module _ (q p : Tokens) (i : ℕ) (k : Stack) where
         k_links (in_simple a evaluates ∷ in_item a plain_item is ∷ k) (ex a i (variable (codes "type"))) no_link x ((refl, refl), ((h.0, refl), stack_bottom k (h.0.0))) refl
         (r, (refl, h.1, refl), tt, h.1) ((type_word, refl, λ l. (x ∷ l, refl)), (tt, s))
 
-    k_type_as : (a d : ℕ) (is : Items) → FitsMode k (after_type_as a d is) i → (x : TokenKind) → Stands p k (λ l. spell_mode (after_type_as a d is) (x ∷ l)) → FitsStep q p i (type_as_step i k a d is x)
+    pub k_type_as : (a d : ℕ) (is : Items) → FitsMode k (after_type_as a d is) i → (x : TokenKind) → Stands p k (λ l. spell_mode (after_type_as a d is) (x ∷ l)) → FitsStep q p i (type_as_step i k a d is x)
     k_type_as a d is h (Punct Assign) s = let n = alias_name (codes "as") refl in (((h.0, refl, refl, n.0, n.1), ap suc (h.2 ∙ ap suc (h.1))), s)
     k_type_as a d is h x s =
         let b = in_simple a evaluates ∷ in_item a plain_item is ∷ k in
@@ -325,6 +330,6 @@ module _ (q p : Tokens) (i : ℕ) (k : Stack) where
         ((((h.0, h.1), stack_bottom k (h.0.0)), refl, refl), (tt, stands_same p k _ _ (λ l. ap (λ n. spell_items is (export_token ∷ default_token ∷ Name n ∷ l)) e) s))
     k_default_word a is h n w d e s = k_want (in_default a is ∷ k) (Name n) ((h.0, h.1), stack_bottom k (h.0.0)) refl ((Name n, ap not_function_word d, λ l. (l, refl)), s)
 
-    k_default : (a : ℕ) (is : Items) → FitsMode k (after_default a is) i → (x : TokenKind) → Stands p k (λ l. spell_mode (after_default a is) (x ∷ l)) → FitsStep q p i (default_step i k a is x)
+    pub k_default : (a : ℕ) (is : Items) → FitsMode k (after_default a is) i → (x : TokenKind) → Stands p k (λ l. spell_mode (after_default a is) (x ∷ l)) → FitsStep q p i (default_step i k a is x)
     k_default a is h (Name n) s = k_default_word a is h n (statement_word n) refl (statement_is n) s
     k_default a is h x s = k_want (in_default a is ∷ k) x ((h.0, h.1), stack_bottom k (h.0.0)) refl ((x, refl, λ l. (l, refl)), s)

@@ -2,6 +2,7 @@ pub mod Ladder
 pub mod States
 pub mod Stands
 pub mod KeptBodies
+pub mod KeptLadder
 pub mod Embedded
 pub mod Begins
 pub mod Parameters
@@ -17,7 +18,9 @@ pub mod Viable
 pub mod Shaped
 pub mod ShapedCode
 pub mod Main
+pub mod KeptExpressions
 pub mod StatementWords
 pub mod KeptStatements
 pub mod KeptParameters
 pub mod KeptModules
+pub mod Kept
