@@ -34,9 +34,12 @@ Says l (whole_items is (x ∷ rest)) = IsFault l (x ∷ rest)
 Says l (faulty rest) = IsFault l rest
 Says l (whole e rest) = ⊥
 
+abbrev pub items_of : Module → Items
+items_of (module_of f t is) = is
+
 -- a module is read where one stands, and it is that one
 abbrev pub ReadsEachModule : Type 0
-ReadsEachModule = (is : Items) (l : Tokens) → Spells (module_with is) l → read_module l ≡ whole_items is []
+ReadsEachModule = (m : Module) (l : Tokens) → Spells m l → read_module l ≡ whole_items (items_of m) []
 
 -- where none stands, reading tells the place of the fault
 abbrev pub ReadsOnlyModules : Type 0
