@@ -61,4 +61,4 @@ module _ (q p : Tokens) (i : ℕ) (k : Stack) (x : TokenKind) where
   kept (exports_from a is o ns) h r s = k_exports_from q p i k a is o ns h x s
   kept (after_default a is) h r s = k_default q p i k (k_want q p i) (k_links q p i) (λ k. k_typing q p i k (k_settle q p i k)) a is h x s
   kept (item_end a is y) h r s = k_end_item q p i k a is y h x s
-  kept (typing w a m) h r s = k_typing q p i k (k_settle q p i k) w a m x (h.0) (h.1) s
+  kept (typing w a m) h r s = k_typing q p i k (k_settle q p i k) w a m (h.1) x (h.0) (h.2) s

@@ -17,6 +17,7 @@ use Rattle.code_law.specs.Frames.{Row, array_row, call_row, in_prefix, in_chain,
 use Rattle.code_law.specs.Ladder.{after_field}
 use Rattle.code_law.specs.Expressions.{ValueWord, variable_word, null_word, truth_of, kind_word, function_word, other_word, reserved_word, value_word, marked, may_arrow, word_step, want_step, linked, links_step, dot_step, row_step, fields_step, field_step, key_step, paren_step, paren_word_step, paren_mark_step, arrow_step}
 use Rattle.code_law.proofs.Ladder.{tier_ex, floor, tier_least}
+use Rattle.code_law.proofs.Typing.{typing_at}
 use Rattle.code_law.proofs.States.{spell_row, spell_mode, takes_ex, FitsLinked, FitsStack, FitsWhole, FitsMode, FitsStep, Stands}
 use Rattle.code_law.proofs.Stands.{stands_moved}
 use Rattle.code_law.proofs.KeptBodies.{k_primary, k_if}
@@ -175,12 +176,14 @@ module _ (q p : Tokens) (i : ℕ) where
     k_paren z h x s = k_want (in_parens z ∷ k) x ((h.1, h.2), h.0) refl (tt, s)
 
     pub k_paren_word : (z a : ℕ) (n : Bytes) → FitsMode k (paren_word z a n) i → (x : TokenKind) → Stands p k (λ l. spell_mode (paren_word z a n) (x ∷ l)) → FitsStep q p i (paren_word_step i k z a n x)
-    k_paren_word z a n h (Punct Colon) s = k_if q p (may_arrow k) i _ (λ m. (((((h.0, h.1, m), tt, tt), h.2, h.3), ap suc (h.4)), s))
+    k_paren_word z a n h (Punct Colon) s =
+        let y = typing_at true (suc (suc a)) (suc i) (ap suc (h.4)) in k_if q p (may_arrow k) i _ (λ m. (((((h.0, h.1, m), tt, tt), h.2, h.3), y.0, y.1), s))
     k_paren_word z a n h (Punct Question) s = ((h.0, h.1, h.2, h.3, h.4, refl), s)
     k_paren_word z a n h x s = let r : 10 ≤ 10 = omega arith in k_links (in_parens z ∷ k) (ex a i (variable n)) no_link x ((h.1, h.2), h.0) refl (r, (refl, h.4, h.3), tt, h.4) (tt, s)
 
     pub k_paren_mark : (z a : ℕ) (n : Bytes) (b : ℕ) → FitsMode k (paren_mark z a n b) i → (x : TokenKind) → Stands p k (λ l. spell_mode (paren_mark z a n b) (x ∷ l)) → FitsStep q p i (paren_mark_step i k z a n b x)
-    k_paren_mark z a n b h (Punct Colon) s = k_if q p (may_arrow k) i _ (λ m. (((((h.0, h.1, m), tt, tt), h.2, h.3), ap suc (h.5 ∙ ap suc (h.4))), s))
+    k_paren_mark z a n b h (Punct Colon) s =
+        let y = typing_at true (suc (suc (suc a))) (suc i) (ap suc (h.5 ∙ ap suc (h.4))) in k_if q p (may_arrow k) i _ (λ m. (((((h.0, h.1, m), tt, tt), h.2, h.3), y.0, y.1), s))
     k_paren_mark z a n b h x s =
         let r : 1 ≤ 10 = omega arith in
         let u : 0 ≤ 0 = omega arith in

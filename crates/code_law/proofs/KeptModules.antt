@@ -10,8 +10,7 @@ use Rattle.js_grammar.specs.Words.{Bytes, IsName}
 use Rattle.js_grammar.specs.TypeSpelling.{Tokens, opt}
 use Rattle.js_grammar.specs.TypeFits.{bump, CommaFits}
 use Rattle.js_grammar.specs.Machine as ty
-use Rattle.js_grammar.proofs.Sound as typed_spelling
-use Rattle.js_grammar.proofs.Kept as typed_places
+use Rattle.js_grammar.proofs.Sound.{so_far}
 use Rattle.js_grammar.specs.Code.{Binder, const, let_word, Ex, ex, variable, Links, no_link, no_operand}
 use Rattle.js_grammar.specs.CodeSpelling.{binder_word, spell_ex, spell_links}
 use Rattle.js_grammar.specs.Items.{Importeds, no_imported, more_imported, imported, import_list, Exporteds, no_exported, more_exported, exported, ExportList, export_list, ImportForm, import_default, import_both, import_names, import_types, import_only, export_names, export_from, ItemForm, imports, exports, Items, more_item, item, has_importeds, has_exporteds, base_names, IsNoneOf, AreNames, AreLocal, from_word, type_word, spell_importeds, spell_begun_imports, spell_exporteds, spell_begun_exports, spell_items, spell_item_form, spell_import, spell_export_list, stop_import, stop_importeds, stop_begun_imports, stop_exporteds, stop_begun_exports, stop_item_form, stop_items, FitsImporteds, FitsImportList, FitsExporteds, FitsExportList, FitsItemForm}
@@ -22,6 +21,7 @@ use Rattle.code_law.specs.Statements.{StatementWord, binds, begins_function, if_
 use Rattle.code_law.specs.Modules.{top_word, items_step, is_none_of, may_alias, type_word_step, type_as_step, alias_step, import_step, from_step, import_word_step, import_comma_step, add_name, has_names, may_name, end_names, names_step, pair_step, name_step, as_step, source_step, end_item, export_word, export_step, export_type_step, are_names, are_local, exports_step, exports_from_step, default_word, default_step}
 use Rattle.code_law.proofs.StatementWords.{IsStatement, statement_is}
 use Rattle.code_law.proofs.Stands.{stands_moved}
+use Rattle.code_law.proofs.Typing.{Typing, typing_at}
 use Rattle.code_law.proofs.States.{import_token, export_token, default_token, as_token, spell_listing, spell_pair, imports_names, spell_wrap, spell_opening, spell_begun_names, spell_names, spell_before, spell_short, spell_waiting, spell_frame, spell_mode, starts_plain, not_function, not_function_word, is_plain_word, Opens, Claim, Stands, takes_ex, IsBottom, FitsTop, FitsStack, FitsLinked, FitsNames, FitsOpening, FitsListing, takes_simple, stop_names, stop_begun_names, begun_end, names_end, stop_before, is_short, may_wrap, FitsAliasAt, FitsWaiting, type_start, start_wrapped, FitsMode, AreRead, FitsStep}
 
 no_true : {A : Type 0} → false ≡ true → A
@@ -166,7 +166,7 @@ module _ (q p : Tokens) (i : ℕ) where
 
 module _ (q p : Tokens) (i : ℕ) (k : Stack) where
   pub k_alias : (a : ℕ) (w : Wrap) (is : Items) (n : ℕ) (b : Bytes) → FitsMode k (after_alias a w is n b) i → (x : TokenKind) → Stands p k (λ l. spell_mode (after_alias a w is n b) (x ∷ l)) → FitsStep q p i (alias_step k a w is n b x)
-  k_alias a w is n b h (Punct Assign) s = ((h.0, ap suc (h.1)), s)
+  k_alias a w is n b h (Punct Assign) s = let y = typing_at true (suc (suc (suc n))) (suc i) (ap suc (h.1)) in ((h.0, y.0, y.1), s)
   k_alias a w is n b h _ s = tt
 
   pub k_import : (a : ℕ) (is : Items) → FitsMode k (after_import a is) i → (x : TokenKind) → Stands p k (λ l. spell_mode (after_import a is) (x ∷ l)) → FitsStep q p i (import_step i k a is x)
@@ -281,7 +281,7 @@ module _ (q p : Tokens) (i : ℕ) (k : Stack) where
   module _
       (k_want : (k : Stack) (x : TokenKind) → FitsStack k i → takes_ex k ≡ true → Stands p k (λ l. x ∷ l) → FitsStep q p i (want_step i k x))
       (k_links : (k : Stack) (b : Ex) (ls : Links) (x : TokenKind) → FitsStack k (start_ex b) → takes_ex k ≡ true → FitsLinked b ls i → Stands p k (λ l. spell_ex b (spell_links ls (x ∷ l))) → FitsStep q p i (links_step i k b ls x))
-      (k_typing : (k : Stack) (w : Waiting) (a : ty.Stack) (m : ty.Mode) (x : TokenKind) → FitsWaiting k w → typed_places.FitsMode (takes_function w) (type_start w) a m i → Stands p k (λ l. spell_waiting w (typed_spelling.so_far a m (x ∷ l))) →
+      (k_typing : (k : Stack) (w : Waiting) (a : ty.Stack) (m : ty.Mode) (t : Tokens) (x : TokenKind) → FitsWaiting k w → Typing (takes_function w) (type_start w) i a m t → Stands p k (λ l. spell_waiting w (so_far a m (x ∷ l))) →
           FitsStep q p i (inside i k w (ty.step (takes_function w) i a m x) x))
     where
     k_plain : (d : Stack) (x : TokenKind) → FitsStack d i → takes_simple d true ≡ true → starts_plain x ≡ true → Stands p d (λ l. x ∷ l) → FitsStep q p i (want_step i (in_simple i evaluates ∷ d) x)
@@ -317,13 +317,17 @@ module _ (q p : Tokens) (i : ℕ) (k : Stack) where
         (r, (refl, h.1, refl), tt, h.1) ((type_word, refl, λ l. (x ∷ l, refl)), (tt, s))
 
     pub k_type_as : (a d : ℕ) (is : Items) → FitsMode k (after_type_as a d is) i → (x : TokenKind) → Stands p k (λ l. spell_mode (after_type_as a d is) (x ∷ l)) → FitsStep q p i (type_as_step i k a d is x)
-    k_type_as a d is h (Punct Assign) s = let n = alias_name (codes "as") refl in (((h.0, refl, refl, n.0, n.1), ap suc (h.2 ∙ ap suc (h.1))), s)
+    k_type_as a d is h (Punct Assign) s =
+        let n = alias_name (codes "as") refl in
+        let y = typing_at true (suc (suc (suc a))) (suc i) (ap suc (h.2 ∙ ap suc (h.1))) in
+        (((h.0, refl, refl, n.0, n.1), y.0, y.1), s)
     k_type_as a d is h x s =
         let b = in_simple a evaluates ∷ in_item a plain_item is ∷ k in
         let r : 6 ≤ 10 = omega arith in
         let z : 0 ≤ 6 = omega arith in
-        k_typing b (cast_type a (ex a d (variable (codes "type"))) no_operand d) [] ty.want x
-        (((refl, refl), ((h.0, refl), stack_bottom k (h.0.0))), refl, z, (r, (refl, h.1, refl), tt, h.1)) (h.2) ((type_word, refl, λ l. (as_token ∷ x ∷ l, refl)), (tt, s))
+        let y = typing_at true (suc d) i (h.2) in
+        k_typing b (cast_type a (ex a d (variable (codes "type"))) no_operand d) [] ty.want (y.0) x
+        (((refl, refl), ((h.0, refl), stack_bottom k (h.0.0))), refl, z, (r, (refl, h.1, refl), tt, h.1)) (y.1) ((type_word, refl, λ l. (as_token ∷ x ∷ l, refl)), (tt, s))
 
     k_default_word : (a : ℕ) (is : Items) → FitsMode k (after_default a is) i → (n : Bytes) (w : StatementWord) → statement_word n ≡ w → IsStatement w n → Stands p k (λ l. spell_mode (after_default a is) (Name n ∷ l)) → FitsStep q p i (default_word i k a is n w)
     k_default_word a is h n begins_function d e s =

@@ -1,5 +1,5 @@
 -- Each step of a signature, and each type that is whole, keep what their states stand for.
-use Rattle.std.proofs.Common.{◌≡◌, refl, sym, ◌∙◌, ap, subst, ℕ, suc, ◌≤◌, Bool, true, false, Option, Some, None, [], ◌∷◌, codes, arith, if◌then◌else◌}
+use Rattle.std.proofs.Common.{◌≡◌, refl, sym, ◌∙◌, ap, subst, ℕ, suc, ◌≤◌, Bool, true, false, Option, Some, None, [], ◌∷◌, ◌++◌, codes, arith, if◌then◌else◌}
 use Rattle.js_token.specs.Words.{is_reserved}
 use Rattle.js_token.specs.declared.token.TokenKind.{TokenKind}
 use Rattle.js_token.specs.declared.token.TokenKind.TheVariants.{Name, Punct}
@@ -19,6 +19,7 @@ use Rattle.js_grammar.specs.Items.{alias, alias_item, exports, export_alias, Fit
 use Rattle.code_law.specs.Frames.{FunctionKind, is_value, is_statement, is_default, plain_item, exported_item, default_item, Owner, of_arrow, of_function, Waiting, parameter_type, result_type, declared_type, alias_type, cast_type, in_declaration, in_function, want, function_start, parameters_open, parameter_start, parameter_word, parameter_mark, parameters_end, arrow_start, statements_start, Stack, Step, fault, go}
 use Rattle.code_law.specs.Ladder.{settle}
 use Rattle.code_law.specs.Expressions.{function_step, open_step, parameter_step, after_parameter, parameter_word_step, parameter_mark_step, open_body, end_step, after_type, takes_function, inside}
+use Rattle.code_law.proofs.Typing.{Typing, typing_at, keep_typing}
 use Rattle.code_law.proofs.States.{spell_mode, spell_owner, spell_waiting, FitsStack, FitsWhole, FitsOwner, TypedFor, FitsGiven, FitsWaiting, type_start, FitsMode, FitsStep, Stands}
 use Rattle.code_law.proofs.Stands.{stands_moved}
 use Rattle.code_law.proofs.KeptBodies.{k_item}
@@ -98,7 +99,7 @@ module _ (q p : Tokens) (i : ℕ) (k : Stack) where
 
   pub k_parameter_word : (o : Owner) (z : ℕ) (ps : Parameters) (a : ℕ) (n : Bytes) → FitsMode k (parameter_word o z ps a n) i → (x : TokenKind) → Stands p k (λ l. spell_mode (parameter_word o z ps a n) (x ∷ l)) →
       FitsStep q p i (parameter_word_step i k o z ps a n x)
-  k_parameter_word o z ps a n h (Punct Colon) s = (((h.0, h.1, h.2), ap suc (h.3)), s)
+  k_parameter_word o z ps a n h (Punct Colon) s = let y = typing_at true (suc (suc a)) (suc i) (ap suc (h.3)) in (((h.0, h.1, h.2), y.0, y.1), s)
   k_parameter_word o z ps a n h (Punct Question) s = ((h.0, h.1, h.2, ap suc (h.3)), s)
   k_parameter_word of_arrow z ps a n h _ s = tt
   k_parameter_word (of_function c f m) z ps a n h x s =
@@ -106,7 +107,7 @@ module _ (q p : Tokens) (i : ℕ) (k : Stack) where
 
   pub k_parameter_mark : (o : Owner) (z : ℕ) (ps : Parameters) (a : ℕ) (n : Bytes) → FitsMode k (parameter_mark o z ps a n) i → (x : TokenKind) → Stands p k (λ l. spell_mode (parameter_mark o z ps a n) (x ∷ l)) →
       FitsStep q p i (parameter_mark_step k o z ps a n x)
-  k_parameter_mark o z ps a n h (Punct Colon) s = (((h.0, h.1, h.2), ap suc (h.3)), s)
+  k_parameter_mark o z ps a n h (Punct Colon) s = let y = typing_at true (suc (suc (suc a))) (suc i) (ap suc (h.3)) in (((h.0, h.1, h.2), y.0, y.1), s)
   k_parameter_mark o z ps a n h _ s = tt
 
   k_open_body : (o : Owner) (z : ℕ) (ps : Parameters) (c : Bool) (r : Option Ty) → FitsGiven o k z ps → FitsSig (sig z i ps c r) z → PlainFor o r → (x : TokenKind) → Stands p k (λ l. spell_owner o (spell_sig (sig z i ps c r) (x ∷ l))) →
@@ -119,7 +120,8 @@ module _ (q p : Tokens) (i : ℕ) (k : Stack) where
   k_open_body (of_function v b m) z ps c r h f n x s = tt
 
   pub k_end : (o : Owner) (z : ℕ) (ps : Parameters) (c : Bool) → FitsMode k (parameters_end o z ps c) i → (x : TokenKind) → Stands p k (λ l. spell_mode (parameters_end o z ps c) (x ∷ l)) → FitsStep q p i (end_step i k o z ps c x)
-  k_end o z ps c h (Punct Colon) s = (((h.0, h.1), ap suc (h.2)), s)
+  k_end o z ps c h (Punct Colon) s =
+      let w = result_type o z ps c in let y = typing_at (takes_function w) (type_start w) (suc i) (ap suc (h.2)) in (((h.0, h.1), y.0, y.1), s)
   k_end o z ps c h x s = k_open_body o z ps c None (h.0) (refl, h.2, h.0.1, h.1, tt) (plain_none o) x s
 
   module _ (k_settle : (e : Ex) → FitsWhole k e i → (x : TokenKind) → Stands p k (λ l. spell_ex e (x ∷ l)) → FitsStep q p i (settle i k e x)) where
@@ -149,11 +151,11 @@ module _ (q p : Tokens) (i : ℕ) (k : Stack) where
         (h.0, h.1, h.2, (refl, y, (g.0, g.1, refl, (g.2, subst (FitsOperand v relation_level) (g.3) (refl, j, (refl, f))))), y) x s
 
     -- a step of the machine of types
-    pub k_typing : (w : Waiting) (a : ty.Stack) (m : ty.Mode) (x : TokenKind) → FitsWaiting k w → typed_places.FitsMode (takes_function w) (type_start w) a m i → Stands p k (λ l. spell_waiting w (typed_spelling.so_far a m (x ∷ l))) →
+    pub k_typing : (w : Waiting) (a : ty.Stack) (m : ty.Mode) (r : Tokens) (x : TokenKind) → FitsWaiting k w → Typing (takes_function w) (type_start w) i a m r → Stands p k (λ l. spell_waiting w (typed_spelling.so_far a m (x ∷ l))) →
         FitsStep q p i (inside i k w (ty.step (takes_function w) i a m x) x)
-    k_typing w a m x h f s = by (ty.step (takes_function w) i a m x) (typed_places.kept (takes_function w) (type_start w) a m i x f) (typed_spelling.sound (takes_function w) i a m x)
+    k_typing w a m r x h f s = by (ty.step (takes_function w) i a m x) refl (typed_places.kept (takes_function w) (type_start w) a m i x (f.fits)) (typed_spelling.sound (takes_function w) i a m x)
       where
-        by : (y : ty.Step) → typed_places.FitsStep (takes_function w) (type_start w) i y → typed_spelling.Follows (typed_spelling.so_far a m) x y → FitsStep q p i (inside i k w y x)
-        by ty.fault g d = tt
-        by (ty.go b n) g d = ((h, g), stands_moved p k (λ l. spell_waiting w (typed_spelling.so_far a m (x ∷ l))) _ (λ l. ap (spell_waiting w) (d l)) s)
-        by (ty.done t) g d = k_after_type w t h (g.0.0) (g.0.1) (g.1) x (stands_moved p k (λ l. spell_waiting w (typed_spelling.so_far a m (x ∷ l))) _ (λ l. ap (spell_waiting w) (d (x ∷ l))) s)
+        by : (y : ty.Step) → ty.step (takes_function w) i a m x ≡ y → typed_places.FitsStep (takes_function w) (type_start w) i y → typed_spelling.Follows (typed_spelling.so_far a m) x y → FitsStep q p i (inside i k w y x)
+        by ty.fault e g d = tt
+        by (ty.go b n) e g d = ((h, r ++ x ∷ [], keep_typing (takes_function w) (type_start w) i a m r x f b n e), stands_moved p k (λ l. spell_waiting w (typed_spelling.so_far a m (x ∷ l))) _ (λ l. ap (spell_waiting w) (d l)) s)
+        by (ty.done t) e g d = k_after_type w t h (g.0.0) (g.0.1) (g.1) x (stands_moved p k (λ l. spell_waiting w (typed_spelling.so_far a m (x ∷ l))) _ (λ l. ap (spell_waiting w) (d (x ∷ l))) s)

@@ -15,6 +15,7 @@ use Rattle.code_law.specs.Bodies.{end_simple}
 use Rattle.code_law.specs.Expressions.{want_step}
 use Rattle.code_law.specs.Statements.{StatementWord, binds, begins_function, if_word, else_word, while_word, return_word, throw_word, break_word, continue_word, begins_import, begins_export, plain_word, statement_word, simple_word, simple_step, block_word, statements_step, return_step, semicolon_step, binder_step, declared_step, if_step, while_step, body_step, is_else_word, is_else, end_branches, branch_step, after_else_word, else_step}
 use Rattle.code_law.proofs.StatementWords.{IsStatement, statement_is}
+use Rattle.code_law.proofs.Typing.{typing_at}
 use Rattle.code_law.proofs.States.{if_token, while_token, spell_mode, starts_plain, is_plain_word, takes_ex, takes_statement, takes_body, takes_block, takes_simple, takes_declaration, FitsStack, FitsMode, FitsStep, Stands}
 use Rattle.code_law.proofs.KeptBodies.{k_if, k_block, k_end_simple}
 
@@ -97,7 +98,7 @@ module _
   k_binder k z w h _ s = tt
 
   pub k_declared : (k : Stack) (z : ℕ) (w : Binder) (n : Bytes) → FitsMode k (after_declared z w n) i → (x : TokenKind) → Stands p k (λ l. spell_mode (after_declared z w n) (x ∷ l)) → FitsStep q p i (declared_step k z w n x)
-  k_declared k z w n h (Punct Colon) s = (((h.0, h.1, h.2), ap suc (h.3)), s)
+  k_declared k z w n h (Punct Colon) s = let y = typing_at true (suc (suc (suc z))) (suc i) (ap suc (h.3)) in (((h.0, h.1, h.2), y.0, y.1), s)
   k_declared k z w n h (Punct Assign) s = ((((h.1, h.2, tt, ap suc (h.3)), h.0), refl), (tt, s))
   k_declared k z w n h _ s = tt
 

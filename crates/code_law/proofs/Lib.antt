@@ -1,4 +1,5 @@
 pub mod Ladder
+pub mod Typing
 pub mod States
 pub mod Stands
 pub mod KeptBodies
@@ -15,12 +16,10 @@ pub mod Shapes
 pub mod Closing
 pub mod Typed
 pub mod Viable
-pub mod Shaped
-pub mod ShapedCode
-pub mod Main
 pub mod KeptExpressions
 pub mod StatementWords
 pub mod KeptStatements
 pub mod KeptParameters
 pub mod KeptModules
 pub mod Kept
+pub mod Main

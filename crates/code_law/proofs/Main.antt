@@ -12,8 +12,7 @@ use Rattle.code_law.proofs.Modules.{reads_items}
 use Rattle.code_law.proofs.States.{spell_mode, FitsMode, FitsStep, Stands}
 use Rattle.code_law.proofs.Stands.{stands_more}
 use Rattle.code_law.proofs.Kept.{kept}
-use Rattle.code_law.proofs.Shapes.{Shaped, ShapedStep}
-use Rattle.code_law.proofs.ShapedCode.{shaped}
+use Rattle.code_law.proofs.Shapes.{shape}
 use Rattle.code_law.proofs.Closing.{Completes}
 use Rattle.code_law.proofs.Viable.{viable}
 
@@ -70,12 +69,11 @@ finishes (x ∷ w) q i k m g is f = finish_token q i k m g is x w (finishes w) (
 -- the state that the tokens q lead to, up to the place i
 record Reached (q : Tokens) (i : ℕ) (k : Stack) (m : Mode) : Type 0 where
   good : Good q i k m
-  shape : Shaped k m i
   runs : (w : Tokens) → read_module (q ++ w) ≡ run i k m w
 
 begins : (q : Tokens) (i : ℕ) (k : Stack) (m : Mode) → Reached q i k m → Begins q
 begins q i k m r =
-    let c : Completes i k m = viable k m i (r.shape) in
+    let c : Completes i k m = viable k m i (shape k m i (r.good.0)) in
     let f = finishes (c.0) q i k m (r.good) (c.1) (c.2) in
     (module_with (c.1), c.0, ((refl, refl, f.0), f.1))
 
@@ -85,21 +83,20 @@ past q i k m r x never b = never (b.1) (items_of (b.0)) (sym (r.runs (x ∷ b.1)
 no_module : (q : Tokens) (i : ℕ) (k : Stack) (m : Mode) → Reached q i k m → ((is : Items) → run i k m [] ≡ whole_items is [] → ⊥) → (t : Module) → Spells t q → ⊥
 no_module q i k m r never t h = never (items_of t) (sym (r.runs []) ∙ ap read_module (append-nil q) ∙ each_module t q h)
 
-at_end : (q : Tokens) (i : ℕ) (k : Stack) (m : Mode) → Reached q i k m → (s : Step) → step i k m end_mark ≡ s → ShapedStep i s → Says (q ++ []) (resume (λ k m. faulty []) s [])
+at_end : (q : Tokens) (i : ℕ) (k : Stack) (m : Mode) → Reached q i k m → (s : Step) → step i k m end_mark ≡ s → FitsStep q (q ++ end_mark ∷ []) i s → Says (q ++ []) (resume (λ k m. faulty []) s [])
 at_end q i k m r fault e h = (q, refl, begins q i k m r, no_module q i k m r (λ is f. not_whole [] is [] (sym (ap (λ s. resume (λ k m. faulty []) s []) e) ∙ f)))
 at_end q i k m r (go d n) e h = (q, refl, begins q i k m r, no_module q i k m r (λ is f. not_whole [] is [] (sym (ap (λ s. resume (λ k m. faulty []) s []) e) ∙ f)))
 at_end q i k m r (done u) e h = h
 at_end q i k m r (done_items is) e h = let g = good_end q i k m end_mark is (r.good) e in ((refl, refl, g.0), g.1 ∙ sym (append-nil q))
 
 at_token : (q : Tokens) (i : ℕ) (k : Stack) (m : Mode) → Reached q i k m → (x : TokenKind) (l : Tokens) → ((q : Tokens) (i : ℕ) (k : Stack) (m : Mode) → Reached q i k m → Says (q ++ l) (run i k m l)) →
-    (s : Step) → step i k m x ≡ s → ShapedStep i s → Says (q ++ x ∷ l) (resume (λ k m. run (suc i) k m l) s (x ∷ l))
+    (s : Step) → step i k m x ≡ s → FitsStep q (q ++ x ∷ []) i s → Says (q ++ x ∷ l) (resume (λ k m. run (suc i) k m l) s (x ∷ l))
 at_token q i k m r x l ih fault e h =
     (q, refl, begins q i k m r, past q i k m r x (λ w is f. not_whole (x ∷ w) is [] (sym (ap (λ s. resume (λ k m. run (suc i) k m w) s (x ∷ w)) e) ∙ f)))
 at_token q i k m r x l ih (go d n) e h =
     subst (λ z. Says z (run (suc i) d n l)) (append_assoc q (x ∷ []) l)
     (ih (q ++ x ∷ []) (suc i) d n (record {
       good = good_go q i k m x d n (r.good) e;
-      shape = h;
       runs = λ w. ap read_module (append_assoc q (x ∷ []) w) ∙ r.runs (x ∷ w) ∙ ap (λ s. resume (λ k m. run (suc i) k m w) s (x ∷ w)) e;
     }))
 at_token q i k m r x l ih (done u) e h = absurd h
@@ -107,8 +104,8 @@ at_token q i k m r x l ih (done_items js) e h =
     (q, refl, begins q i k m r, past q i k m r x (λ w is f. no_rest js is x w (sym (ap (λ s. resume (λ k m. run (suc i) k m w) s (x ∷ w)) e) ∙ f)))
 
 reads : (l q : Tokens) (i : ℕ) (k : Stack) (m : Mode) → Reached q i k m → Says (q ++ l) (run i k m l)
-reads [] q i k m r = at_end q i k m r (step i k m end_mark) refl (shaped k m i end_mark (r.shape))
-reads (x ∷ l) q i k m r = at_token q i k m r x l (reads l) (step i k m x) refl (shaped k m i x (r.shape))
+reads [] q i k m r = at_end q i k m r (step i k m end_mark) refl (good_step q i k m end_mark (r.good))
+reads (x ∷ l) q i k m r = at_token q i k m r x l (reads l) (step i k m x) refl (good_step q i k m x (r.good))
 
 pub only_modules : ReadsOnlyModules
-only_modules l = reads l [] 0 [] (items_start no_item) (record { good = ((tt, tt, refl), λ l. refl); shape = tt; runs = λ w. refl })
+only_modules l = reads l [] 0 [] (items_start no_item) (record { good = ((tt, tt, refl), λ l. refl); runs = λ w. refl })

@@ -10,9 +10,10 @@ use Rattle.js_grammar.specs.Items.{Items, ImportForm, ItemForm, ExportList}
 use Rattle.code_law.specs.Frames.{Row, array_row, call_row, FunctionKind, opens_names, opens_both, opens_types, opens_exports, importing, exporting, Listing, listing, Owner, of_arrow, of_function, Waiting, parameter_type, result_type, declared_type, alias_type, cast_type, in_prefix, in_branch, in_parens, in_field, in_arrow, in_declaration, in_if_test, in_loop_test, in_if, in_else, in_loop, in_function, in_block, in_item, in_default, Mode, want, after_links, after_dot, row_start, fields_start, after_word, after_key, paren_start, paren_word, paren_mark, function_start, parameters_open, parameter_start, parameter_word, parameter_mark, parameters_end, arrow_start, settled, statements_start, after_binder, after_declared, after_return, after_simple, after_if, after_while, want_body, after_branch, after_else, items_start, after_type_word, after_type_as, after_alias, after_import, import_word, import_comma, names_start, after_name, after_as, after_pair, after_list, after_from, after_export, export_type, after_exports, exports_from, after_default, item_end, typing, Stack, Step}
 use Rattle.code_law.specs.Expressions.{after_type, takes_function}
 use Rattle.code_law.specs.Modules.{add_name}
-use Rattle.code_law.proofs.Shapes.{Hole, value_hole, body_hole, block_hole, named_hole, item_hole, function_hole, owner_hole, waiting_hole, Takes, Matches, Typing, Shaped}
+use Rattle.code_law.proofs.Shapes.{Hole, value_hole, body_hole, block_hole, named_hole, item_hole, function_hole, owner_hole, waiting_hole, Takes, Matches, Shaped}
 use Rattle.code_law.proofs.Closing.{Completes, Goes, by_token, Closer, by_paren, by_bracket, by_brace, by_colon, by_semicolon, closer, Closes, after_closed, settles, wants, statements, bodies, items, closes, simples, stmts, branched, blocks}
-use Rattle.code_law.proofs.Typed.{begin_typing, after_typing}
+use Rattle.code_law.proofs.Typing.{Typing, typing_at}
+use Rattle.code_law.proofs.Typed.{after_typing}
 
 -- an expression is written as a number
 numbered : (k : Stack) → Takes value_hole k → (i j : ℕ) → Completes j k (after_links (ex i j (number [])) no_link)
@@ -57,7 +58,7 @@ v_type (cast_type s e os d) k h i z a m q r = cast (closes k h)
     cast (by_semicolon, f) = after_typing i k (cast_type s e os d) z a m q r (Punct Semicolon) refl (λ j t. f j _)
 
 v_typed : (w : Waiting) (k : Stack) → Takes (waiting_hole w) k → (i : ℕ) → Completes i k (typing w [] ty.want)
-v_typed w k h i = v_type w k h i i [] ty.want [] (begin_typing (takes_function w) i)
+v_typed w k h i = let r = typing_at (takes_function w) i i refl in v_type w k h i i [] ty.want (r.0) (r.1)
 
 v_row : (r : Row) (k : Stack) → Takes value_hole k → (i : ℕ) (es : Exs) → Completes i k (row_start r es)
 v_row (array_row s) k h i es = by_token i k (row_start (array_row s) es) (Punct CloseBracket) (after_closed k (closes k h) (suc i) _ _)
