@@ -7,7 +7,6 @@ use Rattle.js_grammar.specs.Words.{Bytes, IsName}
 use Rattle.js_grammar.specs.TypeSpelling.{Tokens, opt, spell_key}
 use Rattle.js_grammar.specs.TypeFits.{bump, FitsKey, CommaFits}
 use Rattle.js_grammar.proofs.Sound as typed
-use Rattle.js_grammar.proofs.Kept as typed_places
 use Rattle.js_grammar.specs.Code.{Level, relation_level, rank, operand_rank, level_of, Ex, primary_rank, Links, Operands, Parameters, has_parameters, has_prefixes, has_arms, has_branches, ex_rank, is_target}
 use Rattle.js_grammar.specs.CodeSpelling.{mark_of, binder_word, spell_prefixes, spell_annotation, spell_name, spell_sig, spell_named, spell_parameters, spell_ex, spell_listed, spell_links, spell_operands, spell_entries, spell_arms, spell_stmts, spell_simple, spell_branches, spell_elses}
 use Rattle.js_grammar.specs.CodePlaces.{stop_prefixes, stop_annotation, stop_name, stop_named, stop_parameters, stop_sig, stop_ex, stop_listed, stop_links, stop_operands, stop_entries, stop_arms, stop_stmts, stop_simple, stop_branches, stop_elses}
@@ -17,6 +16,7 @@ use Rattle.code_law.specs.Frames.{Row, array_row, call_row, FunctionKind, is_val
 use Rattle.code_law.specs.Expressions.{may_arrow, takes_function}
 use Rattle.code_law.specs.Statements.{StatementWord, begins_function, plain_word, statement_word}
 use Rattle.code_law.specs.Modules.{has_names}
+use Rattle.code_law.proofs.Typing.{Typing}
 use Rattle.code_law.proofs.Ladder.{tier_ex, floor}
 
 abbrev pub import_token : TokenKind
@@ -515,7 +515,7 @@ FitsMode k (after_exports a is o ns) i = FitsTop k a is × FitsExportList ns (bu
 FitsMode k (exports_from a is o ns) i = FitsTop k a is × FitsExportList ns (bump o (suc a)) × (i ≡ suc (stop_export_list ns (bump o (suc a))))
 FitsMode k (after_default a is) i = FitsTop k a is × (i ≡ suc (suc a))
 FitsMode k (item_end a is y) i = FitsTop k a is × (is_short y ≡ true) × FitsItemForm y a × (suc i ≡ stop_item_form y a)
-FitsMode k (typing w a m) i = FitsWaiting k w × typed_places.FitsMode (takes_function w) (type_start w) a m i
+FitsMode k (typing w a m) i = FitsWaiting k w × (q : Tokens) × Typing (takes_function w) (type_start w) i a m q
 
 -- the items are all that the tokens q are
 abbrev pub AreRead : Tokens → Items → ℕ → Type 0

@@ -6,3 +6,4 @@ pub mod Statements
 pub mod Modules
 pub mod Machine
 pub mod Law
+pub mod Reads
