@@ -1,8 +1,6 @@
 -- What reading a module answers: by the existence of trees.
-use Rattle.std.specs.Prelude.{◌≡◌, ℕ, [], ◌∷◌, ◌++◌}
-use Rattle.js_token.specs.declared.token.TokenKind.{TokenKind}
+use Rattle.std.specs.Prelude.{◌≡◌, [], ◌∷◌, ◌++◌}
 use Rattle.js_grammar.specs.TypeSpelling.{Tokens}
-use Rattle.js_grammar.specs.Code.{Ex}
 use Rattle.js_grammar.specs.Items.{Items, Module, module_of, spell_module, stop_items, FitsModule}
 use Rattle.code_law.specs.Machine.{Outcome, faulty, whole, whole_items, read_module}
 
