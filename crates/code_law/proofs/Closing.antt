@@ -1,19 +1,17 @@
 -- Each open form can be closed: some tokens lead from a state whose stack waits for what it has to a whole module.
-use Rattle.std.proofs.Common.{◌≡◌, refl, sym, ◌∙◌, ap, subst, ℕ, suc, Bool, true, false, [], ◌∷◌, codes, if◌then◌else◌}
+use Rattle.std.proofs.Common.{◌≡◌, refl, ℕ, suc, [], ◌∷◌}
 use Rattle.js_token.specs.declared.token.TokenKind.{TokenKind}
-use Rattle.js_token.specs.declared.token.TokenKind.TheVariants.{Name, Number, Str, Punct}
-use Rattle.js_token.specs.declared.punct.Punct.TheVariants.{OpenBrace, CloseBrace, OpenParen, CloseParen, OpenBracket, CloseBracket, Dot, Comma, Semicolon, Colon, Question, Assign, Arrow as ArrowMark}
-use Rattle.js_grammar.specs.Words.{Bytes}
+use Rattle.js_token.specs.declared.token.TokenKind.TheVariants.{Number, Punct}
+use Rattle.js_token.specs.declared.punct.Punct.TheVariants.{OpenBrace, CloseBrace, CloseParen, CloseBracket, Semicolon, Colon}
 use Rattle.js_grammar.specs.TypeSpelling.{Tokens}
-use Rattle.js_grammar.specs.Code.{Ex, ex, number, parens, prefixed, chain, cond, arrow, arrow_value, arrow_block, more_operand, operand, right_side, more_arm, arm, Block, block, Stmt, Stmts, no_stmt, more_stmt, stmt, function, function_ex, Function, Declaration, declaration, Simple, simple, Links, no_link, more_link, link, index, more_field, field, valued, more_ex, Branches, Exs}
-use Rattle.js_grammar.specs.Items.{Items, more_item, item, ItemForm}
-use Rattle.code_law.specs.Frames.{Row, array_row, call_row, FunctionKind, is_value, is_statement, is_default, in_prefix, in_chain, in_last, in_branch, in_parens, in_row, in_index, in_field, in_arrow, in_body, in_simple, in_declaration, in_if_test, in_loop_test, in_if, in_else, in_loop, in_function, in_block, in_item, in_default, Mode, want, after_links, settled, statements_start, want_body, after_branch, items_start, Stack, Step, fault, go, done, done_items, start_ex, start_sig, start_key}
-use Rattle.code_law.specs.Bodies.{give_stmt, give_body, give_item, give_declaration, give_function, give_block, end_simple, end_value, verb_form}
-use Rattle.code_law.specs.Ladder.{after_item, after_field, close, settle}
-use Rattle.code_law.specs.Expressions.{links_step, linked}
-use Rattle.code_law.specs.Statements.{statements_step, branch_step}
-use Rattle.code_law.specs.Machine.{step, Outcome, faulty, whole, whole_items, resume, run}
-use Rattle.code_law.proofs.Shapes.{Hole, value_hole, simple_hole, body_hole, statement_hole, block_hole, named_hole, default_hole, item_hole, function_hole, Takes}
+use Rattle.js_grammar.specs.Code.{Ex, ex, number, parens, prefixed, chain, cond, arrow, arrow_value, more_operand, operand, right_side, more_arm, arm, Block, block, Stmt, Stmts, no_stmt, more_stmt, function, Function, Declaration, declaration, Simple, simple, Links, no_link, more_link, link, index, Branches}
+use Rattle.js_grammar.specs.Items.{Items}
+use Rattle.code_law.specs.Frames.{array_row, call_row, FunctionKind, is_value, is_statement, is_default, in_prefix, in_chain, in_last, in_branch, in_parens, in_row, in_index, in_field, in_arrow, in_body, in_simple, in_declaration, in_if_test, in_loop_test, in_if, in_else, in_loop, in_function, in_block, in_item, in_default, Mode, want, after_links, settled, statements_start, want_body, after_branch, items_start, Stack, Step, fault, go, done, done_items, start_ex, start_sig}
+use Rattle.code_law.specs.Bodies.{give_stmt, give_declaration, give_function, give_block, end_simple, verb_form}
+use Rattle.code_law.specs.Ladder.{close}
+use Rattle.code_law.specs.Expressions.{linked}
+use Rattle.code_law.specs.Machine.{step, whole_items, resume, run}
+use Rattle.code_law.proofs.Shapes.{value_hole, simple_hole, statement_hole, block_hole, named_hole, default_hole, item_hole, Takes}
 
 -- some tokens lead from the state to a whole module
 abbrev pub Completes : ℕ → Stack → Mode → Type 0

@@ -1,5 +1,5 @@
 -- Each step keeps what its state stands for: the tokens that are read, and the trees that it holds.
-use Rattle.std.proofs.Common.{◌≡◌, refl, ℕ, suc, [], ◌∷◌, ◌++◌}
+use Rattle.std.proofs.Common.{ℕ, ◌∷◌}
 use Rattle.js_token.specs.declared.token.TokenKind.{TokenKind}
 use Rattle.js_grammar.specs.TypeSpelling.{Tokens}
 use Rattle.code_law.specs.Frames.{Mode, want, after_links, after_dot, row_start, fields_start, after_word, after_key, paren_start, paren_word, paren_mark, function_start, parameters_open, parameter_start, parameter_word, parameter_mark, parameters_end, arrow_start, settled, statements_start, after_binder, after_declared, after_return, after_simple, after_if, after_while, want_body, after_branch, after_else, items_start, after_type_word, after_type_as, after_alias, after_import, import_word, import_comma, names_start, after_name, after_as, after_pair, after_list, after_from, after_export, export_type, after_exports, exports_from, after_default, item_end, typing, Stack}

@@ -1,18 +1,18 @@
 -- Whole statements, blocks and items leave states that fit.
-use Rattle.std.proofs.Common.{◌≡◌, refl, sym, ◌∙◌, ap, subst, ℕ, suc, ◌≤◌, Bool, true, false, ◌∷◌, Option, arith, if◌then◌else◌}
+use Rattle.std.proofs.Common.{◌≡◌, refl, ◌∙◌, ap, subst, ℕ, suc, ◌≤◌, Bool, true, false, ◌∷◌, Option, arith, if◌then◌else◌}
 use Rattle.js_token.specs.declared.token.TokenKind.{TokenKind}
 use Rattle.js_token.specs.declared.token.TokenKind.TheVariants.{Punct}
 use Rattle.js_token.specs.declared.punct.Punct.TheVariants.{OpenBrace, Semicolon, Assign}
 use Rattle.js_grammar.specs.Words.{Bytes}
 use Rattle.js_grammar.specs.TypeSpelling.{Tokens}
-use Rattle.js_grammar.specs.Code.{Ex, ex, ExForm, function_ex, arrow, arrow_block, primary_rank, form_rank, no_link, Sig, Function, function, Block, block, Stmts, Stmt, stmt, function_stmt, does, branches, loop, nested, Declaration, declaration, declares, Simple, simple, SimpleForm, Body, block_body, simple_body, branch, Branches, no_branch, more_branch, else_body, is_target}
+use Rattle.js_grammar.specs.Code.{Ex, ex, ExForm, function_ex, primary_rank, form_rank, no_link, Sig, function, Block, block, Stmts, Stmt, stmt, function_stmt, does, branches, loop, nested, Declaration, declares, simple, SimpleForm, Body, block_body, simple_body, branch, no_branch, more_branch, else_body, is_target}
 use Rattle.js_grammar.specs.CodeSpelling.{spell_ex, spell_stmt, spell_body, spell_declaration, spell_function, spell_block, spell_simple}
 use Rattle.js_grammar.specs.CodePlaces.{stop_ex, stop_ex_form, stop_elses, stop_sig, stop_function, stop_block, stop_stmt, stop_body, stop_declaration, stop_simple}
-use Rattle.js_grammar.specs.CodeFits.{BeginsPlain, IsNamed, FitsEx, FitsExForm, FitsBranch, FitsFunction, FitsBlock, FitsStmt, FitsDeclaration, FitsSimple, FitsSimpleForm, FitsBody}
-use Rattle.js_grammar.specs.Items.{ItemForm, Items, item, does_item, exports, export_declaration, export_function, export_default_function, declares_item, function_item, spell_items, spell_item_form, stop_item_form, IsTop, IsTopForm, FitsItemForm, FitsItem}
-use Rattle.code_law.specs.Frames.{FunctionKind, is_value, is_statement, is_default, plain_item, exported_item, default_item, Verb, returns, throws, assigns, evaluates, in_body, in_simple, in_if, in_else, in_loop, in_function, in_block, in_item, Mode, after_links, Stack, Step, fault, go, start_ex, start_sig, context}
+use Rattle.js_grammar.specs.CodeFits.{BeginsPlain, FitsEx, FitsExForm, FitsBranch, FitsFunction, FitsBlock, FitsStmt, FitsDeclaration, FitsSimple, FitsBody}
+use Rattle.js_grammar.specs.Items.{ItemForm, Items, item, does_item, exports, export_declaration, export_function, export_default_function, declares_item, function_item, spell_items, spell_item_form, stop_item_form, IsTopForm, FitsItemForm, FitsItem}
+use Rattle.code_law.specs.Frames.{FunctionKind, is_value, is_statement, is_default, plain_item, exported_item, default_item, Verb, returns, throws, assigns, evaluates, in_body, in_simple, in_if, in_else, in_loop, in_function, in_block, in_item, after_links, Stack, Step, fault, start_ex, start_sig, context}
 use Rattle.code_law.specs.Bodies.{give_stmt, give_body, give_item, give_declaration, give_function, give_block, end_simple, verb_form, end_value}
-use Rattle.code_law.proofs.States.{starts_plain, takes_ex, takes_statement, takes_block, takes_simple, takes_declaration, may_define, is_top_verb, FitsTop, FitsNamed, FitsStack, FitsMode, FitsStep, Stands}
+use Rattle.code_law.proofs.States.{starts_plain, takes_ex, takes_statement, takes_block, takes_simple, takes_declaration, may_define, FitsTop, FitsNamed, FitsStack, FitsMode, FitsStep, Stands}
 use Rattle.code_law.proofs.Stands.{begins_not}
 
 no_true : {A : Type 0} → false ≡ true → A

@@ -1,5 +1,5 @@
 -- Each step of an expression keeps what its state stands for.
-use Rattle.std.proofs.Common.{◌≡◌, refl, sym, ◌∙◌, ap, subst, ℕ, suc, ◌≤◌, Bool, true, false, [], ◌∷◌, codes, arith, if◌then◌else◌}
+use Rattle.std.proofs.Common.{◌≡◌, refl, ◌∙◌, ap, subst, ℕ, suc, ◌≤◌, Bool, true, false, ◌∷◌, codes, arith, if◌then◌else◌}
 use Rattle.std.specs.Str.{bytes_eq}
 use Rattle.std.proofs.lemmas.Slice.Eq.{bytes_eq-Decides}
 use Rattle.js_token.specs.Words.{is_reserved}
@@ -7,18 +7,18 @@ use Rattle.js_token.specs.declared.token.TokenKind.{TokenKind}
 use Rattle.js_token.specs.declared.token.TokenKind.TheVariants.{Name, Number, Str, Punct}
 use Rattle.js_token.specs.declared.punct.Punct.TheVariants.{OpenBrace, CloseBrace, OpenParen, CloseParen, OpenBracket, CloseBracket, Dot, Comma, Colon, Question, Plus, Minus, Bang}
 use Rattle.js_grammar.specs.Words.{Bytes, IsName, truth_word}
-use Rattle.js_grammar.specs.Types.{Key, key, word_key, text_key}
+use Rattle.js_grammar.specs.Types.{Key}
 use Rattle.js_grammar.specs.TypeSpelling.{Tokens, opt}
 use Rattle.js_grammar.specs.TypeFits.{bump}
-use Rattle.js_grammar.specs.Code.{Level, nullish_level, or_level, and_level, equal_level, relation_level, sum_level, product_level, operand_rank, Prefix, negation, minus_sign, plus_sign, kind_of, no_prefix, more_prefix, Ex, ex, ExForm, variable, number, text, truth_value, null_value, elements, fields, postfixed, Exs, no_ex, more_ex, has_exs, Links, no_link, more_link, link, member, call, Fields, no_field, more_field, has_fields, field, shorthand, no_arm, Sig}
-use Rattle.js_grammar.specs.CodeSpelling.{prefix_token, spell_prefixes, spell_ex, spell_exs, spell_listed, spell_links, spell_fields, spell_entries}
-use Rattle.js_grammar.specs.CodePlaces.{stop_ex, stop_exs, stop_listed, stop_fields, stop_entries}
-use Rattle.code_law.specs.Frames.{Row, array_row, call_row, in_prefix, in_chain, in_last, in_branch, in_parens, in_row, in_index, in_field, in_arrow, in_body, want, after_links, after_dot, row_start, fields_start, after_word, after_key, paren_start, paren_word, paren_mark, parameters_end, of_arrow, arrow_start, Stack, Step, fault, go, start_ex, start_sig}
+use Rattle.js_grammar.specs.Code.{Level, nullish_level, or_level, and_level, equal_level, relation_level, sum_level, product_level, operand_rank, Prefix, negation, minus_sign, plus_sign, kind_of, Ex, ex, variable, number, text, truth_value, null_value, elements, fields, Exs, no_ex, more_ex, has_exs, Links, no_link, more_link, member, call, Fields, no_field, more_field, has_fields, field, shorthand, no_arm, Sig}
+use Rattle.js_grammar.specs.CodeSpelling.{prefix_token, spell_ex, spell_exs, spell_listed, spell_links, spell_fields, spell_entries}
+use Rattle.js_grammar.specs.CodePlaces.{stop_exs, stop_listed, stop_fields, stop_entries}
+use Rattle.code_law.specs.Frames.{Row, array_row, call_row, in_prefix, in_chain, in_branch, in_parens, in_row, in_arrow, want, after_dot, row_start, fields_start, after_word, after_key, paren_start, paren_word, paren_mark, arrow_start, Stack, Step, fault, go, start_ex}
 use Rattle.code_law.specs.Ladder.{after_field}
 use Rattle.code_law.specs.Expressions.{ValueWord, variable_word, null_word, truth_of, kind_word, function_word, other_word, reserved_word, value_word, marked, may_arrow, word_step, want_step, linked, links_step, dot_step, row_step, fields_step, field_step, key_step, paren_step, paren_word_step, paren_mark_step, arrow_step}
-use Rattle.code_law.proofs.Ladder.{tier_ex, floor, tier_least}
+use Rattle.code_law.proofs.Ladder.{floor, tier_least}
 use Rattle.code_law.proofs.Typing.{typing_at}
-use Rattle.code_law.proofs.States.{spell_row, spell_mode, takes_ex, FitsLinked, FitsStack, FitsWhole, FitsMode, FitsStep, Stands}
+use Rattle.code_law.proofs.States.{spell_mode, takes_ex, FitsLinked, FitsStack, FitsWhole, FitsMode, FitsStep, Stands}
 use Rattle.code_law.proofs.Stands.{stands_moved}
 use Rattle.code_law.proofs.KeptBodies.{k_primary, k_if}
 use Rattle.code_law.proofs.KeptLadder.{link_more, k_after_field, k_settle}
@@ -138,20 +138,23 @@ module _ (q p : Tokens) (i : ℕ) where
 
     pub k_row : (r : Row) (es : Exs) → FitsMode k (row_start r es) i → (x : TokenKind) → Stands p k (λ l. spell_mode (row_start r es) (x ∷ l)) → FitsStep q p i (row_step i k r es x)
     k_row (array_row z) es h (Punct CloseBracket) s =
-        let r : 10 ≤ 10 = omega arith in
-        (k_primary k i z (elements es (has_exs es)) (h.0) (h.1) r (h.2, λ e. e) (ap suc (h.3 ∙ listed_stop es (suc z))),
-        stands_moved p k (λ l. Punct OpenBracket ∷ spell_listed es (Punct CloseBracket ∷ l)) _ (λ l. ap (λ l. Punct OpenBracket ∷ l) (listed_spelled es (Punct CloseBracket ∷ l))) s)
-    k_row (call_row b ls z) es h (Punct CloseParen) s =
-        ((h.0, h.1.0, link_more b ls z i (call es (has_exs es)) (h.1.1) (h.2, λ e. e) (ap suc (h.3 ∙ listed_stop es (suc z)))),
-        stands_moved p k (λ l. spell_ex b (spell_links ls (Punct OpenParen ∷ spell_listed es (Punct CloseParen ∷ l)))) _ (λ l. ap (λ l. spell_ex b (spell_links ls (Punct OpenParen ∷ l))) (listed_spelled es (Punct CloseParen ∷ l))) s)
+        let r : 10 ≤ 10 = omega arith in (
+          k_primary k i z (elements es (has_exs es)) (h.0) (h.1) r (h.2, λ e. e) (ap suc (h.3 ∙ listed_stop es (suc z))),
+          stands_moved p k (λ l. Punct OpenBracket ∷ spell_listed es (Punct CloseBracket ∷ l)) _ (λ l. ap (λ l. Punct OpenBracket ∷ l) (listed_spelled es (Punct CloseBracket ∷ l))) s,
+        )
+    k_row (call_row b ls z) es h (Punct CloseParen) s = (
+      (h.0, h.1.0, link_more b ls z i (call es (has_exs es)) (h.1.1) (h.2, λ e. e) (ap suc (h.3 ∙ listed_stop es (suc z)))),
+      stands_moved p k (λ l. spell_ex b (spell_links ls (Punct OpenParen ∷ spell_listed es (Punct CloseParen ∷ l)))) _ (λ l. ap (λ l. spell_ex b (spell_links ls (Punct OpenParen ∷ l))) (listed_spelled es (Punct CloseParen ∷ l))) s,
+    )
     k_row (array_row z) es h x s = k_want (in_row (array_row z) es ∷ k) x ((h.1, h.2, h.3), h.0) refl (tt, s)
     k_row (call_row b ls z) es h x s = k_want (in_row (call_row b ls z) es ∷ k) x ((h.1, h.2, h.3), h.0) refl (tt, s)
 
     pub k_fields : (z : ℕ) (fs : Fields) → FitsMode k (fields_start z fs) i → (x : TokenKind) → Stands p k (λ l. spell_mode (fields_start z fs) (x ∷ l)) → FitsStep q p i (fields_step i k z fs x)
     k_fields z fs h (Punct CloseBrace) s =
-        let r : 10 ≤ 10 = omega arith in
-        (k_primary k i z (fields fs (has_fields fs)) (h.0) (h.1) r (h.2, λ e. e) (ap suc (h.3 ∙ entries_stop fs (suc z))),
-        stands_moved p k (λ l. Punct OpenBrace ∷ spell_entries fs (Punct CloseBrace ∷ l)) _ (λ l. ap (λ l. Punct OpenBrace ∷ l) (entries_spelled fs (Punct CloseBrace ∷ l))) s)
+        let r : 10 ≤ 10 = omega arith in (
+          k_primary k i z (fields fs (has_fields fs)) (h.0) (h.1) r (h.2, λ e. e) (ap suc (h.3 ∙ entries_stop fs (suc z))),
+          stands_moved p k (λ l. Punct OpenBrace ∷ spell_entries fs (Punct CloseBrace ∷ l)) _ (λ l. ap (λ l. Punct OpenBrace ∷ l) (entries_spelled fs (Punct CloseBrace ∷ l))) s,
+        )
     k_fields z fs h (Name n) s = ((h.0, h.1, h.2, h.3, refl), s)
     k_fields z fs h (Str n) s = ((h.0, h.1, h.2, (h.3, ap suc (h.3)), ap suc (h.3)), s)
     k_fields z fs h _ s = tt

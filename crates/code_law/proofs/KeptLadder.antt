@@ -9,17 +9,17 @@ use Rattle.js_token.specs.declared.punct.Punct.TheVariants.{OpenBrace, CloseBrac
 use Rattle.js_grammar.specs.Types.{Key, key}
 use Rattle.js_grammar.specs.TypeSpelling.{Tokens}
 use Rattle.js_grammar.specs.TypeFits.{FitsKey}
-use Rattle.js_grammar.specs.Code.{Level, nullish_level, or_level, and_level, equal_level, relation_level, sum_level, product_level, rank, operand_rank, Operator, level_of, Ex, ex, ExForm, parens, elements, prefixed, chain, cond, arrow, fields, form_rank, ex_rank, is_cond, Exs, more_ex, link, Link, LinkForm, index, call, Links, more_link, Operands, no_operand, more_operand, operand, right_side, Fields, more_field, Field, field, valued, Arms, no_arm, more_arm, arm, arrow_value, declaration}
+use Rattle.js_grammar.specs.Code.{Level, nullish_level, or_level, and_level, equal_level, relation_level, sum_level, product_level, rank, operand_rank, Operator, Ex, ex, parens, elements, prefixed, chain, cond, arrow, fields, form_rank, ex_rank, is_cond, Exs, more_ex, link, LinkForm, index, call, Links, more_link, Operands, no_operand, more_operand, operand, right_side, Fields, more_field, Field, field, valued, Arms, no_arm, arrow_value, declaration}
 use Rattle.js_grammar.specs.CodeSpelling.{mark_of, spell_ex, spell_exs, spell_operands, spell_fields}
-use Rattle.js_grammar.specs.CodePlaces.{stop_ex, stop_exs, stop_fields, stop_annotation, stop_entries, stop_link_form, stop_links, stop_operands, stop_arms}
-use Rattle.js_grammar.specs.CodeFits.{FitsEx, FitsExs, FitsLink, FitsLinkForm, FitsFields, FitsOperand, FitsArm, FitsArms}
+use Rattle.js_grammar.specs.CodePlaces.{stop_ex, stop_exs, stop_fields, stop_entries, stop_link_form, stop_operands, stop_arms}
+use Rattle.js_grammar.specs.CodeFits.{FitsEx, FitsExs, FitsLink, FitsLinkForm, FitsFields, FitsOperand, FitsArms}
 use Rattle.js_grammar.specs.Items.{exports, export_default}
-use Rattle.code_law.specs.Frames.{Row, array_row, call_row, cast_type, in_prefix, in_chain, in_last, in_branch, in_parens, in_row, in_index, in_field, in_arrow, in_simple, in_declaration, in_if_test, in_loop_test, in_default, Mode, after_links, Stack, Step, fault, go, start_ex, start_sig, start_key}
+use Rattle.code_law.specs.Frames.{Row, array_row, call_row, in_prefix, in_chain, in_last, in_branch, in_parens, in_row, in_index, in_field, in_arrow, in_simple, in_declaration, in_if_test, in_loop_test, in_default, Stack, Step, fault, start_ex, start_sig, start_key}
 use Rattle.code_law.specs.Ladder.{Joint, applies, casts, Turn, joins, asks, sticks, ends, turn, joint_level, after_item, after_field, close, ask_test, ask, begin, open_chain, join, settle_at, settle}
-use Rattle.code_law.proofs.Ladder.{tier_ex, floor, rank_most}
+use Rattle.code_law.proofs.Ladder.{tier_ex, floor}
 use Rattle.code_law.proofs.Typing.{typing_at}
-use Rattle.code_law.proofs.States.{as_token, spell_row, not_brace, not_function, takes_ex, start_row, place_row, FitsLinked, FitsRow, FitsHead, FitsStack, FitsWhole, FitsMode, FitsStep, Stands}
-use Rattle.code_law.proofs.Stands.{stands_moved, begins_not}
+use Rattle.code_law.proofs.States.{as_token, spell_row, not_brace, not_function, takes_ex, start_row, place_row, FitsLinked, FitsRow, FitsHead, FitsStack, FitsWhole, FitsStep, Stands}
+use Rattle.code_law.proofs.Stands.{begins_not}
 use Rattle.code_law.proofs.KeptBodies.{start-of, k_primary, k_if, k_item, k_declaration, k_end_value}
 
 no_true : {A : Type 0} → false ≡ true → A

@@ -1,28 +1,28 @@
 -- Each step at top level keeps what its state stands for.
-use Rattle.std.proofs.Common.{◌≡◌, refl, sym, ◌∙◌, ap, subst, ℕ, suc, ◌≤◌, arith, Bool, true, false, not, Option, Some, None, List, [], ◌∷◌, ◌++◌, append_assoc, codes, if◌then◌else◌}
+use Rattle.std.proofs.Common.{◌≡◌, refl, sym, ◌∙◌, ap, subst, ℕ, suc, ◌≤◌, arith, Bool, true, false, not, Option, Some, None, List, [], ◌∷◌, ◌++◌, codes, if◌then◌else◌}
 use Rattle.std.specs.Str.{bytes_eq}
 use Rattle.std.proofs.lemmas.Slice.Eq.{bytes_eq-Decides}
 use Rattle.js_token.specs.Words.{is_reserved}
 use Rattle.js_token.specs.declared.token.TokenKind.{TokenKind}
-use Rattle.js_token.specs.declared.token.TokenKind.TheVariants.{Name, Number, Str, Punct}
+use Rattle.js_token.specs.declared.token.TokenKind.TheVariants.{Name, Str, Punct}
 use Rattle.js_token.specs.declared.punct.Punct.TheVariants.{OpenBrace, CloseBrace, Comma, Semicolon, Assign, PlusPlus}
 use Rattle.js_grammar.specs.Words.{Bytes, IsName}
 use Rattle.js_grammar.specs.TypeSpelling.{Tokens, opt}
 use Rattle.js_grammar.specs.TypeFits.{bump, CommaFits}
 use Rattle.js_grammar.specs.Machine as ty
 use Rattle.js_grammar.proofs.Sound.{so_far}
-use Rattle.js_grammar.specs.Code.{Binder, const, let_word, Ex, ex, variable, Links, no_link, no_operand}
-use Rattle.js_grammar.specs.CodeSpelling.{binder_word, spell_ex, spell_links}
-use Rattle.js_grammar.specs.Items.{Importeds, no_imported, more_imported, imported, import_list, Exporteds, no_exported, more_exported, exported, ExportList, export_list, ImportForm, import_default, import_both, import_names, import_types, import_only, export_names, export_from, ItemForm, imports, exports, Items, more_item, item, has_importeds, has_exporteds, base_names, IsNoneOf, AreNames, AreLocal, from_word, type_word, spell_importeds, spell_begun_imports, spell_exporteds, spell_begun_exports, spell_items, spell_item_form, spell_import, spell_export_list, stop_import, stop_importeds, stop_begun_imports, stop_exporteds, stop_begun_exports, stop_item_form, stop_items, FitsImporteds, FitsImportList, FitsExporteds, FitsExportList, FitsItemForm}
-use Rattle.code_law.specs.Frames.{Wrap, plain_item, exported_item, default_item, Opening, opens_names, opens_both, opens_types, opens_exports, Names, importing, exporting, Listing, listing, Waiting, alias_type, cast_type, Frame, in_arrow, in_simple, in_item, in_default, evaluates, after_binder, function_start, is_statement, items_start, after_type_word, after_type_as, after_alias, after_import, import_word, import_comma, names_start, after_name, after_as, after_pair, after_list, after_from, after_export, export_type, after_exports, exports_from, after_default, item_end, typing, Stack, Step, fault, go, start_ex}
+use Rattle.js_grammar.specs.Code.{Ex, ex, variable, Links, no_link, no_operand}
+use Rattle.js_grammar.specs.CodeSpelling.{spell_ex, spell_links}
+use Rattle.js_grammar.specs.Items.{Importeds, no_imported, more_imported, import_list, Exporteds, no_exported, more_exported, exported, ExportList, export_list, ImportForm, import_default, import_both, import_names, import_types, import_only, export_names, export_from, ItemForm, imports, exports, Items, has_importeds, has_exporteds, base_names, IsNoneOf, AreNames, AreLocal, from_word, type_word, spell_items, spell_item_form, spell_import, spell_export_list, stop_import, stop_importeds, stop_exporteds, stop_item_form, FitsImporteds, FitsImportList, FitsExporteds, FitsExportList, FitsItemForm}
+use Rattle.code_law.specs.Frames.{Wrap, plain_item, exported_item, Opening, opens_names, opens_both, opens_types, opens_exports, Names, importing, exporting, Listing, listing, Waiting, cast_type, in_simple, in_item, in_default, evaluates, after_type_word, after_type_as, after_alias, after_import, import_word, import_comma, names_start, after_name, after_as, after_pair, after_list, after_from, after_export, export_type, after_exports, exports_from, after_default, item_end, Stack, Step, fault, go, start_ex}
 use Rattle.code_law.specs.Bodies.{give_item}
-use Rattle.code_law.specs.Expressions.{want_step, links_step, typed, takes_function, inside}
-use Rattle.code_law.specs.Statements.{StatementWord, binds, begins_function, if_word, else_word, while_word, return_word, throw_word, break_word, continue_word, begins_import, begins_export, plain_word, reserved_statement, statement_word, simple_word, simple_step}
+use Rattle.code_law.specs.Expressions.{want_step, links_step, takes_function, inside}
+use Rattle.code_law.specs.Statements.{StatementWord, binds, begins_function, begins_import, begins_export, plain_word, statement_word, simple_word}
 use Rattle.code_law.specs.Modules.{top_word, items_step, is_none_of, may_alias, type_word_step, type_as_step, alias_step, import_step, from_step, import_word_step, import_comma_step, add_name, has_names, may_name, end_names, names_step, pair_step, name_step, as_step, source_step, end_item, export_word, export_step, export_type_step, are_names, are_local, exports_step, exports_from_step, default_word, default_step}
 use Rattle.code_law.proofs.StatementWords.{IsStatement, statement_is}
 use Rattle.code_law.proofs.Stands.{stands_moved}
 use Rattle.code_law.proofs.Typing.{Typing, typing_at}
-use Rattle.code_law.proofs.States.{import_token, export_token, default_token, as_token, spell_listing, spell_pair, imports_names, spell_wrap, spell_opening, spell_begun_names, spell_names, spell_before, spell_short, spell_waiting, spell_frame, spell_mode, starts_plain, not_function, not_function_word, is_plain_word, Opens, Claim, Stands, takes_ex, IsBottom, FitsTop, FitsStack, FitsLinked, FitsNames, FitsOpening, FitsListing, takes_simple, stop_names, stop_begun_names, begun_end, names_end, stop_before, is_short, may_wrap, FitsAliasAt, FitsWaiting, type_start, start_wrapped, FitsMode, AreRead, FitsStep}
+use Rattle.code_law.proofs.States.{import_token, export_token, default_token, as_token, spell_listing, spell_pair, imports_names, spell_opening, spell_begun_names, spell_names, spell_before, spell_short, spell_waiting, spell_mode, starts_plain, not_function_word, is_plain_word, Stands, takes_ex, IsBottom, FitsTop, FitsStack, FitsLinked, FitsNames, FitsOpening, FitsListing, takes_simple, stop_names, stop_begun_names, begun_end, names_end, stop_before, is_short, FitsWaiting, type_start, FitsMode, FitsStep}
 
 no_true : {A : Type 0} → false ≡ true → A
 no_true e = absurd (let f : false ≡ true = e in cc)
@@ -177,16 +177,20 @@ module _ (q p : Tokens) (i : ℕ) (k : Stack) where
 
   pub k_from : (a : ℕ) (is : Items) (m : ImportForm) → FitsMode k (after_list a is m) i → (x : TokenKind) → Stands p k (λ l. spell_mode (after_list a is m) (x ∷ l)) → FitsStep q p i (from_step k a is m x)
   k_from a is m h (Name n) s =
-      k_if q p i (bytes_eq n (codes "from")) (go k (after_from a is m)) (λ e. ((h.0, h.1, h.2, ap suc (h.3) ∙ sym (stop_from m (h.2) (suc a))),
-      stands_same p k (λ l. spell_items is (import_token ∷ spell_before m (Name n ∷ l))) (λ l. spell_items is (import_token ∷ spell_import m l))
-      (λ l. ap (λ z. spell_items is (import_token ∷ z)) (ap (λ n. spell_before m (Name n ∷ l)) (sym (is_word n (codes "from") e)) ∙ spell_from m (h.2) l)) s))
+      k_if q p i (bytes_eq n (codes "from")) (go k (after_from a is m)) (λ e. (
+        (h.0, h.1, h.2, ap suc (h.3) ∙ sym (stop_from m (h.2) (suc a))),
+        stands_same p k (λ l. spell_items is (import_token ∷ spell_before m (Name n ∷ l))) (λ l. spell_items is (import_token ∷ spell_import m l))
+            (λ l. ap (λ z. spell_items is (import_token ∷ z)) (ap (λ n. spell_before m (Name n ∷ l)) (sym (is_word n (codes "from") e)) ∙ spell_from m (h.2) l)) s,
+      ))
   k_from a is m h _ s = tt
 
   pub k_import_word : (a : ℕ) (is : Items) (n : Bytes) → FitsMode k (import_word a is n) i → (x : TokenKind) → Stands p k (λ l. spell_mode (import_word a is n) (x ∷ l)) → FitsStep q p i (import_word_step i k a is n x)
   k_import_word a is n h (Punct OpenBrace) s =
-      k_if q p i (bytes_eq n (codes "type")) (go k (names_start (listing a is opens_types i (importing no_imported)))) (λ e. (((h.0, h.2, tt), refl),
-      stands_same p k (λ l. spell_items is (import_token ∷ Name n ∷ Punct OpenBrace ∷ l)) (λ l. spell_items is (import_token ∷ type_word ∷ Punct OpenBrace ∷ l))
-      (λ l. ap (λ n. spell_items is (import_token ∷ Name n ∷ Punct OpenBrace ∷ l)) (sym (is_word n (codes "type") e))) s))
+      k_if q p i (bytes_eq n (codes "type")) (go k (names_start (listing a is opens_types i (importing no_imported)))) (λ e. (
+        ((h.0, h.2, tt), refl),
+        stands_same p k (λ l. spell_items is (import_token ∷ Name n ∷ Punct OpenBrace ∷ l)) (λ l. spell_items is (import_token ∷ type_word ∷ Punct OpenBrace ∷ l))
+            (λ l. ap (λ n. spell_items is (import_token ∷ Name n ∷ Punct OpenBrace ∷ l)) (sym (is_word n (codes "type") e))) s,
+      ))
   k_import_word a is n h (Punct Comma) s = ((h.0, h.1, ap suc (h.2)), s)
   k_import_word a is n h x s = k_from a is (import_default n) (h.0, h.1, refl, h.2) x s
 
@@ -236,16 +240,20 @@ module _ (q p : Tokens) (i : ℕ) (k : Stack) where
 
   pub k_name : (r : Listing) (b : ℕ) (n : Bytes) → FitsMode k (after_name r b n) i → (x : TokenKind) → Stands p k (λ l. spell_mode (after_name r b n) (x ∷ l)) → FitsStep q p i (name_step i k r b n x)
   k_name r b n h (Name m) s =
-      k_if q p i (bytes_eq m (codes "as")) (go k (after_as r b n)) (λ e. ((h.0, h.1, ap suc (h.2)),
-      stands_same p k (λ l. spell_listing r (Name n ∷ Name m ∷ l)) (λ l. spell_listing r (Name n ∷ as_token ∷ l)) (λ l. ap (λ m. spell_listing r (Name n ∷ Name m ∷ l)) (sym (is_word m (codes "as") e))) s))
+      k_if q p i (bytes_eq m (codes "as")) (go k (after_as r b n)) (λ e. (
+        (h.0, h.1, ap suc (h.2)),
+        stands_same p k (λ l. spell_listing r (Name n ∷ Name m ∷ l)) (λ l. spell_listing r (Name n ∷ as_token ∷ l)) (λ l. ap (λ m. spell_listing r (Name n ∷ Name m ∷ l)) (sym (is_word m (codes "as") e))) s,
+      ))
   k_name r b n h x s =
       k_if q p i (may_name r n) (pair_step i k (add_name r b i n None) x) (λ e. k_pair (add_name r b i n None) (added k r b i n None (h.0) (h.1) (h.2) e) x
       (stands_same p k (λ l. spell_listing r (Name n ∷ x ∷ l)) (λ l. spell_pair (add_name r b i n None) (x ∷ l)) (λ l. added_spelled r b i n None (x ∷ l)) s))
 
   pub k_as : (r : Listing) (b : ℕ) (n : Bytes) → FitsMode k (after_as r b n) i → (x : TokenKind) → Stands p k (λ l. spell_mode (after_as r b n) (x ∷ l)) → FitsStep q p i (as_step i k r b n x)
   k_as r b n h (Name m) s =
-      k_if q p i (may_name r m) (go k (after_pair (add_name r b (suc i) n (Some m)))) (λ e. (added k r b (suc i) n (Some m) (h.0) (h.1) (ap suc (h.2)) e,
-      stands_same p k (λ l. spell_listing r (Name n ∷ as_token ∷ Name m ∷ l)) (λ l. spell_pair (add_name r b (suc i) n (Some m)) l) (λ l. added_spelled r b (suc i) n (Some m) l) s))
+      k_if q p i (may_name r m) (go k (after_pair (add_name r b (suc i) n (Some m)))) (λ e. (
+        added k r b (suc i) n (Some m) (h.0) (h.1) (ap suc (h.2)) e,
+        stands_same p k (λ l. spell_listing r (Name n ∷ as_token ∷ Name m ∷ l)) (λ l. spell_pair (add_name r b (suc i) n (Some m)) l) (λ l. added_spelled r b (suc i) n (Some m) l) s,
+      ))
   k_as r b n h _ s = tt
 
   pub k_export_type : (a : ℕ) (is : Items) (b : ℕ) → FitsMode k (export_type a is b) i → (x : TokenKind) → Stands p k (λ l. spell_mode (export_type a is b) (x ∷ l)) → FitsStep q p i (export_type_step i k a is b x)
@@ -255,9 +263,11 @@ module _ (q p : Tokens) (i : ℕ) (k : Stack) where
 
   pub k_exports : (a : ℕ) (is : Items) (o : Bool) (ns : ExportList) → FitsMode k (after_exports a is o ns) i → (x : TokenKind) → Stands p k (λ l. spell_mode (after_exports a is o ns) (x ∷ l)) → FitsStep q p i (exports_step i k a is o ns x)
   k_exports a is o ns h (Name n) s =
-      k_if q p i (bytes_eq n (codes "from")) (go k (exports_from a is o ns)) (λ e. ((h.0, h.1, ap suc (h.2)),
-      stands_same p k (λ l. spell_items is (export_token ∷ opt o type_word (spell_export_list ns (Name n ∷ l)))) (λ l. spell_items is (export_token ∷ opt o type_word (spell_export_list ns (from_word ∷ l))))
-      (λ l. ap (λ n. spell_items is (export_token ∷ opt o type_word (spell_export_list ns (Name n ∷ l)))) (sym (is_word n (codes "from") e))) s))
+      k_if q p i (bytes_eq n (codes "from")) (go k (exports_from a is o ns)) (λ e. (
+        (h.0, h.1, ap suc (h.2)),
+        stands_same p k (λ l. spell_items is (export_token ∷ opt o type_word (spell_export_list ns (Name n ∷ l)))) (λ l. spell_items is (export_token ∷ opt o type_word (spell_export_list ns (from_word ∷ l))))
+            (λ l. ap (λ n. spell_items is (export_token ∷ opt o type_word (spell_export_list ns (Name n ∷ l)))) (sym (is_word n (codes "from") e))) s,
+      ))
   k_exports a is o ns h x s = k_if q p i (are_local ns) (end_item i k a is (exports (export_names o ns)) x) (λ e. k_end_item a is (exports (export_names o ns)) (h.0, refl, (local_is ns e, h.1), ap suc (h.2)) x s)
 
   pub k_exports_from : (a : ℕ) (is : Items) (o : Bool) (ns : ExportList) → FitsMode k (exports_from a is o ns) i → (x : TokenKind) → Stands p k (λ l. spell_mode (exports_from a is o ns) (x ∷ l)) → FitsStep q p i (exports_from_step k a is o ns x)
@@ -282,58 +292,58 @@ module _ (q p : Tokens) (i : ℕ) (k : Stack) where
       (k_want : (k : Stack) (x : TokenKind) → FitsStack k i → takes_ex k ≡ true → Stands p k (λ l. x ∷ l) → FitsStep q p i (want_step i k x))
       (k_links : (k : Stack) (b : Ex) (ls : Links) (x : TokenKind) → FitsStack k (start_ex b) → takes_ex k ≡ true → FitsLinked b ls i → Stands p k (λ l. spell_ex b (spell_links ls (x ∷ l))) → FitsStep q p i (links_step i k b ls x))
       (k_typing : (k : Stack) (w : Waiting) (a : ty.Stack) (m : ty.Mode) (t : Tokens) (x : TokenKind) → FitsWaiting k w → Typing (takes_function w) (type_start w) i a m t → Stands p k (λ l. spell_waiting w (so_far a m (x ∷ l))) →
-          FitsStep q p i (inside i k w (ty.step (takes_function w) i a m x) x))
+      FitsStep q p i (inside i k w (ty.step (takes_function w) i a m x) x))
     where
-    k_plain : (d : Stack) (x : TokenKind) → FitsStack d i → takes_simple d true ≡ true → starts_plain x ≡ true → Stands p d (λ l. x ∷ l) → FitsStep q p i (want_step i (in_simple i evaluates ∷ d) x)
-    k_plain d x h t e s = k_want (in_simple i evaluates ∷ d) x ((t, refl), h) refl ((x, e, λ l. (l, refl)), s)
+      k_plain : (d : Stack) (x : TokenKind) → FitsStack d i → takes_simple d true ≡ true → starts_plain x ≡ true → Stands p d (λ l. x ∷ l) → FitsStep q p i (want_step i (in_simple i evaluates ∷ d) x)
+      k_plain d x h t e s = k_want (in_simple i evaluates ∷ d) x ((t, refl), h) refl ((x, e, λ l. (l, refl)), s)
 
-    k_top_word : (is : Items) → FitsTop k i is → (n : Bytes) (w : StatementWord) → statement_word n ≡ w → IsStatement w n → Stands p k (λ l. spell_items is (Name n ∷ l)) → FitsStep q p i (top_word i k is n w)
-    k_top_word is t n (binds w) d e s = ((((t, refl), stack_bottom k (t.0)), refl, refl), (tt, stands_same p k _ _ (λ l. ap (λ n. spell_items is (Name n ∷ l)) e) s))
-    k_top_word is t n begins_function d e s = ((((t, refl), stack_bottom k (t.0)), refl, refl), (tt, stands_same p k _ _ (λ l. ap (λ n. spell_items is (Name n ∷ l)) e) s))
-    k_top_word is t n begins_import d e s = ((t, refl), stands_same p k _ _ (λ l. ap (λ n. spell_items is (Name n ∷ l)) e) s)
-    k_top_word is t n begins_export d e s = ((t, refl), stands_same p k _ _ (λ l. ap (λ n. spell_items is (Name n ∷ l)) e) s)
-    k_top_word is t n plain_word d e s = by (bytes_eq n (codes "type")) refl
-      where
-        by : (b : Bool) → bytes_eq n (codes "type") ≡ b → FitsStep q p i (if b then go k (after_type_word i is) else simple_word i (in_item i plain_item is ∷ k) n plain_word)
-        by true e = ((t, refl), stands_same p k _ _ (λ l. ap (λ n. spell_items is (Name n ∷ l)) (sym (is_word n (codes "type") e))) s)
-        by false e = k_plain (in_item i plain_item is ∷ k) (Name n) ((t, refl), stack_bottom k (t.0)) refl (ap is_plain_word d) (tt, s)
-    k_top_word is t n w d e s = tt
+      k_top_word : (is : Items) → FitsTop k i is → (n : Bytes) (w : StatementWord) → statement_word n ≡ w → IsStatement w n → Stands p k (λ l. spell_items is (Name n ∷ l)) → FitsStep q p i (top_word i k is n w)
+      k_top_word is t n (binds w) d e s = ((((t, refl), stack_bottom k (t.0)), refl, refl), (tt, stands_same p k _ _ (λ l. ap (λ n. spell_items is (Name n ∷ l)) e) s))
+      k_top_word is t n begins_function d e s = ((((t, refl), stack_bottom k (t.0)), refl, refl), (tt, stands_same p k _ _ (λ l. ap (λ n. spell_items is (Name n ∷ l)) e) s))
+      k_top_word is t n begins_import d e s = ((t, refl), stands_same p k _ _ (λ l. ap (λ n. spell_items is (Name n ∷ l)) e) s)
+      k_top_word is t n begins_export d e s = ((t, refl), stands_same p k _ _ (λ l. ap (λ n. spell_items is (Name n ∷ l)) e) s)
+      k_top_word is t n plain_word d e s = by (bytes_eq n (codes "type")) refl
+        where
+          by : (b : Bool) → bytes_eq n (codes "type") ≡ b → FitsStep q p i (if b then go k (after_type_word i is) else simple_word i (in_item i plain_item is ∷ k) n plain_word)
+          by true e = ((t, refl), stands_same p k _ _ (λ l. ap (λ n. spell_items is (Name n ∷ l)) (sym (is_word n (codes "type") e))) s)
+          by false e = k_plain (in_item i plain_item is ∷ k) (Name n) ((t, refl), stack_bottom k (t.0)) refl (ap is_plain_word d) (tt, s)
+      k_top_word is t n w d e s = tt
 
-    pub k_items : (is : Items) → FitsTop k i is → (x : TokenKind) → Stands q k (spell_items is) → Stands p k (λ l. spell_items is (x ∷ l)) → FitsStep q p i (items_step i k is x)
-    k_items is t (Punct PlusPlus) r s = (t.1, t.2, at_bottom q k (spell_items is) (t.0) r)
-    k_items is t (Name n) r s = k_top_word is t n (statement_word n) refl (statement_is n) s
-    k_items is t (Punct OpenBrace) r s = tt
-    k_items is t x r s = k_plain (in_item i plain_item is ∷ k) x ((t, refl), stack_bottom k (t.0)) refl refl (tt, s)
+      pub k_items : (is : Items) → FitsTop k i is → (x : TokenKind) → Stands q k (spell_items is) → Stands p k (λ l. spell_items is (x ∷ l)) → FitsStep q p i (items_step i k is x)
+      k_items is t (Punct PlusPlus) r s = (t.1, t.2, at_bottom q k (spell_items is) (t.0) r)
+      k_items is t (Name n) r s = k_top_word is t n (statement_word n) refl (statement_is n) s
+      k_items is t (Punct OpenBrace) r s = tt
+      k_items is t x r s = k_plain (in_item i plain_item is ∷ k) x ((t, refl), stack_bottom k (t.0)) refl refl (tt, s)
 
-    pub k_type_word : (a : ℕ) (is : Items) → FitsMode k (after_type_word a is) i → (x : TokenKind) → Stands p k (λ l. spell_mode (after_type_word a is) (x ∷ l)) → FitsStep q p i (type_word_step i k a is x)
-    k_type_word a is h (Name n) s = by (bytes_eq n (codes "as")) refl
-      where
-        by : (b : Bool) → bytes_eq n (codes "as") ≡ b → FitsStep q p i (if b then go k (after_type_as a i is) else if may_alias n then go k (after_alias a plain_item is a n) else fault)
-        by true e = ((h.0, h.1, refl), stands_same p k _ _ (λ l. ap (λ n. spell_items is (type_word ∷ Name n ∷ l)) (sym (is_word n (codes "as") e))) s)
-        by false e = k_if q p i (may_alias n) (go k (after_alias a plain_item is a n)) (λ e. (((h.0, refl, refl, (alias_name n e).0, (alias_name n e).1), ap suc (h.1)), s))
-    k_type_word a is h x s =
-        let r : 10 ≤ 10 = omega arith in
-        k_links (in_simple a evaluates ∷ in_item a plain_item is ∷ k) (ex a i (variable (codes "type"))) no_link x ((refl, refl), ((h.0, refl), stack_bottom k (h.0.0))) refl
-        (r, (refl, h.1, refl), tt, h.1) ((type_word, refl, λ l. (x ∷ l, refl)), (tt, s))
+      pub k_type_word : (a : ℕ) (is : Items) → FitsMode k (after_type_word a is) i → (x : TokenKind) → Stands p k (λ l. spell_mode (after_type_word a is) (x ∷ l)) → FitsStep q p i (type_word_step i k a is x)
+      k_type_word a is h (Name n) s = by (bytes_eq n (codes "as")) refl
+        where
+          by : (b : Bool) → bytes_eq n (codes "as") ≡ b → FitsStep q p i (if b then go k (after_type_as a i is) else if may_alias n then go k (after_alias a plain_item is a n) else fault)
+          by true e = ((h.0, h.1, refl), stands_same p k _ _ (λ l. ap (λ n. spell_items is (type_word ∷ Name n ∷ l)) (sym (is_word n (codes "as") e))) s)
+          by false e = k_if q p i (may_alias n) (go k (after_alias a plain_item is a n)) (λ e. (((h.0, refl, refl, (alias_name n e).0, (alias_name n e).1), ap suc (h.1)), s))
+      k_type_word a is h x s =
+          let r : 10 ≤ 10 = omega arith in
+          k_links (in_simple a evaluates ∷ in_item a plain_item is ∷ k) (ex a i (variable (codes "type"))) no_link x ((refl, refl), ((h.0, refl), stack_bottom k (h.0.0))) refl
+          (r, (refl, h.1, refl), tt, h.1) ((type_word, refl, λ l. (x ∷ l, refl)), (tt, s))
 
-    pub k_type_as : (a d : ℕ) (is : Items) → FitsMode k (after_type_as a d is) i → (x : TokenKind) → Stands p k (λ l. spell_mode (after_type_as a d is) (x ∷ l)) → FitsStep q p i (type_as_step i k a d is x)
-    k_type_as a d is h (Punct Assign) s =
-        let n = alias_name (codes "as") refl in
-        let y = typing_at true (suc (suc (suc a))) (suc i) (ap suc (h.2 ∙ ap suc (h.1))) in
-        (((h.0, refl, refl, n.0, n.1), y.0, y.1), s)
-    k_type_as a d is h x s =
-        let b = in_simple a evaluates ∷ in_item a plain_item is ∷ k in
-        let r : 6 ≤ 10 = omega arith in
-        let z : 0 ≤ 6 = omega arith in
-        let y = typing_at true (suc d) i (h.2) in
-        k_typing b (cast_type a (ex a d (variable (codes "type"))) no_operand d) [] ty.want (y.0) x
-        (((refl, refl), ((h.0, refl), stack_bottom k (h.0.0))), refl, z, (r, (refl, h.1, refl), tt, h.1)) (y.1) ((type_word, refl, λ l. (as_token ∷ x ∷ l, refl)), (tt, s))
+      pub k_type_as : (a d : ℕ) (is : Items) → FitsMode k (after_type_as a d is) i → (x : TokenKind) → Stands p k (λ l. spell_mode (after_type_as a d is) (x ∷ l)) → FitsStep q p i (type_as_step i k a d is x)
+      k_type_as a d is h (Punct Assign) s =
+          let n = alias_name (codes "as") refl in
+          let y = typing_at true (suc (suc (suc a))) (suc i) (ap suc (h.2 ∙ ap suc (h.1))) in
+          (((h.0, refl, refl, n.0, n.1), y.0, y.1), s)
+      k_type_as a d is h x s =
+          let b = in_simple a evaluates ∷ in_item a plain_item is ∷ k in
+          let r : 6 ≤ 10 = omega arith in
+          let z : 0 ≤ 6 = omega arith in
+          let y = typing_at true (suc d) i (h.2) in
+          k_typing b (cast_type a (ex a d (variable (codes "type"))) no_operand d) [] ty.want (y.0) x
+          (((refl, refl), ((h.0, refl), stack_bottom k (h.0.0))), refl, z, (r, (refl, h.1, refl), tt, h.1)) (y.1) ((type_word, refl, λ l. (as_token ∷ x ∷ l, refl)), (tt, s))
 
-    k_default_word : (a : ℕ) (is : Items) → FitsMode k (after_default a is) i → (n : Bytes) (w : StatementWord) → statement_word n ≡ w → IsStatement w n → Stands p k (λ l. spell_mode (after_default a is) (Name n ∷ l)) → FitsStep q p i (default_word i k a is n w)
-    k_default_word a is h n begins_function d e s =
-        ((((h.0, h.1), stack_bottom k (h.0.0)), refl, refl), (tt, stands_same p k _ _ (λ l. ap (λ n. spell_items is (export_token ∷ default_token ∷ Name n ∷ l)) e) s))
-    k_default_word a is h n w d e s = k_want (in_default a is ∷ k) (Name n) ((h.0, h.1), stack_bottom k (h.0.0)) refl ((Name n, ap not_function_word d, λ l. (l, refl)), s)
+      k_default_word : (a : ℕ) (is : Items) → FitsMode k (after_default a is) i → (n : Bytes) (w : StatementWord) → statement_word n ≡ w → IsStatement w n → Stands p k (λ l. spell_mode (after_default a is) (Name n ∷ l)) → FitsStep q p i (default_word i k a is n w)
+      k_default_word a is h n begins_function d e s =
+          ((((h.0, h.1), stack_bottom k (h.0.0)), refl, refl), (tt, stands_same p k _ _ (λ l. ap (λ n. spell_items is (export_token ∷ default_token ∷ Name n ∷ l)) e) s))
+      k_default_word a is h n w d e s = k_want (in_default a is ∷ k) (Name n) ((h.0, h.1), stack_bottom k (h.0.0)) refl ((Name n, ap not_function_word d, λ l. (l, refl)), s)
 
-    pub k_default : (a : ℕ) (is : Items) → FitsMode k (after_default a is) i → (x : TokenKind) → Stands p k (λ l. spell_mode (after_default a is) (x ∷ l)) → FitsStep q p i (default_step i k a is x)
-    k_default a is h (Name n) s = k_default_word a is h n (statement_word n) refl (statement_is n) s
-    k_default a is h x s = k_want (in_default a is ∷ k) x ((h.0, h.1), stack_bottom k (h.0.0)) refl ((x, refl, λ l. (l, refl)), s)
+      pub k_default : (a : ℕ) (is : Items) → FitsMode k (after_default a is) i → (x : TokenKind) → Stands p k (λ l. spell_mode (after_default a is) (x ∷ l)) → FitsStep q p i (default_step i k a is x)
+      k_default a is h (Name n) s = k_default_word a is h n (statement_word n) refl (statement_is n) s
+      k_default a is h x s = k_want (in_default a is ∷ k) x ((h.0, h.1), stack_bottom k (h.0.0)) refl ((x, refl, λ l. (l, refl)), s)

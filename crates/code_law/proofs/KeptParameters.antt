@@ -1,5 +1,5 @@
 -- Each step of a signature, and each type that is whole, keep what their states stand for.
-use Rattle.std.proofs.Common.{◌≡◌, refl, sym, ◌∙◌, ap, subst, ℕ, suc, ◌≤◌, Bool, true, false, Option, Some, None, [], ◌∷◌, ◌++◌, codes, arith, if◌then◌else◌}
+use Rattle.std.proofs.Common.{◌≡◌, refl, ◌∙◌, ap, subst, ℕ, suc, Bool, true, false, Option, Some, None, [], ◌∷◌, ◌++◌, if◌then◌else◌}
 use Rattle.js_token.specs.Words.{is_reserved}
 use Rattle.js_token.specs.declared.token.TokenKind.{TokenKind}
 use Rattle.js_token.specs.declared.token.TokenKind.TheVariants.{Name, Punct}
@@ -7,20 +7,20 @@ use Rattle.js_token.specs.declared.punct.Punct.TheVariants.{OpenBrace, OpenParen
 use Rattle.js_grammar.specs.Words.{Bytes}
 use Rattle.js_grammar.specs.Types.{Ty, has_fun}
 use Rattle.js_grammar.specs.TypeSpelling.{Tokens, opt, spell}
-use Rattle.js_grammar.specs.TypeFits.{bump, stop, CommaFits, Fits}
+use Rattle.js_grammar.specs.TypeFits.{bump, stop, Fits}
 use Rattle.js_grammar.specs.Machine as ty
 use Rattle.js_grammar.proofs.Sound as typed_spelling
 use Rattle.js_grammar.proofs.Kept as typed_places
-use Rattle.js_grammar.specs.Code.{relation_level, Ex, ex, chain, more_operand, operand, as_type, Sig, sig, Parameter, parameter, Parameters, no_parameter, more_parameter, has_parameters}
+use Rattle.js_grammar.specs.Code.{relation_level, Ex, ex, chain, more_operand, operand, as_type, sig, Parameter, parameter, Parameters, no_parameter, more_parameter, has_parameters}
 use Rattle.js_grammar.specs.CodeSpelling.{spell_ex, spell_sig, spell_named, spell_parameters}
-use Rattle.js_grammar.specs.CodePlaces.{stop_annotation, stop_named, stop_parameters, stop_sig, stop_name, stop_ex, stop_operands}
-use Rattle.js_grammar.specs.CodeFits.{FitsAnnotation, FitsParameters, FitsSig, IsPlainResult, FitsOperand}
-use Rattle.js_grammar.specs.Items.{alias, alias_item, exports, export_alias, FitsAlias}
-use Rattle.code_law.specs.Frames.{FunctionKind, is_value, is_statement, is_default, plain_item, exported_item, default_item, Owner, of_arrow, of_function, Waiting, parameter_type, result_type, declared_type, alias_type, cast_type, in_declaration, in_function, want, function_start, parameters_open, parameter_start, parameter_word, parameter_mark, parameters_end, arrow_start, statements_start, Stack, Step, fault, go}
+use Rattle.js_grammar.specs.CodePlaces.{stop_named, stop_parameters, stop_sig}
+use Rattle.js_grammar.specs.CodeFits.{FitsSig, IsPlainResult, FitsOperand}
+use Rattle.js_grammar.specs.Items.{alias, alias_item, exports, export_alias}
+use Rattle.code_law.specs.Frames.{FunctionKind, is_value, is_statement, is_default, plain_item, exported_item, default_item, Owner, of_arrow, of_function, Waiting, parameter_type, result_type, declared_type, alias_type, cast_type, function_start, parameters_open, parameter_start, parameter_word, parameter_mark, parameters_end, Stack, fault, go}
 use Rattle.code_law.specs.Ladder.{settle}
 use Rattle.code_law.specs.Expressions.{function_step, open_step, parameter_step, after_parameter, parameter_word_step, parameter_mark_step, open_body, end_step, after_type, takes_function, inside}
 use Rattle.code_law.proofs.Typing.{Typing, typing_at, keep_typing}
-use Rattle.code_law.proofs.States.{spell_mode, spell_owner, spell_waiting, FitsStack, FitsWhole, FitsOwner, TypedFor, FitsGiven, FitsWaiting, type_start, FitsMode, FitsStep, Stands}
+use Rattle.code_law.proofs.States.{spell_mode, spell_owner, spell_waiting, FitsWhole, TypedFor, FitsGiven, FitsWaiting, type_start, FitsMode, FitsStep, Stands}
 use Rattle.code_law.proofs.Stands.{stands_moved}
 use Rattle.code_law.proofs.KeptBodies.{k_item}
 

@@ -23,4 +23,5 @@ pub mod KeptParameters
 pub mod KeptModules
 pub mod Kept
 pub mod Main
+pub mod Limit
 pub mod Within

@@ -4,10 +4,10 @@ use Rattle.js_token.specs.declared.token.TokenKind.{TokenKind}
 use Rattle.js_grammar.specs.TypeSpelling.{Tokens}
 use Rattle.js_grammar.specs.Machine.{end_mark}
 use Rattle.js_grammar.specs.Code.{Ex}
-use Rattle.js_grammar.specs.Items.{Items, no_item, Module, module_of, spell_items, spell_module, stop_items, FitsItems, FitsModule}
+use Rattle.js_grammar.specs.Items.{Items, no_item, Module, module_of, spell_items, FitsItems}
 use Rattle.code_law.specs.Frames.{Mode, items_start, Stack, Step, fault, go, done, done_items}
-use Rattle.code_law.specs.Machine.{step, Outcome, faulty, whole, whole_items, resume, run, read_module}
-use Rattle.code_law.specs.Reads.{Spells, Begins, IsStuck, IsFault, module_with, items_of, Says, ReadsEachModule, ReadsOnlyModules}
+use Rattle.code_law.specs.Machine.{step, faulty, whole, whole_items, resume, run, read_module}
+use Rattle.code_law.specs.Reads.{Spells, Begins, module_with, items_of, Says, ReadsEachModule, ReadsOnlyModules}
 use Rattle.code_law.proofs.Modules.{reads_items}
 use Rattle.code_law.proofs.States.{spell_mode, FitsMode, FitsStep, Stands}
 use Rattle.code_law.proofs.Stands.{stands_more}

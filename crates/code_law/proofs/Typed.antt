@@ -1,5 +1,5 @@
 -- What waits for a type goes on behind it.
-use Rattle.std.proofs.Common.{◌≡◌, refl, ◌∙◌, ap, ℕ, suc, Bool, false, [], ◌∷◌, ◌++◌}
+use Rattle.std.proofs.Common.{◌≡◌, ◌∙◌, ap, ℕ, suc, false, ◌∷◌, ◌++◌}
 use Rattle.js_token.specs.declared.token.TokenKind.{TokenKind}
 use Rattle.js_grammar.specs.Types.{Ty}
 use Rattle.js_grammar.specs.TypeSpelling.{Tokens}

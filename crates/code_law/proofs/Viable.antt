@@ -1,17 +1,16 @@
 -- Each state that is reached can be completed: some tokens lead from it to a whole module.
 use Rattle.std.proofs.Common.{refl, ℕ, suc, Bool, true, false, Some, None, [], ◌∷◌, codes}
 use Rattle.js_token.specs.declared.token.TokenKind.TheVariants.{Name, Number, Str, Punct}
-use Rattle.js_token.specs.declared.punct.Punct.TheVariants.{OpenBrace, CloseBrace, OpenParen, CloseParen, OpenBracket, CloseBracket, Comma, Semicolon, Colon, Assign, Arrow as ArrowMark}
+use Rattle.js_token.specs.declared.punct.Punct.TheVariants.{OpenBrace, CloseBrace, OpenParen, CloseParen, CloseBracket, Comma, Semicolon, Colon, Assign, Arrow as ArrowMark}
 use Rattle.js_grammar.specs.Words.{Bytes}
 use Rattle.js_grammar.specs.TypeSpelling.{Tokens}
 use Rattle.js_grammar.specs.Machine as ty
 use Rattle.js_grammar.specs.Code.{Parameters, no_parameter, no_stmt, Exs, Sig, ex, number, no_link}
 use Rattle.js_grammar.specs.Items.{Items, ImportForm, ItemForm, ExportList}
-use Rattle.code_law.specs.Frames.{Row, array_row, call_row, FunctionKind, opens_names, opens_both, opens_types, opens_exports, importing, exporting, Listing, listing, Owner, of_arrow, of_function, Waiting, parameter_type, result_type, declared_type, alias_type, cast_type, in_prefix, in_branch, in_parens, in_field, in_arrow, in_declaration, in_if_test, in_loop_test, in_if, in_else, in_loop, in_function, in_block, in_item, in_default, Mode, want, after_links, after_dot, row_start, fields_start, after_word, after_key, paren_start, paren_word, paren_mark, function_start, parameters_open, parameter_start, parameter_word, parameter_mark, parameters_end, arrow_start, settled, statements_start, after_binder, after_declared, after_return, after_simple, after_if, after_while, want_body, after_branch, after_else, items_start, after_type_word, after_type_as, after_alias, after_import, import_word, import_comma, names_start, after_name, after_as, after_pair, after_list, after_from, after_export, export_type, after_exports, exports_from, after_default, item_end, typing, Stack, Step}
-use Rattle.code_law.specs.Expressions.{after_type, takes_function}
-use Rattle.code_law.specs.Modules.{add_name}
-use Rattle.code_law.proofs.Shapes.{Hole, value_hole, body_hole, block_hole, named_hole, item_hole, function_hole, owner_hole, waiting_hole, Takes, Matches, Shaped}
-use Rattle.code_law.proofs.Closing.{Completes, Goes, by_token, Closer, by_paren, by_bracket, by_brace, by_colon, by_semicolon, closer, Closes, after_closed, settles, wants, statements, bodies, items, closes, simples, stmts, branched, blocks}
+use Rattle.code_law.specs.Frames.{Row, array_row, call_row, opens_names, opens_both, opens_types, opens_exports, importing, exporting, Listing, listing, Owner, of_arrow, of_function, Waiting, parameter_type, result_type, declared_type, alias_type, cast_type, in_branch, in_parens, in_field, in_arrow, in_declaration, in_if_test, in_loop_test, in_if, in_else, in_loop, in_function, in_default, Mode, want, after_links, after_dot, row_start, fields_start, after_word, after_key, paren_start, paren_word, paren_mark, function_start, parameters_open, parameter_start, parameter_word, parameter_mark, parameters_end, arrow_start, settled, statements_start, after_binder, after_declared, after_return, after_simple, after_if, after_while, want_body, after_branch, after_else, items_start, after_type_word, after_type_as, after_alias, after_import, import_word, import_comma, names_start, after_name, after_as, after_pair, after_list, after_from, after_export, export_type, after_exports, exports_from, after_default, item_end, typing, Stack}
+use Rattle.code_law.specs.Expressions.{takes_function}
+use Rattle.code_law.proofs.Shapes.{value_hole, body_hole, block_hole, item_hole, owner_hole, waiting_hole, Takes, Matches, Shaped}
+use Rattle.code_law.proofs.Closing.{Completes, by_token, by_paren, by_bracket, by_brace, by_colon, by_semicolon, Closes, after_closed, settles, wants, statements, bodies, items, closes, simples, branched, blocks}
 use Rattle.code_law.proofs.Typing.{Typing, typing_at}
 use Rattle.code_law.proofs.Typed.{after_typing}
 

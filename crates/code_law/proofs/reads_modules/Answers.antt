@@ -1,3 +1,4 @@
+use Rattle.code_law.proofs.Limit.{within}
 use Rattle.code_law.proofs.Main.{each_module, only_modules}
 use Rattle.code_law.proofs.reads_modules.Goals as goal
 
@@ -6,3 +7,6 @@ returns-clause-each c = each_module
 
 pub returns-clause-only : goal.returns-clause-only
 returns-clause-only c = only_modules
+
+pub returns-clause-within : goal.returns-clause-within
+returns-clause-within c = within
