@@ -1,9 +1,7 @@
 -- Reading within the limit of nesting: of the tokens before it, reading says all.
 use Rattle.std.proofs.Common.{◌≡◌, refl, sym, ◌∙◌, ap, subst, [], ◌∷◌, ◌++◌, append_assoc, append-nil}
-use Rattle.js_token.specs.declared.token.TokenKind.{TokenKind}
 use Rattle.js_grammar.specs.TypeSpelling.{Tokens}
 use Rattle.js_grammar.specs.Nesting.{Nest, nest, no_nest, StaysWithin, WithinLimit}
-use Rattle.js_grammar.specs.Items.{Module}
 use Rattle.code_law.specs.Machine.{Outcome, faulty, whole, whole_items, read_module}
 use Rattle.code_law.specs.Reads.{IsStuck, IsFault, module_with, Says, IsStuckWithin, IsFaultWithin, EndsWithin, SaysWithin, ReadsWithin}
 use Rattle.code_law.proofs.Main.{only_modules}

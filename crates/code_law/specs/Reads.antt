@@ -27,7 +27,7 @@ IsFault l rest = (q : Tokens) × (l ≡ q ++ rest) × Begins q × IsStuck q rest
 abbrev pub module_with : Items → Module
 module_with is = module_of 0 (stop_items is 0) is
 
--- what an outcome says of the tokens; one that stops before the end is a fault
+-- what an outcome says of the tokens; where it comes to whole items before the end, the next token is the end mark, and a fault
 abbrev pub Says : Tokens → Outcome → Type 0
 Says l (whole_items is []) = Spells (module_with is) l
 Says l (whole_items is (x ∷ rest)) = IsFault l (x ∷ rest)
