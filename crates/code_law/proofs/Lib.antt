@@ -23,4 +23,3 @@ pub mod KeptParameters
 pub mod KeptModules
 pub mod Kept
 pub mod Main
-pub mod Limit
