@@ -23,3 +23,4 @@ pub mod KeptParameters
 pub mod KeptModules
 pub mod Kept
 pub mod Main
+pub mod Within

@@ -7,3 +7,4 @@ pub mod Modules
 pub mod Machine
 pub mod Law
 pub mod Reads
+pub mod Within
