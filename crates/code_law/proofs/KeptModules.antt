@@ -10,19 +10,19 @@ use Rattle.js_grammar.specs.Words.{Bytes, IsName}
 use Rattle.js_grammar.specs.TypeSpelling.{Tokens, opt}
 use Rattle.js_grammar.specs.TypeFits.{bump, CommaFits}
 use Rattle.js_grammar.specs.Machine as ty
-use Rattle.js_grammar.proofs.Sound.{so_far}
-use Rattle.js_grammar.specs.Code.{Ex, ex, variable, Links, no_link, no_operand}
-use Rattle.js_grammar.specs.CodeSpelling.{spell_ex, spell_links}
-use Rattle.js_grammar.specs.Items.{Importeds, no_imported, more_imported, import_list, Exporteds, no_exported, more_exported, exported, ExportList, export_list, ImportForm, import_default, import_both, import_names, import_types, import_only, export_names, export_from, ItemForm, imports, exports, Items, has_importeds, has_exporteds, base_names, IsNoneOf, AreNames, AreLocal, from_word, type_word, spell_items, spell_item_form, spell_import, spell_export_list, stop_import, stop_importeds, stop_exporteds, stop_item_form, FitsImporteds, FitsImportList, FitsExporteds, FitsExportList, FitsItemForm}
-use Rattle.code_law.specs.Frames.{Wrap, plain_item, exported_item, Opening, opens_names, opens_both, opens_types, opens_exports, Names, importing, exporting, Listing, listing, Waiting, cast_type, in_simple, in_item, in_default, evaluates, after_type_word, after_type_as, after_alias, after_import, import_word, import_comma, names_start, after_name, after_as, after_pair, after_list, after_from, after_export, export_type, after_exports, exports_from, after_default, item_end, Stack, Step, fault, go, start_ex}
-use Rattle.code_law.specs.Bodies.{give_item}
-use Rattle.code_law.specs.Expressions.{want_step, links_step, takes_function, inside}
+use Rattle.js_grammar.specs.Code.{ex, variable, no_link, no_operand}
+use Rattle.js_grammar.specs.Items.{Importeds, no_imported, more_imported, import_list, Exporteds, no_exported, more_exported, exported, ExportList, export_list, ImportForm, import_default, import_both, import_names, import_types, import_only, export_names, export_from, ItemForm, imports, exports, Items, has_importeds, has_exporteds, base_names, IsNoneOf, AreNames, AreLocal, from_word, type_word, spell_items, spell_item_form, spell_import, spell_export_list, stop_import, stop_importeds, stop_exporteds, FitsImporteds, FitsImportList, FitsExporteds, FitsExportList}
+use Rattle.code_law.specs.Frames.{Wrap, plain_item, exported_item, Opening, opens_names, opens_both, opens_types, opens_exports, Names, importing, exporting, Listing, listing, cast_type, in_simple, in_item, in_default, evaluates, after_type_word, after_type_as, after_alias, after_import, import_word, import_comma, names_start, after_name, after_as, after_pair, after_list, after_from, after_export, export_type, after_exports, exports_from, after_default, item_end, Stack, Step, fault, go}
+use Rattle.code_law.specs.Expressions.{want_step}
 use Rattle.code_law.specs.Statements.{StatementWord, binds, begins_function, begins_import, begins_export, plain_word, statement_word, simple_word}
 use Rattle.code_law.specs.Modules.{top_word, items_step, is_none_of, may_alias, type_word_step, type_as_step, alias_step, import_step, from_step, import_word_step, import_comma_step, add_name, has_names, may_name, end_names, names_step, pair_step, name_step, as_step, source_step, end_item, export_word, export_step, export_type_step, are_names, are_local, exports_step, exports_from_step, default_word, default_step}
 use Rattle.code_law.proofs.StatementWords.{IsStatement, statement_is}
 use Rattle.code_law.proofs.Stands.{stands_moved}
-use Rattle.code_law.proofs.Typing.{Typing, typing_at}
-use Rattle.code_law.proofs.States.{import_token, export_token, default_token, as_token, spell_listing, spell_pair, imports_names, spell_opening, spell_begun_names, spell_names, spell_before, spell_short, spell_waiting, spell_mode, starts_plain, not_function_word, is_plain_word, Stands, takes_ex, IsBottom, FitsTop, FitsStack, FitsLinked, FitsNames, FitsOpening, FitsListing, takes_simple, stop_names, stop_begun_names, begun_end, names_end, stop_before, is_short, FitsWaiting, type_start, FitsMode, FitsStep}
+use Rattle.code_law.proofs.Typing.{typing_at}
+use Rattle.code_law.proofs.KeptBodies.{k_item}
+use Rattle.code_law.proofs.KeptExpressions.{k_want, k_links}
+use Rattle.code_law.proofs.KeptParameters.{k_typing}
+use Rattle.code_law.proofs.States.{import_token, export_token, default_token, as_token, spell_listing, spell_pair, imports_names, spell_opening, spell_begun_names, spell_names, spell_before, spell_short, spell_mode, starts_plain, not_function_word, is_plain_word, Stands, IsBottom, FitsTop, FitsStack, FitsNames, FitsOpening, FitsListing, takes_simple, stop_names, stop_begun_names, begun_end, names_end, stop_before, is_short, FitsMode, FitsStep}
 
 no_true : {A : Type 0} → false ≡ true → A
 no_true e = absurd (let f : false ≡ true = e in cc)
@@ -148,9 +148,6 @@ added_spelled (listing a is o z (importing ns)) b j n (Some m) l = refl
 added_spelled (listing a is o z (exporting ns)) b j n None l = refl
 added_spelled (listing a is o z (exporting ns)) b j n (Some m) l = refl
 
-in_items : (k : Stack) (a : ℕ) (is : Items) (w : Wrap) → FitsTop k a is → FitsStack k 0
-in_items k a is w t = stack_bottom k (t.0)
-
 module _ (q p : Tokens) (i : ℕ) where
   k_if : (b : Bool) (s : Step) → (b ≡ true → FitsStep q p i s) → FitsStep q p i (if b then s else fault)
   k_if true s h = h refl
@@ -159,10 +156,6 @@ module _ (q p : Tokens) (i : ℕ) where
   k_unless : (b : Bool) (s : Step) → (b ≡ false → FitsStep q p i s) → FitsStep q p i (if b then fault else s)
   k_unless true s h = tt
   k_unless false s h = h refl
-
-  pub k_give_item : (k : Stack) (a : ℕ) (is : Items) (x : ItemForm) → FitsTop k a is → FitsItemForm x a → suc i ≡ stop_item_form x a → Stands p k (λ l. spell_items is (spell_item_form x l)) → FitsStep q p i (give_item (suc i) k a is x)
-  k_give_item k a is x t h j s =
-      ((t.0, (t.1, (t.2, j ∙ ap (stop_item_form x) (t.2), subst (FitsItemForm x) (t.2) h)), j ∙ ap (stop_item_form x) (t.2)), s)
 
 module _ (q p : Tokens) (i : ℕ) (k : Stack) where
   pub k_alias : (a : ℕ) (w : Wrap) (is : Items) (n : ℕ) (b : Bytes) → FitsMode k (after_alias a w is n b) i → (x : TokenKind) → Stands p k (λ l. spell_mode (after_alias a w is n b) (x ∷ l)) → FitsStep q p i (alias_step k a w is n b x)
@@ -204,7 +197,7 @@ module _ (q p : Tokens) (i : ℕ) (k : Stack) where
 
   pub k_end_item : (a : ℕ) (is : Items) (y : ItemForm) → FitsMode k (item_end a is y) i → (x : TokenKind) → Stands p k (λ l. spell_mode (item_end a is y) (x ∷ l)) → FitsStep q p i (end_item i k a is y x)
   k_end_item a is y h (Punct Semicolon) s =
-      k_give_item q p i k a is y (h.0) (h.2) (h.3) (stands_same p k (λ l. spell_items is (spell_short y (Punct Semicolon ∷ l))) (λ l. spell_items is (spell_item_form y l)) (λ l. ap (spell_items is) (spell_ended y (h.1) l)) s)
+      k_item q p i k a is y (h.0) (h.2) (h.3) (stands_same p k (λ l. spell_items is (spell_short y (Punct Semicolon ∷ l))) (λ l. spell_items is (spell_item_form y l)) (λ l. ap (spell_items is) (spell_ended y (h.1) l)) s)
   k_end_item a is y h _ s = tt
 
   -- the brace at i ends a list of names
@@ -275,8 +268,8 @@ module _ (q p : Tokens) (i : ℕ) (k : Stack) where
   k_exports_from a is o ns h _ s = tt
 
   k_export_word : (a : ℕ) (is : Items) → FitsMode k (after_export a is) i → (n : Bytes) (w : StatementWord) → IsStatement w n → Stands p k (λ l. spell_items is (export_token ∷ Name n ∷ l)) → FitsStep q p i (export_word i k a is n w)
-  k_export_word a is h n (binds w) e s = ((((h.0, h.1), in_items k a is exported_item (h.0)), refl, refl), (tt, stands_same p k _ _ (λ l. ap (λ n. spell_items is (export_token ∷ Name n ∷ l)) e) s))
-  k_export_word a is h n begins_function e s = ((((h.0, h.1), in_items k a is exported_item (h.0)), refl, refl), (tt, stands_same p k _ _ (λ l. ap (λ n. spell_items is (export_token ∷ Name n ∷ l)) e) s))
+  k_export_word a is h n (binds w) e s = ((((h.0, h.1), stack_bottom k (h.0.0)), refl, refl), (tt, stands_same p k _ _ (λ l. ap (λ n. spell_items is (export_token ∷ Name n ∷ l)) e) s))
+  k_export_word a is h n begins_function e s = ((((h.0, h.1), stack_bottom k (h.0.0)), refl, refl), (tt, stands_same p k _ _ (λ l. ap (λ n. spell_items is (export_token ∷ Name n ∷ l)) e) s))
   k_export_word a is h n w e s = other (bytes_eq n (codes "type")) refl
     where
       other : (b : Bool) → bytes_eq n (codes "type") ≡ b → FitsStep q p i (if b then go k (export_type a is i) else if bytes_eq n (codes "default") then go k (after_default a is) else fault)
@@ -288,62 +281,56 @@ module _ (q p : Tokens) (i : ℕ) (k : Stack) where
   k_export a is h (Punct OpenBrace) s = (((h.0, h.1, tt), refl), s)
   k_export a is h _ s = tt
 
-  module _
-      (k_want : (k : Stack) (x : TokenKind) → FitsStack k i → takes_ex k ≡ true → Stands p k (λ l. x ∷ l) → FitsStep q p i (want_step i k x))
-      (k_links : (k : Stack) (b : Ex) (ls : Links) (x : TokenKind) → FitsStack k (start_ex b) → takes_ex k ≡ true → FitsLinked b ls i → Stands p k (λ l. spell_ex b (spell_links ls (x ∷ l))) → FitsStep q p i (links_step i k b ls x))
-      (k_typing : (k : Stack) (w : Waiting) (a : ty.Stack) (m : ty.Mode) (t : Tokens) (x : TokenKind) → FitsWaiting k w → Typing (takes_function w) (type_start w) i a m t → Stands p k (λ l. spell_waiting w (so_far a m (x ∷ l))) →
-      FitsStep q p i (inside i k w (ty.step (takes_function w) i a m x) x))
+  k_plain : (d : Stack) (x : TokenKind) → FitsStack d i → takes_simple d true ≡ true → starts_plain x ≡ true → Stands p d (λ l. x ∷ l) → FitsStep q p i (want_step i (in_simple i evaluates ∷ d) x)
+  k_plain d x h t e s = k_want q p i (in_simple i evaluates ∷ d) x ((t, refl), h) refl ((x, e, λ l. (l, refl)), s)
+
+  k_top_word : (is : Items) → FitsTop k i is → (n : Bytes) (w : StatementWord) → statement_word n ≡ w → IsStatement w n → Stands p k (λ l. spell_items is (Name n ∷ l)) → FitsStep q p i (top_word i k is n w)
+  k_top_word is t n (binds w) d e s = ((((t, refl), stack_bottom k (t.0)), refl, refl), (tt, stands_same p k _ _ (λ l. ap (λ n. spell_items is (Name n ∷ l)) e) s))
+  k_top_word is t n begins_function d e s = ((((t, refl), stack_bottom k (t.0)), refl, refl), (tt, stands_same p k _ _ (λ l. ap (λ n. spell_items is (Name n ∷ l)) e) s))
+  k_top_word is t n begins_import d e s = ((t, refl), stands_same p k _ _ (λ l. ap (λ n. spell_items is (Name n ∷ l)) e) s)
+  k_top_word is t n begins_export d e s = ((t, refl), stands_same p k _ _ (λ l. ap (λ n. spell_items is (Name n ∷ l)) e) s)
+  k_top_word is t n plain_word d e s = by (bytes_eq n (codes "type")) refl
     where
-      k_plain : (d : Stack) (x : TokenKind) → FitsStack d i → takes_simple d true ≡ true → starts_plain x ≡ true → Stands p d (λ l. x ∷ l) → FitsStep q p i (want_step i (in_simple i evaluates ∷ d) x)
-      k_plain d x h t e s = k_want (in_simple i evaluates ∷ d) x ((t, refl), h) refl ((x, e, λ l. (l, refl)), s)
+      by : (b : Bool) → bytes_eq n (codes "type") ≡ b → FitsStep q p i (if b then go k (after_type_word i is) else simple_word i (in_item i plain_item is ∷ k) n plain_word)
+      by true e = ((t, refl), stands_same p k _ _ (λ l. ap (λ n. spell_items is (Name n ∷ l)) (sym (is_word n (codes "type") e))) s)
+      by false e = k_plain (in_item i plain_item is ∷ k) (Name n) ((t, refl), stack_bottom k (t.0)) refl (ap is_plain_word d) (tt, s)
+  k_top_word is t n w d e s = tt
 
-      k_top_word : (is : Items) → FitsTop k i is → (n : Bytes) (w : StatementWord) → statement_word n ≡ w → IsStatement w n → Stands p k (λ l. spell_items is (Name n ∷ l)) → FitsStep q p i (top_word i k is n w)
-      k_top_word is t n (binds w) d e s = ((((t, refl), stack_bottom k (t.0)), refl, refl), (tt, stands_same p k _ _ (λ l. ap (λ n. spell_items is (Name n ∷ l)) e) s))
-      k_top_word is t n begins_function d e s = ((((t, refl), stack_bottom k (t.0)), refl, refl), (tt, stands_same p k _ _ (λ l. ap (λ n. spell_items is (Name n ∷ l)) e) s))
-      k_top_word is t n begins_import d e s = ((t, refl), stands_same p k _ _ (λ l. ap (λ n. spell_items is (Name n ∷ l)) e) s)
-      k_top_word is t n begins_export d e s = ((t, refl), stands_same p k _ _ (λ l. ap (λ n. spell_items is (Name n ∷ l)) e) s)
-      k_top_word is t n plain_word d e s = by (bytes_eq n (codes "type")) refl
-        where
-          by : (b : Bool) → bytes_eq n (codes "type") ≡ b → FitsStep q p i (if b then go k (after_type_word i is) else simple_word i (in_item i plain_item is ∷ k) n plain_word)
-          by true e = ((t, refl), stands_same p k _ _ (λ l. ap (λ n. spell_items is (Name n ∷ l)) (sym (is_word n (codes "type") e))) s)
-          by false e = k_plain (in_item i plain_item is ∷ k) (Name n) ((t, refl), stack_bottom k (t.0)) refl (ap is_plain_word d) (tt, s)
-      k_top_word is t n w d e s = tt
+  pub k_items : (is : Items) → FitsTop k i is → (x : TokenKind) → Stands q k (spell_items is) → Stands p k (λ l. spell_items is (x ∷ l)) → FitsStep q p i (items_step i k is x)
+  k_items is t (Punct PlusPlus) r s = (t.1, t.2, at_bottom q k (spell_items is) (t.0) r)
+  k_items is t (Name n) r s = k_top_word is t n (statement_word n) refl (statement_is n) s
+  k_items is t (Punct OpenBrace) r s = tt
+  k_items is t x r s = k_plain (in_item i plain_item is ∷ k) x ((t, refl), stack_bottom k (t.0)) refl refl (tt, s)
 
-      pub k_items : (is : Items) → FitsTop k i is → (x : TokenKind) → Stands q k (spell_items is) → Stands p k (λ l. spell_items is (x ∷ l)) → FitsStep q p i (items_step i k is x)
-      k_items is t (Punct PlusPlus) r s = (t.1, t.2, at_bottom q k (spell_items is) (t.0) r)
-      k_items is t (Name n) r s = k_top_word is t n (statement_word n) refl (statement_is n) s
-      k_items is t (Punct OpenBrace) r s = tt
-      k_items is t x r s = k_plain (in_item i plain_item is ∷ k) x ((t, refl), stack_bottom k (t.0)) refl refl (tt, s)
+  pub k_type_word : (a : ℕ) (is : Items) → FitsMode k (after_type_word a is) i → (x : TokenKind) → Stands p k (λ l. spell_mode (after_type_word a is) (x ∷ l)) → FitsStep q p i (type_word_step i k a is x)
+  k_type_word a is h (Name n) s = by (bytes_eq n (codes "as")) refl
+    where
+      by : (b : Bool) → bytes_eq n (codes "as") ≡ b → FitsStep q p i (if b then go k (after_type_as a i is) else if may_alias n then go k (after_alias a plain_item is a n) else fault)
+      by true e = ((h.0, h.1, refl), stands_same p k _ _ (λ l. ap (λ n. spell_items is (type_word ∷ Name n ∷ l)) (sym (is_word n (codes "as") e))) s)
+      by false e = k_if q p i (may_alias n) (go k (after_alias a plain_item is a n)) (λ e. (((h.0, refl, refl, (alias_name n e).0, (alias_name n e).1), ap suc (h.1)), s))
+  k_type_word a is h x s =
+      let r : 10 ≤ 10 = omega arith in
+      k_links q p i (in_simple a evaluates ∷ in_item a plain_item is ∷ k) (ex a i (variable (codes "type"))) no_link x ((refl, refl), ((h.0, refl), stack_bottom k (h.0.0))) refl
+      (r, (refl, h.1, refl), tt, h.1) ((type_word, refl, λ l. (x ∷ l, refl)), (tt, s))
 
-      pub k_type_word : (a : ℕ) (is : Items) → FitsMode k (after_type_word a is) i → (x : TokenKind) → Stands p k (λ l. spell_mode (after_type_word a is) (x ∷ l)) → FitsStep q p i (type_word_step i k a is x)
-      k_type_word a is h (Name n) s = by (bytes_eq n (codes "as")) refl
-        where
-          by : (b : Bool) → bytes_eq n (codes "as") ≡ b → FitsStep q p i (if b then go k (after_type_as a i is) else if may_alias n then go k (after_alias a plain_item is a n) else fault)
-          by true e = ((h.0, h.1, refl), stands_same p k _ _ (λ l. ap (λ n. spell_items is (type_word ∷ Name n ∷ l)) (sym (is_word n (codes "as") e))) s)
-          by false e = k_if q p i (may_alias n) (go k (after_alias a plain_item is a n)) (λ e. (((h.0, refl, refl, (alias_name n e).0, (alias_name n e).1), ap suc (h.1)), s))
-      k_type_word a is h x s =
-          let r : 10 ≤ 10 = omega arith in
-          k_links (in_simple a evaluates ∷ in_item a plain_item is ∷ k) (ex a i (variable (codes "type"))) no_link x ((refl, refl), ((h.0, refl), stack_bottom k (h.0.0))) refl
-          (r, (refl, h.1, refl), tt, h.1) ((type_word, refl, λ l. (x ∷ l, refl)), (tt, s))
+  pub k_type_as : (a d : ℕ) (is : Items) → FitsMode k (after_type_as a d is) i → (x : TokenKind) → Stands p k (λ l. spell_mode (after_type_as a d is) (x ∷ l)) → FitsStep q p i (type_as_step i k a d is x)
+  k_type_as a d is h (Punct Assign) s =
+      let n = alias_name (codes "as") refl in
+      let y = typing_at true (suc (suc (suc a))) (suc i) (ap suc (h.2 ∙ ap suc (h.1))) in
+      (((h.0, refl, refl, n.0, n.1), y.0, y.1), s)
+  k_type_as a d is h x s =
+      let b = in_simple a evaluates ∷ in_item a plain_item is ∷ k in
+      let r : 6 ≤ 10 = omega arith in
+      let z : 0 ≤ 6 = omega arith in
+      let y = typing_at true (suc d) i (h.2) in
+      k_typing q p i b (cast_type a (ex a d (variable (codes "type"))) no_operand d) [] ty.want (y.0) x
+      (((refl, refl), ((h.0, refl), stack_bottom k (h.0.0))), refl, z, (r, (refl, h.1, refl), tt, h.1)) (y.1) ((type_word, refl, λ l. (as_token ∷ x ∷ l, refl)), (tt, s))
 
-      pub k_type_as : (a d : ℕ) (is : Items) → FitsMode k (after_type_as a d is) i → (x : TokenKind) → Stands p k (λ l. spell_mode (after_type_as a d is) (x ∷ l)) → FitsStep q p i (type_as_step i k a d is x)
-      k_type_as a d is h (Punct Assign) s =
-          let n = alias_name (codes "as") refl in
-          let y = typing_at true (suc (suc (suc a))) (suc i) (ap suc (h.2 ∙ ap suc (h.1))) in
-          (((h.0, refl, refl, n.0, n.1), y.0, y.1), s)
-      k_type_as a d is h x s =
-          let b = in_simple a evaluates ∷ in_item a plain_item is ∷ k in
-          let r : 6 ≤ 10 = omega arith in
-          let z : 0 ≤ 6 = omega arith in
-          let y = typing_at true (suc d) i (h.2) in
-          k_typing b (cast_type a (ex a d (variable (codes "type"))) no_operand d) [] ty.want (y.0) x
-          (((refl, refl), ((h.0, refl), stack_bottom k (h.0.0))), refl, z, (r, (refl, h.1, refl), tt, h.1)) (y.1) ((type_word, refl, λ l. (as_token ∷ x ∷ l, refl)), (tt, s))
+  k_default_word : (a : ℕ) (is : Items) → FitsMode k (after_default a is) i → (n : Bytes) (w : StatementWord) → statement_word n ≡ w → IsStatement w n → Stands p k (λ l. spell_mode (after_default a is) (Name n ∷ l)) → FitsStep q p i (default_word i k a is n w)
+  k_default_word a is h n begins_function d e s =
+      ((((h.0, h.1), stack_bottom k (h.0.0)), refl, refl), (tt, stands_same p k _ _ (λ l. ap (λ n. spell_items is (export_token ∷ default_token ∷ Name n ∷ l)) e) s))
+  k_default_word a is h n w d e s = k_want q p i (in_default a is ∷ k) (Name n) ((h.0, h.1), stack_bottom k (h.0.0)) refl ((Name n, ap not_function_word d, λ l. (l, refl)), s)
 
-      k_default_word : (a : ℕ) (is : Items) → FitsMode k (after_default a is) i → (n : Bytes) (w : StatementWord) → statement_word n ≡ w → IsStatement w n → Stands p k (λ l. spell_mode (after_default a is) (Name n ∷ l)) → FitsStep q p i (default_word i k a is n w)
-      k_default_word a is h n begins_function d e s =
-          ((((h.0, h.1), stack_bottom k (h.0.0)), refl, refl), (tt, stands_same p k _ _ (λ l. ap (λ n. spell_items is (export_token ∷ default_token ∷ Name n ∷ l)) e) s))
-      k_default_word a is h n w d e s = k_want (in_default a is ∷ k) (Name n) ((h.0, h.1), stack_bottom k (h.0.0)) refl ((Name n, ap not_function_word d, λ l. (l, refl)), s)
-
-      pub k_default : (a : ℕ) (is : Items) → FitsMode k (after_default a is) i → (x : TokenKind) → Stands p k (λ l. spell_mode (after_default a is) (x ∷ l)) → FitsStep q p i (default_step i k a is x)
-      k_default a is h (Name n) s = k_default_word a is h n (statement_word n) refl (statement_is n) s
-      k_default a is h x s = k_want (in_default a is ∷ k) x ((h.0, h.1), stack_bottom k (h.0.0)) refl ((x, refl, λ l. (l, refl)), s)
+  pub k_default : (a : ℕ) (is : Items) → FitsMode k (after_default a is) i → (x : TokenKind) → Stands p k (λ l. spell_mode (after_default a is) (x ∷ l)) → FitsStep q p i (default_step i k a is x)
+  k_default a is h (Name n) s = k_default_word a is h n (statement_word n) refl (statement_is n) s
+  k_default a is h x s = k_want q p i (in_default a is ∷ k) x ((h.0, h.1), stack_bottom k (h.0.0)) refl ((x, refl, λ l. (l, refl)), s)

@@ -11,17 +11,17 @@ use Rattle.js_grammar.specs.TypeFits.{bump, stop, Fits}
 use Rattle.js_grammar.specs.Machine as ty
 use Rattle.js_grammar.proofs.Sound as typed_spelling
 use Rattle.js_grammar.proofs.Kept as typed_places
-use Rattle.js_grammar.specs.Code.{relation_level, Ex, ex, chain, more_operand, operand, as_type, sig, Parameter, parameter, Parameters, no_parameter, more_parameter, has_parameters}
-use Rattle.js_grammar.specs.CodeSpelling.{spell_ex, spell_sig, spell_named, spell_parameters}
+use Rattle.js_grammar.specs.Code.{relation_level, ex, chain, more_operand, operand, as_type, sig, Parameter, parameter, Parameters, no_parameter, more_parameter, has_parameters}
+use Rattle.js_grammar.specs.CodeSpelling.{spell_sig, spell_named, spell_parameters}
 use Rattle.js_grammar.specs.CodePlaces.{stop_named, stop_parameters, stop_sig}
 use Rattle.js_grammar.specs.CodeFits.{FitsSig, IsPlainResult, FitsOperand}
 use Rattle.js_grammar.specs.Items.{alias, alias_item, exports, export_alias}
 use Rattle.code_law.specs.Frames.{FunctionKind, is_value, is_statement, is_default, plain_item, exported_item, default_item, Owner, of_arrow, of_function, Waiting, parameter_type, result_type, declared_type, alias_type, cast_type, function_start, parameters_open, parameter_start, parameter_word, parameter_mark, parameters_end, Stack, fault, go}
-use Rattle.code_law.specs.Ladder.{settle}
 use Rattle.code_law.specs.Expressions.{function_step, open_step, parameter_step, after_parameter, parameter_word_step, parameter_mark_step, open_body, end_step, after_type, takes_function, inside}
 use Rattle.code_law.proofs.Typing.{Typing, typing_at, keep_typing}
-use Rattle.code_law.proofs.States.{spell_mode, spell_owner, spell_waiting, FitsWhole, TypedFor, FitsGiven, FitsWaiting, type_start, FitsMode, FitsStep, Stands}
+use Rattle.code_law.proofs.States.{spell_mode, spell_owner, spell_waiting, TypedFor, FitsGiven, FitsWaiting, type_start, FitsMode, FitsStep, Stands}
 use Rattle.code_law.proofs.Stands.{stands_moved}
+use Rattle.code_law.proofs.KeptLadder.{k_settle}
 use Rattle.code_law.proofs.KeptBodies.{k_item}
 
 no_true : {A : Type 0} → false ≡ true → A
@@ -124,38 +124,37 @@ module _ (q p : Tokens) (i : ℕ) (k : Stack) where
       let w = result_type o z ps c in let y = typing_at (takes_function w) (type_start w) (suc i) (ap suc (h.2)) in (((h.0, h.1), y.0, y.1), s)
   k_end o z ps c h x s = k_open_body o z ps c None (h.0) (refl, h.2, h.0.1, h.1, tt) (plain_none o) x s
 
-  module _ (k_settle : (e : Ex) → FitsWhole k e i → (x : TokenKind) → Stands p k (λ l. spell_ex e (x ∷ l)) → FitsStep q p i (settle i k e x)) where
-    -- a type is whole
-    k_after_type : (w : Waiting) (t : Ty) → FitsWaiting k w → Fits t (type_start w) → (has_fun t ≡ true → takes_function w ≡ true) → i ≡ stop t (type_start w) → (x : TokenKind) → Stands p k (λ l. spell_waiting w (spell t (x ∷ l))) →
-        FitsStep q p i (after_type i k w t x)
-    k_after_type (parameter_type o z ps a n m) t h f u j x s =
-        let y = parameter a i n m (Some t) in
-        let e = j ∙ ap (λ a. stop t (suc (bump m (suc a)))) (h.1) in
-        k_after_parameter o z ps y (h.0.0, (h.0.1, (h.1, e, h.2, (λ e. refl), subst (λ a. Fits t (suc (bump m (suc a)))) (h.1) f)), some_typed o ps a i n m t (h.0.2)) e x s
-    k_after_type (result_type o z ps c) t h f u j x s = k_open_body o z ps c (Some t) (h.0) (refl, j, h.0.1, h.1, f) (plain_some o z ps c t u) x s
-    k_after_type (declared_type z w n) t h f u j (Punct Assign) s = ((((h.1, h.2, f, ap suc j), h.0), refl), (tt, s))
-    k_after_type (declared_type z w n) t h f u j _ s = tt
-    k_after_type (alias_type a plain_item is b n) t h f u j (Punct Semicolon) s =
-        let y = alias b i n t in
-        k_item q p i k a is (alias_item y) (h.0) (h.2, j ∙ ap (λ b. stop t (suc (suc (suc b)))) (h.2), h.3, h.4, subst (λ b. Fits t (suc (suc (suc b)))) (h.2) f) (ap suc (j ∙ ap (λ b. stop t (suc (suc (suc b)))) (h.2))) s
-    k_after_type (alias_type a exported_item is b n) t h f u j (Punct Semicolon) s =
-        let y = alias b i n t in
-        k_item q p i k a is (exports (export_alias y)) (h.0) (h.2, j ∙ ap (λ b. stop t (suc (suc (suc b)))) (h.2), h.3, h.4, subst (λ b. Fits t (suc (suc (suc b)))) (h.2) f) (ap suc (j ∙ ap (λ b. stop t (suc (suc (suc b)))) (h.2))) s
-    k_after_type (alias_type a default_item is b n) t h f u j (Punct Semicolon) s = no_true (h.1)
-    k_after_type (alias_type a w is b n) t h f u j _ s = tt
-    k_after_type (cast_type z e os d) t h f u j x s =
-        let v = operand d i (as_type t) in
-        let g = h.3 in
-        let y = j ∙ ap (λ d. stop t (suc d)) (g.3) in
-        k_settle (ex z i (chain relation_level e (more_operand os v)))
-        (h.0, h.1, h.2, (refl, y, (g.0, g.1, refl, (g.2, subst (FitsOperand v relation_level) (g.3) (refl, j, (refl, f))))), y) x s
+  -- a type is whole
+  k_after_type : (w : Waiting) (t : Ty) → FitsWaiting k w → Fits t (type_start w) → (has_fun t ≡ true → takes_function w ≡ true) → i ≡ stop t (type_start w) → (x : TokenKind) → Stands p k (λ l. spell_waiting w (spell t (x ∷ l))) →
+      FitsStep q p i (after_type i k w t x)
+  k_after_type (parameter_type o z ps a n m) t h f u j x s =
+      let y = parameter a i n m (Some t) in
+      let e = j ∙ ap (λ a. stop t (suc (bump m (suc a)))) (h.1) in
+      k_after_parameter o z ps y (h.0.0, (h.0.1, (h.1, e, h.2, (λ e. refl), subst (λ a. Fits t (suc (bump m (suc a)))) (h.1) f)), some_typed o ps a i n m t (h.0.2)) e x s
+  k_after_type (result_type o z ps c) t h f u j x s = k_open_body o z ps c (Some t) (h.0) (refl, j, h.0.1, h.1, f) (plain_some o z ps c t u) x s
+  k_after_type (declared_type z w n) t h f u j (Punct Assign) s = ((((h.1, h.2, f, ap suc j), h.0), refl), (tt, s))
+  k_after_type (declared_type z w n) t h f u j _ s = tt
+  k_after_type (alias_type a plain_item is b n) t h f u j (Punct Semicolon) s =
+      let y = alias b i n t in
+      k_item q p i k a is (alias_item y) (h.0) (h.2, j ∙ ap (λ b. stop t (suc (suc (suc b)))) (h.2), h.3, h.4, subst (λ b. Fits t (suc (suc (suc b)))) (h.2) f) (ap suc (j ∙ ap (λ b. stop t (suc (suc (suc b)))) (h.2))) s
+  k_after_type (alias_type a exported_item is b n) t h f u j (Punct Semicolon) s =
+      let y = alias b i n t in
+      k_item q p i k a is (exports (export_alias y)) (h.0) (h.2, j ∙ ap (λ b. stop t (suc (suc (suc b)))) (h.2), h.3, h.4, subst (λ b. Fits t (suc (suc (suc b)))) (h.2) f) (ap suc (j ∙ ap (λ b. stop t (suc (suc (suc b)))) (h.2))) s
+  k_after_type (alias_type a default_item is b n) t h f u j (Punct Semicolon) s = no_true (h.1)
+  k_after_type (alias_type a w is b n) t h f u j _ s = tt
+  k_after_type (cast_type z e os d) t h f u j x s =
+      let v = operand d i (as_type t) in
+      let g = h.3 in
+      let y = j ∙ ap (λ d. stop t (suc d)) (g.3) in
+      k_settle q p i k (ex z i (chain relation_level e (more_operand os v)))
+      (h.0, h.1, h.2, (refl, y, (g.0, g.1, refl, (g.2, subst (FitsOperand v relation_level) (g.3) (refl, j, (refl, f))))), y) x s
 
-    -- a step of the machine of types
-    pub k_typing : (w : Waiting) (a : ty.Stack) (m : ty.Mode) (r : Tokens) (x : TokenKind) → FitsWaiting k w → Typing (takes_function w) (type_start w) i a m r → Stands p k (λ l. spell_waiting w (typed_spelling.so_far a m (x ∷ l))) →
-        FitsStep q p i (inside i k w (ty.step (takes_function w) i a m x) x)
-    k_typing w a m r x h f s = by (ty.step (takes_function w) i a m x) refl (typed_places.kept (takes_function w) (type_start w) a m i x (f.fits)) (typed_spelling.sound (takes_function w) i a m x)
-      where
-        by : (y : ty.Step) → ty.step (takes_function w) i a m x ≡ y → typed_places.FitsStep (takes_function w) (type_start w) i y → typed_spelling.Follows (typed_spelling.so_far a m) x y → FitsStep q p i (inside i k w y x)
-        by ty.fault e g d = tt
-        by (ty.go b n) e g d = ((h, r ++ x ∷ [], keep_typing (takes_function w) (type_start w) i a m r x f b n e), stands_moved p k (λ l. spell_waiting w (typed_spelling.so_far a m (x ∷ l))) _ (λ l. ap (spell_waiting w) (d l)) s)
-        by (ty.done t) e g d = k_after_type w t h (g.0.0) (g.0.1) (g.1) x (stands_moved p k (λ l. spell_waiting w (typed_spelling.so_far a m (x ∷ l))) _ (λ l. ap (spell_waiting w) (d (x ∷ l))) s)
+  -- a step of the machine of types
+  pub k_typing : (w : Waiting) (a : ty.Stack) (m : ty.Mode) (r : Tokens) (x : TokenKind) → FitsWaiting k w → Typing (takes_function w) (type_start w) i a m r → Stands p k (λ l. spell_waiting w (typed_spelling.so_far a m (x ∷ l))) →
+      FitsStep q p i (inside i k w (ty.step (takes_function w) i a m x) x)
+  k_typing w a m r x h f s = by (ty.step (takes_function w) i a m x) refl (typed_places.kept (takes_function w) (type_start w) a m i x (f.fits)) (typed_spelling.sound (takes_function w) i a m x)
+    where
+      by : (y : ty.Step) → ty.step (takes_function w) i a m x ≡ y → typed_places.FitsStep (takes_function w) (type_start w) i y → typed_spelling.Follows (typed_spelling.so_far a m) x y → FitsStep q p i (inside i k w y x)
+      by ty.fault e g d = tt
+      by (ty.go b n) e g d = ((h, r ++ x ∷ [], keep_typing (takes_function w) (type_start w) i a m r x f b n e), stands_moved p k (λ l. spell_waiting w (typed_spelling.so_far a m (x ∷ l))) _ (λ l. ap (spell_waiting w) (d l)) s)
+      by (ty.done t) e g d = k_after_type w t h (g.0.0) (g.0.1) (g.1) x (stands_moved p k (λ l. spell_waiting w (typed_spelling.so_far a m (x ∷ l))) _ (λ l. ap (spell_waiting w) (d (x ∷ l))) s)

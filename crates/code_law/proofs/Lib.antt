@@ -23,5 +23,4 @@ pub mod KeptParameters
 pub mod KeptModules
 pub mod Kept
 pub mod Main
-pub mod Limit
 pub mod Within

@@ -119,9 +119,6 @@ mutual
       ∙ ap (spell_sign s) (a_key y e r) ∙ a_sign s (spell_key y e) r
 
 module _ (can : Bool) (z : ℕ) where
-  pub begin_typing : Typing can z z [] ty.want []
-  begin_typing = record { fits = refl; spelled = λ w. refl; runs = λ w. refl }
-
   -- a step of the machine of types leads on
   pub keep_typing : (i : ℕ) (a : ty.Stack) (m : ty.Mode) (q : Tokens) (x : TokenKind) → Typing can z i a m q → (b : ty.Stack) (n : ty.Mode) → ty.step can i a m x ≡ ty.go b n → Typing can z (suc i) b n (q ++ x ∷ [])
   keep_typing i a m q x r b n e = record {

@@ -1,8 +1,6 @@
 -- What reading a module answers: by the existence of trees.
 use Rattle.std.specs.Prelude.{◌≡◌, [], ◌∷◌, ◌++◌}
-use Rattle.js_token.specs.declared.token.TokenKind.{TokenKind}
 use Rattle.js_grammar.specs.TypeSpelling.{Tokens}
-use Rattle.js_grammar.specs.Nesting.{WithinLimit}
 use Rattle.js_grammar.specs.Items.{Items, Module, module_of, spell_module, stop_items, FitsModule}
 use Rattle.code_law.specs.Machine.{Outcome, faulty, whole, whole_items, read_module}
 
@@ -27,7 +25,7 @@ IsFault l rest = (q : Tokens) × (l ≡ q ++ rest) × Begins q × IsStuck q rest
 abbrev pub module_with : Items → Module
 module_with is = module_of 0 (stop_items is 0) is
 
--- what an outcome says of the tokens; one that stops before the end is a fault
+-- what an outcome says of the tokens; where it comes to whole items before the end, the next token is the end mark, and a fault
 abbrev pub Says : Tokens → Outcome → Type 0
 Says l (whole_items is []) = Spells (module_with is) l
 Says l (whole_items is (x ∷ rest)) = IsFault l (x ∷ rest)
@@ -44,33 +42,3 @@ ReadsEachModule = (m : Module) (l : Tokens) → Spells m l → read_module l ≡
 -- where none stands, reading tells the place of the fault
 abbrev pub ReadsOnlyModules : Type 0
 ReadsOnlyModules = (l : Tokens) → Says l (read_module l)
-
--- the same where the tokens nest within the limit
-
-abbrev pub SpellsWithin : Module → Tokens → Type 0
-SpellsWithin m l = WithinLimit l × Spells m l
-
-abbrev pub BeginsWithin : Tokens → Type 0
-BeginsWithin q = WithinLimit q × Begins q
-
-abbrev pub IsStuckWithin : Tokens → Tokens → Type 0
-IsStuckWithin q [] = (m : Module) → SpellsWithin m q → ⊥
-IsStuckWithin q (x ∷ rest) = BeginsWithin (q ++ x ∷ []) → ⊥
-
-abbrev pub IsFaultWithin : Tokens → Tokens → Type 0
-IsFaultWithin l rest = (q : Tokens) × (l ≡ q ++ rest) × BeginsWithin q × IsStuckWithin q rest
-
--- a is within the limit, and with the next token of b it is not
-abbrev pub EndsWithin : Tokens → Tokens → Type 0
-EndsWithin a b = WithinLimit a × ((x : TokenKind) (rest : Tokens) → b ≡ x ∷ rest → WithinLimit (a ++ x ∷ []) → ⊥)
-
--- what reading the tokens before the limit says of all: a module that ends there, before more tokens, is none
-abbrev pub SaysWithin : Tokens → Tokens → Outcome → Type 0
-SaysWithin a [] (whole_items is []) = SpellsWithin (module_with is) a
-SaysWithin a (x ∷ b) (whole_items is []) = IsFaultWithin (a ++ x ∷ b) (x ∷ b)
-SaysWithin a b (whole_items is (x ∷ rest)) = IsFaultWithin (a ++ b) (x ∷ rest ++ b)
-SaysWithin a b (faulty rest) = IsFaultWithin (a ++ b) (rest ++ b)
-SaysWithin a b (whole e rest) = ⊥
-
-abbrev pub ReadsWithin : Type 0
-ReadsWithin = (a b : Tokens) → EndsWithin a b → SaysWithin a b (read_module a)

@@ -3,7 +3,7 @@
 #![tactic(auto)]
 
 ghost use Rattle.code_law.specs.Law.{SameSpellingSameExpression, SameSpellingSameModule};
-ghost use Rattle.code_law.specs.Reads.{ReadsEachModule, ReadsOnlyModules, ReadsWithin};
+ghost use Rattle.code_law.specs.Reads.{ReadsEachModule, ReadsOnlyModules};
 ghost use Rattle.code_law.specs.Within.{ReadsEachWithin, ReadsOnlyWithin};
 
 /// Two expressions with one spelling are equal, their numbers too.
@@ -18,11 +18,10 @@ pub fn one_module()
 
 /// Reading a list of tokens answers a module exactly where they are the spelling of one, and it is that one; else it tells the
 /// place of the fault: the tokens before it begin the spelling of some module, and with the next one they begin none, or they
-/// end there and are no module. Where the tokens leave the limit of nesting, reading those before it tells the same of all.
+/// end there and are no module.
 pub fn reads_modules()
     ensures each { ReadsEachModule }
     ensures only { ReadsOnlyModules }
-    ensures within { ReadsWithin }
 {}
 
 /// Reading within the limit of nesting answers a module exactly where the tokens are the spelling of one and nest within the

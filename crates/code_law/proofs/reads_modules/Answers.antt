@@ -1,4 +1,3 @@
-use Rattle.code_law.proofs.Limit.{within}
 use Rattle.code_law.proofs.Main.{each_module, only_modules}
 use Rattle.code_law.proofs.reads_modules.Goals as goal
 
@@ -7,6 +6,3 @@ returns-clause-each c = each_module
 
 pub returns-clause-only : goal.returns-clause-only
 returns-clause-only c = only_modules
-
-pub returns-clause-within : goal.returns-clause-within
-returns-clause-within c = within
