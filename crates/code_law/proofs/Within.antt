@@ -5,11 +5,11 @@ use Rattle.js_token.specs.declared.token.TokenKind.{TokenKind}
 use Rattle.js_grammar.specs.TypeSpelling.{Tokens}
 use Rattle.js_grammar.specs.Nesting.{Nest, nest, no_nest, height, max_nesting, StaysWithin, WithinLimit}
 use Rattle.js_grammar.specs.Machine.{end_mark}
-use Rattle.js_grammar.specs.Items.{Items, no_item}
+use Rattle.js_grammar.specs.Items.{no_item}
 use Rattle.code_law.specs.Frames.{Mode, items_start, Stack, Step, fault, go, done, done_items}
 use Rattle.code_law.specs.Machine.{step, Outcome, faulty, whole, whole_items, resume, run, read_module}
-use Rattle.code_law.specs.Reads.{Spells, Begins, IsStuck, IsFault, module_with, items_of, Says}
-use Rattle.code_law.specs.Within.{is_deep, run_within, read_within, BeginsWithin, IsStuckWithin, IsFaultWithin, SaysWithin, ReadsEachWithin, ReadsOnlyWithin}
+use Rattle.code_law.specs.Reads.{Spells, IsStuck, IsFault, module_with, items_of, Says}
+use Rattle.code_law.specs.Within.{is_deep, run_within, read_within, IsStuckWithin, IsFaultWithin, SaysWithin, ReadsEachWithin, ReadsOnlyWithin}
 use Rattle.code_law.proofs.Main.{each_module, only_modules}
 
 -- what a run up to the limit is, where b stands behind it
