@@ -7,11 +7,11 @@ use Rattle.js_token.specs.declared.punct.Punct.TheVariants.{OpenBrace, OpenParen
 use Rattle.js_grammar.specs.Words.{Bytes, IsName}
 use Rattle.js_grammar.specs.TypeSpelling.{Tokens}
 use Rattle.js_grammar.specs.Machine.{first}
-use Rattle.js_grammar.specs.Code.{Prefix, negation, minus_sign, plus_sign, kind_of, Prefixes, no_prefix, more_prefix, Operator, Ex, ex, ExForm, variable, number, text, truth_value, null_value, parens, elements, fields, function_ex, postfixed, prefixed, chain, cond, arrow, Exs, Link, link, member, index, call, Links, no_link, more_link, Operand, operand, right_side, as_type, Operands, no_operand, more_operand, arm, Arms, no_arm, more_arm, function, sig, nullish, or, and, strict_equal, strict_not_equal, loose_equal, loose_not_equal, less, greater, less_or_equal, greater_or_equal, add, subtract, multiply, divide, remainder, has_arms}
+use Rattle.js_grammar.specs.Code.{Prefix, negation, minus_sign, plus_sign, kind_of, Prefixes, no_prefix, more_prefix, Operator, Ex, ex, ExForm, variable, number, text, truth_value, null_value, parens, elements, fields, function_ex, postfixed, prefixed, chain, cond, arrow, Exs, Link, link, member, index, call, Links, no_link, more_link, Operand, operand, right_side, as_type, Operands, no_operand, more_operand, arm, Arms, no_arm, more_arm, function, Sig, sig, nullish, or, and, strict_equal, strict_not_equal, loose_equal, loose_not_equal, less, greater, less_or_equal, greater_or_equal, add, subtract, multiply, divide, remainder, has_arms}
 use Rattle.js_grammar.specs.CodeSpelling.{prefix_token, mark_of, spell_prefixes, spell_ex, spell_ex_form, spell_links, spell_link, spell_operands, spell_operand, spell_arms, spell_arm}
 use Rattle.js_grammar.specs.CodePlaces.{stop_ex}
 use Rattle.js_grammar.specs.CodeFits.{BeginsNot, FitsEx, FitsExForm, FitsArms}
-use Rattle.code_law.specs.Frames.{Row, array_row, call_row, in_parens, in_row, Mode, want, row_start, paren_start, arrow_start, Stack}
+use Rattle.code_law.specs.Frames.{Row, array_row, call_row, in_parens, in_row, in_arrow, Mode, want, row_start, paren_start, arrow_start, Stack}
 use Rattle.code_law.specs.Expressions.{want_step, row_step, arrow_step}
 use Rattle.code_law.specs.Statements.{StatementWord, plain_word, statement_word}
 use Rattle.code_law.specs.Machine.{step, resume, run}
@@ -114,12 +114,12 @@ row_opens (call_row b ls s) es j k x h = refl
 pub begin_item : (e : Ex) (i : ℕ) → FitsEx e i → (k : Stack) (r : Row) (es : Exs) (l : Tokens) → run i k (row_start r es) (spell_ex e l) ≡ run i (in_row r es ∷ k) want (spell_ex e l)
 begin_item e i h k r es l = begin_with e i h i k (in_row r es ∷ k) (row_start r es) (λ x o. inr (row_opens r es i k x (starts_loose x o))) l
 
-body_opens : (e : Ex) → BeginsNot (Punct OpenBrace) e → (j : ℕ) (k : Stack) (x : TokenKind) → loose x ≡ true → BeginsNot x e ⊎ (arrow_step j k x ≡ want_step j k x)
-body_opens e n j k (Punct OpenBrace) h = inl n
-body_opens e n j k x h = inr refl
+body_opens : (e : Ex) → BeginsNot (Punct OpenBrace) e → (j : ℕ) (k : Stack) (g : Sig) (x : TokenKind) → loose x ≡ true → BeginsNot x e ⊎ (arrow_step j k g x ≡ want_step j (in_arrow g ∷ k) x)
+body_opens e n j k g (Punct OpenBrace) h = inl n
+body_opens e n j k g x h = inr refl
 
-pub begin_body : (e : Ex) (i : ℕ) → FitsEx e i → BeginsNot (Punct OpenBrace) e → (k : Stack) (l : Tokens) → run i k arrow_start (spell_ex e l) ≡ run i k want (spell_ex e l)
-begin_body e i h n k l = begin_with e i h i k k arrow_start (λ x o. body_opens e n i k x (starts_loose x o)) l
+pub begin_body : (e : Ex) (i : ℕ) → FitsEx e i → BeginsNot (Punct OpenBrace) e → (k : Stack) (g : Sig) (l : Tokens) → run i k (arrow_start g) (spell_ex e l) ≡ run i (in_arrow g ∷ k) want (spell_ex e l)
+begin_body e i h n k g l = begin_with e i h i k (in_arrow g ∷ k) (arrow_start g) (λ x o. body_opens e n i k g x (starts_loose x o)) l
 
 -- neither `:` nor `? :` stands here
 abbrev not_colon : TokenKind → Bool

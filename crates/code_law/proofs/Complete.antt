@@ -11,14 +11,14 @@ use Rattle.js_grammar.specs.Machine.{first}
 use Rattle.js_grammar.specs.Code.{Prefix, negation, minus_sign, plus_sign, kind_of, Prefixes, no_prefix, more_prefix, Level, relation_level, rank, operand_rank, level_of, Operator, Binder, const, let_word, Sig, sig, primary_rank, Ex, ex, ExForm, variable, number, text, truth_value, null_value, parens, elements, fields, function_ex, postfixed, prefixed, chain, cond, arrow, Exs, no_ex, more_ex, Link, link, LinkForm, member, index, call, Links, no_link, more_link, operand, right_side, as_type, Operands, no_operand, more_operand, Field, field, shorthand, valued, Fields, no_field, more_field, arm, Arms, no_arm, more_arm, Function, function, arrow_block, arrow_value, Block, block, Stmts, no_stmt, more_stmt, Stmt, stmt, StmtForm, declares, function_stmt, does, branches, loop, nested, Declaration, declaration, Simple, simple, SimpleForm, return_bare, return_value, throw_value, break_loop, continue_loop, assign, evaluate, Body, block_body, simple_body, Branch, branch, Branches, no_branch, more_branch, Else, no_else, else_body, has_exs, has_fields, has_branches, form_rank, ex_rank, is_cond, is_target}
 use Rattle.js_grammar.specs.CodeSpelling.{mark_of, prefix_token, binder_word, spell_prefixes, spell_annotation, spell_name, spell_sig, spell_ex, spell_ex_form, spell_exs, spell_listed, spell_link, spell_link_form, spell_links, spell_operands, spell_field, spell_fields, spell_entries, spell_arms, spell_block, spell_stmts, spell_stmt, spell_stmt_form, spell_simple, spell_simple_form, spell_body, spell_branch, spell_branches, spell_elses, spell_else}
 use Rattle.js_grammar.specs.CodePlaces.{stop_prefixes, stop_annotation, stop_name, stop_sig, stop_ex, stop_ex_form, stop_exs, stop_listed, stop_link, stop_link_form, stop_links, stop_operands, stop_field, stop_fields, stop_entries, stop_arms, stop_function, stop_declaration, stop_stmts, stop_stmt, stop_stmt_form, stop_simple, stop_simple_form, stop_body, stop_branch, stop_branches, stop_elses, stop_else}
-use Rattle.js_grammar.specs.CodeFits.{Context, looping, body_context, FitsPrefixes, FitsAnnotation, FitsEx, FitsExForm, FitsExs, FitsLink, FitsLinkForm, FitsLinks, FitsOperands, FitsField, FitsFields, FitsArms, FitsSig, IsNamed, FitsFunction, FitsDeclaration, FitsStmts, FitsStmt, FitsStmtForm, FitsSimple, FitsSimpleForm, FitsBody, FitsBranch, FitsBranches, FitsElse}
-use Rattle.code_law.specs.Frames.{FunctionKind, is_value, is_statement, Row, array_row, call_row, returns, throws, assigns, evaluates, cast_type, declared_type, in_prefix, in_chain, in_last, in_branch, in_parens, in_row, in_index, in_field, in_arrow, in_simple, in_declaration, in_if_test, in_loop_test, in_if, in_else, in_loop, in_function, in_block, Mode, want, after_links, row_start, fields_start, after_word, function_start, settled, statements_start, after_binder, after_declared, want_body, after_branch, after_else, Stack, go, start_ex, start_sig, start_key}
+use Rattle.js_grammar.specs.CodeFits.{Context, inside, looping, body_context, InFunction, InLoop, FitsPrefixes, FitsAnnotation, FitsEx, FitsExForm, FitsExs, FitsLink, FitsLinkForm, FitsLinks, FitsOperands, FitsField, FitsFields, FitsArms, FitsSig, IsNamed, FitsFunction, FitsDeclaration, FitsStmts, FitsStmt, FitsStmtForm, FitsSimple, FitsSimpleForm, FitsBody, FitsBranch, FitsBranches, FitsElse}
+use Rattle.code_law.specs.Frames.{FunctionKind, is_value, is_statement, Row, array_row, call_row, returns, throws, assigns, evaluates, cast_type, declared_type, in_prefix, in_chain, in_last, in_branch, in_parens, in_row, in_index, in_field, in_arrow, in_body, in_simple, in_declaration, in_if_test, in_loop_test, in_if, in_else, in_loop, in_function, in_block, Mode, want, after_links, row_start, fields_start, after_word, function_start, settled, statements_start, after_binder, after_declared, after_return, after_simple, want_body, after_branch, after_else, Stack, go, start_ex, start_sig, start_key, context, within_function, within_loop}
 use Rattle.code_law.specs.Bodies.{give_body, give_declaration, give_function, end_simple}
 use Rattle.code_law.specs.Ladder.{Joint, applies, casts, joins, ends, turn, joint_level, ask, begin, open_chain, join, settle_at, settle, close_row, close_fields, after_field}
 use Rattle.code_law.specs.Expressions.{marked, linked, field_step}
 use Rattle.code_law.specs.Statements.{simple_step, statements_step, is_else, branch_step}
 use Rattle.code_law.specs.Machine.{step, whole, resume, run, read_expression, go_on}
-use Rattle.code_law.proofs.Ladder.{hold, tier, tier_ex, floor, rank_below, rank_most, tier_least, tier_of, turn_mark, open_first, open_more, join_opens, chain_ends, prefix_ends, last_ends, arrow_ends, ask_first, arrow_stands, links_end, type_ends}
+use Rattle.code_law.proofs.Ladder.{hold, tier, tier_ex, floor, rank_below, rank_most, tier_least, tier_of, turn_mark, open_first, open_more, join_opens, chain_ends, prefix_ends, last_ends, arrow_ends, ask_first, may_ask, arrow_stands, links_end, type_ends}
 use Rattle.code_law.proofs.Embedded.{c_type}
 use Rattle.code_law.proofs.Begins.{begin_item, begin_body, begin_parens}
 use Rattle.code_law.proofs.Parameters.{c_sig, c_function_sig}
@@ -186,9 +186,9 @@ floor_arms : (hs : Arms) (s : ℕ) (k : Stack) (e : Ex) → floor k ≤ 0 → 1 
 floor_arms no_arm s k e f h = omega arith
 floor_arms (more_arm hs a) s k e f h = let t = tier_least e in omega arith
 
-ask_arms : (hs : Arms) (s i : ℕ) (k : Stack) (e : Ex) → floor k ≤ 0 → start_ex e ≡ stop_arms hs s → ask i (with_arms s hs k) e ≡ go (in_branch s hs e ∷ k) want
-ask_arms no_arm s i k e f h = ask_first i k e f ∙ ap (λ s. go (in_branch s no_arm e ∷ k) want) h
-ask_arms (more_arm hs a) s i k e f h = refl
+ask_arms : (hs : Arms) (s i : ℕ) (k : Stack) (e : Ex) → floor k ≤ 0 → 1 ≤ ex_rank e → start_ex e ≡ stop_arms hs s → ask i (with_arms s hs k) e ≡ go (in_branch s hs e ∷ k) want
+ask_arms no_arm s i k e f r h = ask_first i k e f r ∙ ap (λ s. go (in_branch s no_arm e ∷ k) want) h
+ask_arms (more_arm hs a) s i k e f r h = may_ask k s (more_arm hs a) e r
 
 last_tier : (e : Ex) → is_cond e ≡ false → 1 ≤ tier_ex e
 last_tier (ex f t (cond hs e)) h = absurd (let g : true ≡ false = h in cc)
@@ -244,6 +244,31 @@ simple_read n i k m a w l h = ap (λ s. resume (λ k m. run (suc i) k m l) s (Na
 pub target_read : (d : Ex) → is_target d ≡ true → (i z : ℕ) (k : Stack) (l : Tokens) →
     go_on z (settle z (in_simple i evaluates ∷ k) d (Punct Assign)) (Punct Assign ∷ l) ≡ run (suc z) (in_simple i (assigns d) ∷ k) want l
 target_read d h i z k l = rw h refl
+
+within_is : (c : Context) → InFunction c → within_function c ≡ true
+within_is (inside f l) h = h
+
+loop_is : (c : Context) → InLoop c → within_loop c ≡ true
+loop_is (inside f l) h = h
+
+returned : (i : ℕ) (a : Stack) (c : Context) → context a ≡ c → InFunction c → (l : Tokens) →
+    resume (λ k m. run (suc i) k m l) (simple_step i a (Name (codes "return"))) (Name (codes "return") ∷ l) ≡ run (suc i) a (after_return i) l
+returned i a c u h l = rw (ap within_function u ∙ within_is c h) refl
+
+abbrev jump_word : SimpleForm → Bytes
+jump_word break_loop = codes "break"
+jump_word x = codes "continue"
+
+abbrev is_jump : SimpleForm → Bool
+is_jump break_loop = true
+is_jump continue_loop = true
+is_jump x = false
+
+left : (x : SimpleForm) → is_jump x ≡ true → (i : ℕ) (a : Stack) (c : Context) → context a ≡ c → InLoop c → (l : Tokens) →
+    resume (λ k m. run (suc i) k m l) (simple_step i a (Name (jump_word x))) (Name (jump_word x) ∷ l) ≡ run (suc i) a (after_simple (simple i (suc i) x)) l
+left break_loop j i a c u h l = rw (ap within_loop u ∙ loop_is c h) refl
+left continue_loop j i a c u h l = rw (ap within_loop u ∙ loop_is c h) refl
+left x j i a c u h l = no_true j
 
 -- what a further branch is read under, and by which mode
 abbrev under : Branches → ℕ → Stmts → Stack → Stack
@@ -311,12 +336,12 @@ mutual
   c_form (arrow g (arrow_block (block f t ss))) i h k a =
       λ l s. let j = stop_sig g i in let p = suc j in let n = stop_stmts ss (suc p) in let z = suc n in
       c_sig k (arrow_stands k a) g i (h.1) (h.0) (Punct OpenBrace ∷ spell_stmts ss (Punct CloseBrace ∷ l))
-      ∙ c_stmts ss body_context (suc p) (h.2.2) p (in_arrow g ∷ k) (Punct CloseBrace ∷ l) refl
+      ∙ c_stmts ss body_context (suc p) (h.2.2) p (in_body g ∷ k) refl (Punct CloseBrace ∷ l) refl
       ∙ run-then z k (settled (ex (start_sig g) z (arrow g (arrow_block (block p z ss))))) l
       ∙ ap₂ (λ f b. go_on z (settle z k (ex f z (arrow g (arrow_block b))) (first l)) l) (start-sig g i (h.1)) (ap₂ (λ f t. block f t ss) (sym (h.2.0)) (sym (h.2.1)))
   c_form (arrow g (arrow_value e)) i h k a =
       λ l s. let j = suc (stop_sig g i) in let z = stop_ex e j in
-      c_sig k (arrow_stands k a) g i (h.1) (h.0) (spell_ex e l) ∙ begin_body e j (h.2.1) (h.2.0) (in_arrow g ∷ k) l
+      c_sig k (arrow_stands k a) g i (h.1) (h.0) (spell_ex e l) ∙ begin_body e j (h.2.1) (h.2.0) k g l
       ∙ c_ex e j (h.2.1) (in_arrow g ∷ k) (omega arith) l (omega arith) ∙ ap (λ s. go_on z s l) (arrow_ends z k g e (turn (first l)) (first l) s)
       ∙ ap (λ f. go_on z (settle z k (ex f z (arrow g (arrow_value e))) (first l)) l) (start-sig g i (h.1))
 
@@ -404,7 +429,7 @@ mutual
   c_arms (more_arm hs (arm f t d g)) i h k a l =
       let j = stop_arms hs i in let n = stop_ex d j in let z = stop_ex g (suc n) in let m = Punct Question ∷ spell_ex g (Punct Colon ∷ l) in
       c_arms hs i (h.0) k a (spell_ex d m) ∙ c_ex d j (h.1.3) (with_arms i hs k) (floor_arms hs i k d a (h.1.2)) m (h.1.2)
-      ∙ ap (λ s. go_on n s m) (ask_arms hs i n k d a (start-of d j (h.1.3)))
+      ∙ ap (λ s. go_on n s m) (ask_arms hs i n k d a (h.1.2) (start-of d j (h.1.3)))
       ∙ c_ex g (suc n) (h.1.4) (in_branch i hs d ∷ k) (omega arith) (Punct Colon ∷ l) (omega arith)
       ∙ ap (λ y. run (suc z) (in_last i (more_arm hs y) ∷ k) want l) (ap₂ (λ f t. arm f t d g) (start-of d j (h.1.3) ∙ sym (h.1.0)) (sym (h.1.1)))
 
@@ -414,7 +439,7 @@ mutual
   c_function (function f t n g (block a e ss)) i h q y k l d m r =
       let j = stop_sig g (stop_name n (suc i)) in let z = suc (stop_stmts ss (suc j)) in
       c_function_sig k q n g i (h.2) y (h.3) (spell_stmts ss (Punct CloseBrace ∷ l))
-      ∙ c_stmts ss body_context (suc j) (h.4.2) j (in_function q i n g ∷ k) (Punct CloseBrace ∷ l) refl
+      ∙ c_stmts ss body_context (suc j) (h.4.2) j (in_function q i n g ∷ k) refl (Punct CloseBrace ∷ l) refl
       ∙ ap (λ s. resume (λ k m. run z k m l) s (Punct CloseBrace ∷ l))
       (ap (λ y. give_function z k q y) (same_function n g i f z t (block j z ss) (block a e ss) (sym (h.0)) (sym (h.1)) (ap₂ (λ f t. block f t ss) (sym (h.4.0)) (sym (h.4.1)))) ∙ r)
 
@@ -427,104 +452,104 @@ mutual
       ∙ c_ex e (suc j) (h.4) (in_declaration i w n v ∷ k) (omega arith) p (omega arith)
       ∙ ap (λ s. resume (λ k m. run (suc z) k m l) s p) (ap (λ y. give_declaration (suc z) k i y) (ap₂ (λ f t. declaration f t w n v e) (sym (h.0)) (sym (h.1))) ∙ r)
 
-  c_stmts : (ss : Stmts) (c : Context) (i : ℕ) → FitsStmts ss c i → (s : ℕ) (k : Stack) (l : Tokens) → is_else (first l) ≡ false → run i k (statements_start s no_stmt) (spell_stmts ss l) ≡ run (stop_stmts ss i) k (statements_start s ss) l
-  c_stmts no_stmt c i h s k l e = refl
-  c_stmts (more_stmt ss y) c i h s k l e =
-      let j = stop_stmts ss i in c_stmts ss c i (h.0) s k (spell_stmt y l) (stmt_else y c j (h.1) l) ∙ c_stmt y c j (h.1) s ss k l e
+  c_stmts : (ss : Stmts) (c : Context) (i : ℕ) → FitsStmts ss c i → (s : ℕ) (k : Stack) → context k ≡ c → (l : Tokens) → is_else (first l) ≡ false → run i k (statements_start s no_stmt) (spell_stmts ss l) ≡ run (stop_stmts ss i) k (statements_start s ss) l
+  c_stmts no_stmt c i h s k u l e = refl
+  c_stmts (more_stmt ss y) c i h s k u l e =
+      let j = stop_stmts ss i in c_stmts ss c i (h.0) s k u (spell_stmt y l) (stmt_else y c j (h.1) l) ∙ c_stmt y c j (h.1) s ss k u l e
 
-  c_stmt : (y : Stmt) (c : Context) (i : ℕ) → FitsStmt y c i → (s : ℕ) (ss : Stmts) (k : Stack) (l : Tokens) → is_else (first l) ≡ false →
+  c_stmt : (y : Stmt) (c : Context) (i : ℕ) → FitsStmt y c i → (s : ℕ) (ss : Stmts) (k : Stack) → context k ≡ c → (l : Tokens) → is_else (first l) ≡ false →
       run i k (statements_start s ss) (spell_stmt y l) ≡ run (stop_stmt y i) k (statements_start s (more_stmt ss y)) l
-  c_stmt (stmt f t x) c i h s ss k l e =
-      c_stmt_form x c i (h.2) s ss k l e ∙ ap (λ y. run (stop_stmt_form x i) k (statements_start s (more_stmt ss y)) l) (ap₂ (λ f t. stmt f t x) (sym (h.0)) (sym (h.1)))
+  c_stmt (stmt f t x) c i h s ss k u l e =
+      c_stmt_form x c i (h.2) s ss k u l e ∙ ap (λ y. run (stop_stmt_form x i) k (statements_start s (more_stmt ss y)) l) (ap₂ (λ f t. stmt f t x) (sym (h.0)) (sym (h.1)))
 
-  c_stmt_form : (x : StmtForm) (c : Context) (i : ℕ) → FitsStmtForm x c i → (s : ℕ) (ss : Stmts) (k : Stack) (l : Tokens) → is_else (first l) ≡ false →
+  c_stmt_form : (x : StmtForm) (c : Context) (i : ℕ) → FitsStmtForm x c i → (s : ℕ) (ss : Stmts) (k : Stack) → context k ≡ c → (l : Tokens) → is_else (first l) ≡ false →
       run i k (statements_start s ss) (spell_stmt_form x l) ≡ run (stop_stmt_form x i) k (statements_start s (more_stmt ss (stmt i (stop_stmt_form x i) x))) l
-  c_stmt_form (declares (declaration f t w n v d)) c i h s ss k l e =
+  c_stmt_form (declares (declaration f t w n v d)) c i h s ss k u l e =
       let y = declares (declaration f t w n v d) in
       binder_read w i s ss k (Name n ∷ spell_annotation v (Punct Assign ∷ spell_ex d (Punct Semicolon ∷ l)))
       ∙ c_declaration (declaration f t w n v d) i h (in_block s ss ∷ k) l k (statements_start s (more_stmt ss (stmt i (stop_stmt_form y i) y))) refl
-  c_stmt_form (function_stmt (function f t n g b)) c i h s ss k l e =
+  c_stmt_form (function_stmt (function f t n g b)) c i h s ss k u l e =
       let j = stop_function (function f t n g b) i in
       c_function (function f t n g b) i (h.1) is_statement (λ q. h.0) (in_block s ss ∷ k) l k (statements_start s (more_stmt ss (stmt i j (function_stmt (function f t n g b)))))
       (ap (λ p. go k (statements_start s (more_stmt ss (stmt p j (function_stmt (function f t n g b)))))) (h.1.0))
-  c_stmt_form (does (simple f t x)) c i h s ss k l e =
+  c_stmt_form (does (simple f t x)) c i h s ss k u l e =
       let j = suc (stop_simple_form x i) in
-      c_simple (simple f t x) c i h k (statements_start s ss) (in_block s ss ∷ k) (takes_statement i k s ss) k (statements_start s (more_stmt ss (stmt i j (does (simple f t x)))))
+      c_simple (simple f t x) c i h k (statements_start s ss) (in_block s ss ∷ k) u (takes_statement i k s ss) k (statements_start s (more_stmt ss (stmt i j (does (simple f t x)))))
       (ap (λ p. go k (statements_start s (more_stmt ss (stmt p j (does (simple f t x)))))) (h.0)) l
-  c_stmt_form (branches bs y) c i h s ss k l e =
-      c_branches bs c i (h.1) (h.0) s ss k (spell_else y l) ∙ c_else y c (stop_branches bs i) (h.2) i bs s ss k l e
-  c_stmt_form (loop d b) c i h s ss k l e =
+  c_stmt_form (branches bs y) c i h s ss k u l e =
+      c_branches bs c i (h.1) (h.0) s ss k u (spell_else y l) ∙ c_else y c (stop_branches bs i) (h.2) i bs s ss k u l e
+  c_stmt_form (loop d b) c i h s ss k u l e =
       let z = suc (stop_ex d (suc (suc i))) in let a = in_block s ss ∷ k in
       c_ex d (suc (suc i)) (h.0) (in_loop_test i ∷ a) (omega arith) (Punct CloseParen ∷ spell_body b l) (omega arith)
-      ∙ c_body b (looping c) z (h.1) (in_loop i d ∷ a) want_body (in_loop i d ∷ a) (body_taken z (in_loop i d ∷ a) (λ z b. refl) (λ z y. refl))
+      ∙ c_body b (looping c) z (h.1) (in_loop i d ∷ a) want_body (in_loop i d ∷ a) (ap looping u) (body_taken z (in_loop i d ∷ a) (λ z b. refl) (λ z y. refl))
       k (statements_start s (more_stmt ss (stmt i (stop_body b z) (loop d b)))) refl l
-  c_stmt_form (nested (block f t y)) c i h s ss k l e =
+  c_stmt_form (nested (block f t y)) c i h s ss k u l e =
       let z = suc (stop_stmts y (suc i)) in
-      c_stmts y c (suc i) (h.2) i (in_block s ss ∷ k) (Punct CloseBrace ∷ l) refl
+      c_stmts y c (suc i) (h.2) i (in_block s ss ∷ k) u (Punct CloseBrace ∷ l) refl
       ∙ ap (λ b. run z k (statements_start s (more_stmt ss (stmt i z (nested b)))) l) (ap₂ (λ f t. block f t y) (sym (h.0)) (sym (h.1)))
 
-  c_simple : (y : Simple) (c : Context) (i : ℕ) → FitsSimple y c i → (k : Stack) (m : Mode) (a : Stack) → TakesSimple i k m a → (d : Stack) (o : Mode) → end_simple (stop_simple y i) a y ≡ go d o → (l : Tokens) →
+  c_simple : (y : Simple) (c : Context) (i : ℕ) → FitsSimple y c i → (k : Stack) (m : Mode) (a : Stack) → context a ≡ c → TakesSimple i k m a → (d : Stack) (o : Mode) → end_simple (stop_simple y i) a y ≡ go d o → (l : Tokens) →
       run i k m (spell_simple y (Punct Semicolon ∷ l)) ≡ run (suc (stop_simple y i)) d o l
-  c_simple (simple f t x) c i h k m a w d o r l =
+  c_simple (simple f t x) c i h k m a u w d o r l =
       let j = stop_simple_form x i in
-      c_simple_form x c i (h.2) k m a w l ∙ ap (λ s. resume (λ k m. run (suc j) k m l) s (Punct Semicolon ∷ l)) (ap (λ y. end_simple j a y) (ap₂ (λ f t. simple f t x) (sym (h.0)) (sym (h.1))) ∙ r)
+      c_simple_form x c i (h.2) k m a u w l ∙ ap (λ s. resume (λ k m. run (suc j) k m l) s (Punct Semicolon ∷ l)) (ap (λ y. end_simple j a y) (ap₂ (λ f t. simple f t x) (sym (h.0)) (sym (h.1))) ∙ r)
 
-  c_simple_form : (x : SimpleForm) (c : Context) (i : ℕ) → FitsSimpleForm x c i → (k : Stack) (m : Mode) (a : Stack) → TakesSimple i k m a → (l : Tokens) →
+  c_simple_form : (x : SimpleForm) (c : Context) (i : ℕ) → FitsSimpleForm x c i → (k : Stack) (m : Mode) (a : Stack) → context a ≡ c → TakesSimple i k m a → (l : Tokens) →
       run i k m (spell_simple_form x (Punct Semicolon ∷ l)) ≡ resume (λ k m. run (suc (stop_simple_form x i)) k m l) (end_simple (stop_simple_form x i) a (simple i (stop_simple_form x i) x)) (Punct Semicolon ∷ l)
-  c_simple_form return_bare c i h k m a w l = simple_read (codes "return") i k m a w (Punct Semicolon ∷ l) refl
-  c_simple_form (return_value e) c i h k m a w l =
+  c_simple_form return_bare c i h k m a u w l = simple_read (codes "return") i k m a w (Punct Semicolon ∷ l) refl ∙ returned i a c u h (Punct Semicolon ∷ l)
+  c_simple_form (return_value e) c i h k m a u w l =
       let n = Punct Semicolon ∷ l in
-      simple_read (codes "return") i k m a w (spell_ex e n) refl ∙ begin_return e (suc i) (h.1) a i n ∙ c_ex e (suc i) (h.1) (in_simple i returns ∷ a) (omega arith) n (omega arith)
-  c_simple_form (throw_value e) c i h k m a w l =
+      simple_read (codes "return") i k m a w (spell_ex e n) refl ∙ returned i a c u (h.0) (spell_ex e n) ∙ begin_return e (suc i) (h.1) a i n ∙ c_ex e (suc i) (h.1) (in_simple i returns ∷ a) (omega arith) n (omega arith)
+  c_simple_form (throw_value e) c i h k m a u w l =
       let n = Punct Semicolon ∷ l in
       simple_read (codes "throw") i k m a w (spell_ex e n) refl ∙ c_ex e (suc i) h (in_simple i throws ∷ a) (omega arith) n (omega arith)
-  c_simple_form break_loop c i h k m a w l = simple_read (codes "break") i k m a w (Punct Semicolon ∷ l) refl
-  c_simple_form continue_loop c i h k m a w l = simple_read (codes "continue") i k m a w (Punct Semicolon ∷ l) refl
-  c_simple_form (assign d e) c i h k m a w l =
+  c_simple_form break_loop c i h k m a u w l = simple_read (codes "break") i k m a w (Punct Semicolon ∷ l) refl ∙ left break_loop refl i a c u h (Punct Semicolon ∷ l)
+  c_simple_form continue_loop c i h k m a u w l = simple_read (codes "continue") i k m a w (Punct Semicolon ∷ l) refl ∙ left continue_loop refl i a c u h (Punct Semicolon ∷ l)
+  c_simple_form (assign d e) c i h k m a u w l =
       let n = Punct Semicolon ∷ l in let p = Punct Assign ∷ spell_ex e n in let z = stop_ex d i in
       begin_evaluate d i (h.2) (h.1) k a m w p ∙ c_ex d i (h.2) (in_simple i evaluates ∷ a) (omega arith) p (omega arith)
       ∙ target_read d (h.0) i z a (spell_ex e n)
       ∙ c_ex e (suc z) (h.3) (in_simple i (assigns d) ∷ a) (omega arith) n (omega arith)
-  c_simple_form (evaluate e) c i h k m a w l =
+  c_simple_form (evaluate e) c i h k m a u w l =
       let n = Punct Semicolon ∷ l in
       begin_evaluate e i (h.1) (h.0) k a m w n ∙ c_ex e i (h.1) (in_simple i evaluates ∷ a) (omega arith) n (omega arith)
 
-  c_body : (b : Body) (c : Context) (i : ℕ) → FitsBody b c i → (k : Stack) (m : Mode) (a : Stack) → TakesBody i k m a → (d : Stack) (o : Mode) → give_body (stop_body b i) a b ≡ go d o → (l : Tokens) →
+  c_body : (b : Body) (c : Context) (i : ℕ) → FitsBody b c i → (k : Stack) (m : Mode) (a : Stack) → context a ≡ c → TakesBody i k m a → (d : Stack) (o : Mode) → give_body (stop_body b i) a b ≡ go d o → (l : Tokens) →
       run i k m (spell_body b l) ≡ run (stop_body b i) d o l
-  c_body (block_body (block f t ss)) c i h k m a w d o r l =
+  c_body (block_body (block f t ss)) c i h k m a u w d o r l =
       let z = suc (stop_stmts ss (suc i)) in let n = Punct CloseBrace ∷ l in
       ap (λ s. resume (λ k m. run (suc i) k m (spell_stmts ss n)) s (Punct OpenBrace ∷ spell_stmts ss n)) (w.1)
-      ∙ c_stmts ss c (suc i) (h.2) i a n refl
+      ∙ c_stmts ss c (suc i) (h.2) i a u n refl
       ∙ ap (λ s. resume (λ k m. run z k m l) s n) (w.2 z (block i z ss) ∙ ap (λ b. give_body z a (block_body b)) (ap₂ (λ f t. block f t ss) (sym (h.0)) (sym (h.1))) ∙ r)
-  c_body (simple_body y) c i h k m a w d o r l = c_simple y c i h k m a (w.0) d o (w.3 (stop_simple y i) y ∙ r) l
+  c_body (simple_body y) c i h k m a u w d o r l = c_simple y c i h k m a u (w.0) d o (w.3 (stop_simple y i) y ∙ r) l
 
-  c_branches : (bs : Branches) (c : Context) (i : ℕ) → FitsBranches bs c i → has_branches bs ≡ true → (s : ℕ) (ss : Stmts) (k : Stack) (l : Tokens) →
+  c_branches : (bs : Branches) (c : Context) (i : ℕ) → FitsBranches bs c i → has_branches bs ≡ true → (s : ℕ) (ss : Stmts) (k : Stack) → context k ≡ c → (l : Tokens) →
       run i k (statements_start s ss) (spell_branches bs l) ≡ run (stop_branches bs i) (in_block s ss ∷ k) (after_branch i bs) l
-  c_branches no_branch c i h y s ss k l = no_true y
-  c_branches (more_branch bs b) c i h y s ss k l = c_elses bs c i (h.0) s ss k (spell_branch b l) ∙ c_branch b c (stop_elses bs i) (h.1) bs i refl s ss k l
+  c_branches no_branch c i h y s ss k u l = no_true y
+  c_branches (more_branch bs b) c i h y s ss k u l = c_elses bs c i (h.0) s ss k u (spell_branch b l) ∙ c_branch b c (stop_elses bs i) (h.1) bs i refl s ss k u l
 
-  c_elses : (bs : Branches) (c : Context) (i : ℕ) → FitsBranches bs c i → (s : ℕ) (ss : Stmts) (k : Stack) (l : Tokens) →
+  c_elses : (bs : Branches) (c : Context) (i : ℕ) → FitsBranches bs c i → (s : ℕ) (ss : Stmts) (k : Stack) → context k ≡ c → (l : Tokens) →
       run i k (statements_start s ss) (spell_elses bs l) ≡ run (stop_elses bs i) (under bs s ss k) (awaits bs i s ss) l
-  c_elses no_branch c i h s ss k l = refl
-  c_elses (more_branch bs b) c i h s ss k l =
-      let n = Name (codes "else") ∷ l in c_elses bs c i (h.0) s ss k (spell_branch b n) ∙ c_branch b c (stop_elses bs i) (h.1) bs i refl s ss k n
+  c_elses no_branch c i h s ss k u l = refl
+  c_elses (more_branch bs b) c i h s ss k u l =
+      let n = Name (codes "else") ∷ l in c_elses bs c i (h.0) s ss k u (spell_branch b n) ∙ c_branch b c (stop_elses bs i) (h.1) bs i refl s ss k u n
 
-  c_branch : (b : Branch) (c : Context) (j : ℕ) → FitsBranch b c j → (bs : Branches) (i : ℕ) → j ≡ stop_elses bs i → (s : ℕ) (ss : Stmts) (k : Stack) (l : Tokens) →
+  c_branch : (b : Branch) (c : Context) (j : ℕ) → FitsBranch b c j → (bs : Branches) (i : ℕ) → j ≡ stop_elses bs i → (s : ℕ) (ss : Stmts) (k : Stack) → context k ≡ c → (l : Tokens) →
       run j (under bs s ss k) (awaits bs i s ss) (spell_branch b l) ≡ run (stop_branch b j) (in_block s ss ∷ k) (after_branch i (more_branch bs b)) l
-  c_branch (branch f t e b) c j h bs i q s ss k l =
+  c_branch (branch f t e b) c j h bs i q s ss k u l =
       let z = suc (stop_ex e (suc (suc j))) in let a = in_if i bs j e ∷ in_block s ss ∷ k in
       if_read bs i j q s ss k (spell_ex e (Punct CloseParen ∷ spell_body b l))
       ∙ c_ex e (suc (suc j)) (h.2) (in_if_test i bs j ∷ in_block s ss ∷ k) (omega arith) (Punct CloseParen ∷ spell_body b l) (omega arith)
-      ∙ c_body b c z (h.3) a want_body a (body_taken z a (λ z b. refl) (λ z y. refl)) (in_block s ss ∷ k) (after_branch i (more_branch bs (branch f t e b)))
+      ∙ c_body b c z (h.3) a want_body a u (body_taken z a (λ z b. refl) (λ z y. refl)) (in_block s ss ∷ k) (after_branch i (more_branch bs (branch f t e b)))
       (ap (λ y. go (in_block s ss ∷ k) (after_branch i (more_branch bs y))) (ap₂ (λ f t. branch f t e b) (sym (h.0)) (sym (h.1)))) l
 
-  c_else : (y : Else) (c : Context) (j : ℕ) → FitsElse y c j → (i : ℕ) (bs : Branches) (s : ℕ) (ss : Stmts) (k : Stack) (l : Tokens) → is_else (first l) ≡ false →
+  c_else : (y : Else) (c : Context) (j : ℕ) → FitsElse y c j → (i : ℕ) (bs : Branches) (s : ℕ) (ss : Stmts) (k : Stack) → context k ≡ c → (l : Tokens) → is_else (first l) ≡ false →
       run j (in_block s ss ∷ k) (after_branch i bs) (spell_else y l) ≡ run (stop_else y j) k (statements_start s (more_stmt ss (stmt i (stop_else y j) (branches bs y)))) l
-  c_else no_else c j h i bs s ss k l e =
+  c_else no_else c j h i bs s ss k u l e =
       run-then j (in_block s ss ∷ k) (after_branch i bs) l ∙ ap (λ s. go_on j s l) (no_more (first l) e j s ss k i bs)
       ∙ sym (run-then j k (statements_start s (more_stmt ss (stmt i j (branches bs no_else)))) l)
-  c_else (else_body b) c j h i bs s ss k l e =
-      c_body b c (suc j) h (in_block s ss ∷ k) (after_else i bs) (in_else i bs ∷ in_block s ss ∷ k) (else_taken (suc j) (in_block s ss ∷ k) i bs)
+  c_else (else_body b) c j h i bs s ss k u l e =
+      c_body b c (suc j) h (in_block s ss ∷ k) (after_else i bs) (in_else i bs ∷ in_block s ss ∷ k) u (else_taken (suc j) (in_block s ss ∷ k) i bs)
       k (statements_start s (more_stmt ss (stmt i (stop_body b (suc j)) (branches bs (else_body b))))) refl l
 
 -- what a whole expression's spelling is read as

@@ -14,7 +14,7 @@ use Rattle.code_law.specs.Machine.{Outcome, faulty, resume, run, go_on}
 
 module _ (z : ℕ) (k : Stack) (w : Waiting) where
   -- what reading a type that begins at z comes to
-  abbrev continued : ty.Outcome → Outcome
+  abbrev pub continued : ty.Outcome → Outcome
   continued (ty.faulty l) = faulty l
   continued (ty.whole t l) = go_on (stop t z) (after_type (stop t z) k w t (first l)) l
 
@@ -31,7 +31,7 @@ module _ (z : ℕ) (k : Stack) (w : Waiting) where
   token_case i x l (ty.done t) h r = ap (λ j. go_on j (after_type j k w t x) (x ∷ l)) (h.1)
 
   -- the outer run is the inner run, and then the form that waits
-  embedded : (l : Tokens) (i : ℕ) (a : ty.Stack) (m : ty.Mode) → FitsMode (takes_function w) z a m i → run i k (typing w a m) l ≡ continued (ty.run (takes_function w) i a m l)
+  pub embedded : (l : Tokens) (i : ℕ) (a : ty.Stack) (m : ty.Mode) → FitsMode (takes_function w) z a m i → run i k (typing w a m) l ≡ continued (ty.run (takes_function w) i a m l)
   embedded [] i a m h = end_case i (ty.step (takes_function w) i a m end_mark) (kept (takes_function w) z a m i end_mark h)
   embedded (x ∷ l) i a m h = token_case i x l (ty.step (takes_function w) i a m x) (kept (takes_function w) z a m i x h) (λ a m g. embedded l (suc i) a m g)
 

@@ -1,5 +1,5 @@
 -- How tight a token binds, and which open forms it ends.
-use Rattle.std.proofs.Common.{◌≡◌, refl, ap, ℕ, suc, ◌<◌, ◌≤◌, nat_lt, nat_le, nat_eq, true, false, ◌∷◌, if◌then◌else◌, arith}
+use Rattle.std.proofs.Common.{◌≡◌, refl, ℕ, suc, ◌<◌, ◌≤◌, nat_lt, nat_le, nat_eq, true, false, ◌∷◌, arith}
 use Rattle.std.proofs.lemmas.Bool.Decides.{nat_tests}
 use Rattle.js_token.specs.declared.token.TokenKind.{TokenKind}
 use Rattle.js_token.specs.declared.token.TokenKind.TheVariants.{Punct}
@@ -8,7 +8,7 @@ use Rattle.js_grammar.specs.Code.{Prefixes, Level, nullish_level, or_level, and_
 use Rattle.js_grammar.specs.CodeSpelling.{mark_of}
 use Rattle.js_grammar.proofs.Complete.{goes_on}
 use Rattle.code_law.specs.Frames.{in_prefix, in_chain, in_last, in_branch, in_arrow, Stack, go, want, start_ex, start_sig}
-use Rattle.code_law.specs.Ladder.{Joint, applies, Turn, joins, asks, sticks, ends, turn, joint_level, ask, begin, open_chain, join, settle_at, settle}
+use Rattle.code_law.specs.Ladder.{Joint, applies, Turn, joins, asks, sticks, ends, turn, joint_level, ask_test, ask, begin, open_chain, join, settle_at, settle}
 use Rattle.code_law.specs.Expressions.{may_arrow, links_step, linked}
 
 -- the least rank of an expression that the token doesn't go on
@@ -107,7 +107,7 @@ pub join_opens : (i : ℕ) (k : Stack) (e : Ex) (p : Level) (w : Joint) → floo
 join_opens i (in_prefix s ps ∷ k) e p w h = absurd (let b = rank_most p in omega arith)
 join_opens i (in_chain s q f os d o ∷ k) e p w h =
     let b : rank q < rank p = let c = rank_below q in omega arith in
-    ap (λ c. if c then open_chain i (in_chain s q f os d o ∷ k) e p w else join i k (ex s i (chain q f (more_operand os (operand d i (right_side o e))))) p w) (less_test (rank q) (rank p) b)
+    rw (less_test (rank q) (rank p) b, most_test (operand_rank q) (rank p) (omega arith)) refl
 join_opens i k e p w h = refl
 
 -- a token ends a chain that it doesn't bind more than
@@ -136,12 +136,15 @@ arrow_ends i k g e asks x h = absurd (omega arith)
 arrow_ends i k g e sticks x h = refl
 arrow_ends i k g e ends x h = refl
 
+pub may_ask : (k : Stack) (s : ℕ) (hs : Arms) (e : Ex) → 1 ≤ ex_rank e → ask_test k s hs e ≡ go (in_branch s hs e ∷ k) want
+may_ask k s hs e h = rw (most_test 1 (ex_rank e) h) refl
+
 -- a test under a stack that waits for any expression begins a conditional
-pub ask_first : (i : ℕ) (k : Stack) (e : Ex) → floor k ≤ 0 → ask i k e ≡ go (in_branch (start_ex e) no_arm e ∷ k) want
-ask_first i (in_prefix s ps ∷ k) e h = absurd (omega arith)
-ask_first i (in_chain s q f os d o ∷ k) e h = absurd (omega arith)
-ask_first i (in_last s hs ∷ k) e h = absurd (omega arith)
-ask_first i k e h = refl
+pub ask_first : (i : ℕ) (k : Stack) (e : Ex) → floor k ≤ 0 → 1 ≤ ex_rank e → ask i k e ≡ go (in_branch (start_ex e) no_arm e ∷ k) want
+ask_first i (in_prefix s ps ∷ k) e h r = absurd (omega arith)
+ask_first i (in_chain s q f os d o ∷ k) e h r = absurd (omega arith)
+ask_first i (in_last s hs ∷ k) e h r = absurd (omega arith)
+ask_first i k e h r = may_ask k (start_ex e) no_arm e r
 
 pub arrow_stands : (k : Stack) → floor k ≤ 1 → may_arrow k ≡ true
 arrow_stands (in_prefix s ps ∷ k) h = absurd (omega arith)

@@ -1,4 +1,9 @@
 pub mod Ladder
+pub mod Typing
+pub mod States
+pub mod Stands
+pub mod KeptBodies
+pub mod KeptLadder
 pub mod Embedded
 pub mod Begins
 pub mod Parameters
@@ -7,3 +12,15 @@ pub mod Complete
 pub mod Names
 pub mod Top
 pub mod Modules
+pub mod Shapes
+pub mod Closing
+pub mod Typed
+pub mod Viable
+pub mod KeptExpressions
+pub mod StatementWords
+pub mod KeptStatements
+pub mod KeptParameters
+pub mod KeptModules
+pub mod Kept
+pub mod Main
+pub mod Within

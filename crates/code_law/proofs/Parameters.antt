@@ -14,7 +14,7 @@ use Rattle.js_grammar.specs.CodeSpelling.{spell_annotation, spell_parameter, spe
 use Rattle.js_grammar.specs.CodePlaces.{stop_annotation, stop_parameter, stop_named, stop_parameters, stop_sig, stop_name}
 use Rattle.js_grammar.specs.CodeFits.{FitsAnnotation, FitsParameter, FitsParameters, FitsSig, AllTyped, IsPlainResult, IsArrowSig, FitsName, is_some}
 use Rattle.js_grammar.proofs.Complete.{goes_on}
-use Rattle.code_law.specs.Frames.{FunctionKind, is_value, is_statement, is_default, Owner, of_arrow, of_function, parameter_type, result_type, in_arrow, in_function, Mode, want, paren_start, function_start, parameters_open, parameter_start, parameter_word, parameters_end, arrow_start, statements_start, typing, Stack}
+use Rattle.code_law.specs.Frames.{FunctionKind, is_value, is_statement, is_default, Owner, of_arrow, of_function, parameter_type, result_type, in_function, Mode, want, paren_start, function_start, parameters_open, parameter_start, parameter_word, parameters_end, arrow_start, statements_start, typing, Stack}
 use Rattle.code_law.specs.Expressions.{may_arrow, after_parameter, parameter_word_step}
 use Rattle.code_law.specs.Machine.{run, step, go_on}
 use Rattle.code_law.proofs.Embedded.{c_type}
@@ -126,7 +126,7 @@ module _ (k : Stack) where
       c_named w may ps i (h.0) (b.0) s (spell_parameter p (Punct CloseParen ∷ l)) ∙ c_parameter w may p ps (stop_named ps i) (h.1) (b.1) s (Punct CloseParen ∷ l) refl
 
   c_arrow_result : (ps : Parameters) (c : Bool) (r : Option Ty) (i j : ℕ) → FitsAnnotation r j → IsPlainResult r → (l : Tokens) →
-      run j k (parameters_end of_arrow i ps c) (spell_annotation r (Punct ArrowMark ∷ l)) ≡ run (suc (stop_annotation r j)) (in_arrow (sig i (stop_annotation r j) ps c r) ∷ k) arrow_start l
+      run j k (parameters_end of_arrow i ps c) (spell_annotation r (Punct ArrowMark ∷ l)) ≡ run (suc (stop_annotation r j)) k (arrow_start (sig i (stop_annotation r j) ps c r)) l
   c_arrow_result ps c None i j h y l = refl
   c_arrow_result ps c (Some t) i j h y l = c_type (suc j) k (result_type of_arrow i ps c) t h (λ g. let a : false ≡ true = sym y ∙ g in no_true a) (Punct ArrowMark ∷ l) refl
 
@@ -137,11 +137,11 @@ module _ (k : Stack) where
   c_function_result q b m ps c (Some t) i j h l = c_type (suc j) k (result_type (of_function q b m) i ps c) t h (λ g. refl) (Punct OpenBrace ∷ l) refl
 
   -- the whole of an arrow before its body
-  pub c_sig : may_arrow k ≡ true → (g : Sig) (i : ℕ) → FitsSig g i → IsArrowSig g → (l : Tokens) → run i k want (spell_sig g (Punct ArrowMark ∷ l)) ≡ run (suc (stop_sig g i)) (in_arrow g ∷ k) arrow_start l
+  pub c_sig : may_arrow k ≡ true → (g : Sig) (i : ℕ) → FitsSig g i → IsArrowSig g → (l : Tokens) → run i k want (spell_sig g (Punct ArrowMark ∷ l)) ≡ run (suc (stop_sig g i)) k (arrow_start g) l
   c_sig may (sig f t ps c r) i h y l =
       let j = suc (bump c (stop_parameters ps (suc i))) in
       c_parameters of_arrow may ps c (suc i) (h.2) (y.0) (h.3) i (spell_annotation r (Punct ArrowMark ∷ l)) ∙ c_arrow_result ps c r i j (h.4) (y.1) l
-      ∙ ap (λ g. run (suc (stop_annotation r j)) (in_arrow g ∷ k) arrow_start l) (ap₂ (λ f t. sig f t ps c r) (sym (h.0)) (sym (h.1)))
+      ∙ ap (λ g. run (suc (stop_annotation r j)) k (arrow_start g) l) (ap₂ (λ f t. sig f t ps c r) (sym (h.0)) (sym (h.1)))
 
   c_open : (q : FunctionKind) (b : ℕ) (m : Option Bytes) (g : Sig) (i : ℕ) → FitsSig g i → (l : Tokens) →
       run i k (parameters_open (of_function q b m)) (spell_sig g (Punct OpenBrace ∷ l)) ≡ run (suc (stop_sig g i)) (in_function q b m g ∷ k) (statements_start (stop_sig g i) no_stmt) l

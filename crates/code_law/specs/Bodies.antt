@@ -5,7 +5,7 @@ use Rattle.js_token.specs.declared.token.TokenKind.TheVariants.{Punct}
 use Rattle.js_token.specs.declared.punct.Punct.TheVariants.{Semicolon, Assign}
 use Rattle.js_grammar.specs.Code.{Ex, ex, function_ex, arrow, no_link, Function, function, arrow_block, Block, more_stmt, Stmt, stmt, function_stmt, does, branches, loop, nested, Simple, simple, SimpleForm, return_value, throw_value, assign, evaluate, Body, block_body, simple_body, branch, more_branch, else_body, is_target, Declaration, declares}
 use Rattle.js_grammar.specs.Items.{export_declaration, export_function, export_default_function, exports, declares_item, function_item, does_item, item, Items, more_item, ItemForm}
-use Rattle.code_law.specs.Frames.{FunctionKind, is_value, is_statement, is_default, Wrap, plain_item, exported_item, in_item, items_start, Verb, returns, throws, assigns, evaluates, in_arrow, in_simple, in_if, in_else, in_loop, in_function, in_block, want, after_links, settled, statements_start, after_branch, Stack, Step, fault, go, start_sig, start_function, start_block, start_simple}
+use Rattle.code_law.specs.Frames.{FunctionKind, is_value, is_statement, is_default, Wrap, plain_item, exported_item, default_item, in_item, items_start, Verb, returns, throws, assigns, evaluates, in_body, in_simple, in_if, in_else, in_loop, in_function, in_block, want, after_links, settled, statements_start, after_branch, Stack, Step, fault, go, start_sig, start_function, start_block, start_simple}
 
 abbrev pub give_stmt : Stack → Stmt → Step
 give_stmt (in_block s ss ∷ k) y = go k (statements_start s (more_stmt ss y))
@@ -23,11 +23,12 @@ give_item i k a is x = go k (items_start (more_item is (item a i x)))
 
 abbrev pub wrap_declaration : Wrap → Declaration → ItemForm
 wrap_declaration plain_item d = declares_item d
-wrap_declaration exported_item d = exports (export_declaration d)
+wrap_declaration w d = exports (export_declaration d)
 
 abbrev pub wrap_function : Wrap → Function → ItemForm
 wrap_function plain_item f = function_item f
 wrap_function exported_item f = exports (export_function f)
+wrap_function default_item f = exports (export_default_function f)
 
 abbrev pub give_declaration : ℕ → Stack → ℕ → Declaration → Step
 give_declaration i (in_item a w is ∷ k) s d = give_item i k a is (wrap_declaration w d)
@@ -35,14 +36,14 @@ give_declaration i k s d = give_stmt k (stmt s i (declares d))
 
 abbrev pub give_function : ℕ → Stack → FunctionKind → Function → Step
 give_function i (in_item a w is ∷ k) is_statement f = give_item i k a is (wrap_function w f)
-give_function i (in_item a w is ∷ k) is_default f = give_item i k a is (exports (export_default_function f))
+give_function i (in_item a w is ∷ k) is_default f = give_item i k a is (wrap_function w f)
 give_function i k is_statement f = give_stmt k (stmt (start_function f) i (function_stmt f))
 give_function i k is_default f = fault
 give_function i k is_value f = go k (after_links (ex (start_function f) i (function_ex f)) no_link)
 
 abbrev pub give_block : ℕ → Stack → Block → Step
 give_block i (in_function q s n g ∷ k) b = give_function i k q (function s i n g b)
-give_block i (in_arrow g ∷ k) b = go k (settled (ex (start_sig g) i (arrow g (arrow_block b))))
+give_block i (in_body g ∷ k) b = go k (settled (ex (start_sig g) i (arrow g (arrow_block b))))
 give_block i (in_block s ss ∷ k) b = give_stmt (in_block s ss ∷ k) (stmt (start_block b) i (nested b))
 give_block i k b = give_body i k (block_body b)
 

@@ -11,7 +11,7 @@ use Rattle.js_grammar.specs.Machine as ty
 use Rattle.js_grammar.specs.Code.{Prefix, negation, minus_sign, plus_sign, kind_of, no_prefix, more_prefix, relation_level, Ex, ex, variable, number, text, truth_value, null_value, postfixed, chain, Exs, no_ex, has_exs, Links, no_link, more_link, link, member, more_operand, operand, as_type, Fields, no_field, more_field, has_fields, field, shorthand, no_arm, Sig, sig, no_stmt, Parameters, no_parameter, more_parameter, has_parameters, parameter}
 use Rattle.js_grammar.specs.Items.{AliasOf, alias, ItemForm, exports, export_alias, alias_item}
 use Rattle.code_law.specs.Bodies.{give_item}
-use Rattle.code_law.specs.Frames.{Row, array_row, call_row, Owner, of_arrow, of_function, Waiting, parameter_type, result_type, declared_type, alias_type, cast_type, FunctionKind, is_value, is_statement, Wrap, plain_item, exported_item, in_prefix, in_chain, in_branch, in_parens, in_row, in_index, in_field, in_arrow, in_declaration, in_function, want, after_links, after_dot, row_start, fields_start, after_word, after_key, paren_start, paren_word, paren_mark, function_start, parameters_open, parameter_start, parameter_word, parameter_mark, parameters_end, arrow_start, statements_start, typing, Stack, Step, fault, go, start_ex}
+use Rattle.code_law.specs.Frames.{Row, array_row, call_row, Owner, of_arrow, of_function, Waiting, parameter_type, result_type, declared_type, alias_type, cast_type, FunctionKind, is_value, is_statement, Wrap, plain_item, in_prefix, in_chain, in_branch, in_parens, in_row, in_index, in_field, in_arrow, in_body, in_declaration, in_function, want, after_links, after_dot, row_start, fields_start, after_word, after_key, paren_start, paren_word, paren_mark, function_start, parameters_open, parameter_start, parameter_word, parameter_mark, parameters_end, arrow_start, statements_start, typing, Stack, Step, fault, go, start_ex}
 use Rattle.code_law.specs.Ladder.{close_row, close_fields, after_field, settle}
 
 -- what a word is where an expression may begin
@@ -153,7 +153,7 @@ function_step i k q s x = open_step i k (of_function q s None) x
 
 -- a signature is whole
 abbrev pub open_body : ℕ → Stack → Owner → Sig → TokenKind → Step
-open_body i k of_arrow g (Punct ArrowMark) = go (in_arrow g ∷ k) arrow_start
+open_body i k of_arrow g (Punct ArrowMark) = go k (arrow_start g)
 open_body i k (of_function q s n) g (Punct OpenBrace) = go (in_function q s n g ∷ k) (statements_start i no_stmt)
 open_body i k o g _ = fault
 
@@ -162,13 +162,13 @@ end_step i k o s ps c (Punct Colon) = typed k (result_type o s ps c)
 end_step i k o s ps c x = open_body i k o (sig s i ps c None) x
 
 -- a brace begins a block here
-abbrev pub arrow_step : ℕ → Stack → TokenKind → Step
-arrow_step i k (Punct OpenBrace) = go k (statements_start i no_stmt)
-arrow_step i k x = want_step i k x
+abbrev pub arrow_step : ℕ → Stack → Sig → TokenKind → Step
+arrow_step i k g (Punct OpenBrace) = go (in_body g ∷ k) (statements_start i no_stmt)
+arrow_step i k g x = want_step i (in_arrow g ∷ k) x
 
 abbrev pub wrap_alias : Wrap → AliasOf → ItemForm
 wrap_alias plain_item y = alias_item y
-wrap_alias exported_item y = exports (export_alias y)
+wrap_alias w y = exports (export_alias y)
 
 -- a type is whole, and the token comes after it
 abbrev pub after_type : ℕ → Stack → Waiting → Ty → TokenKind → Step

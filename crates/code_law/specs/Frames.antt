@@ -1,10 +1,11 @@
 -- What has been read of a module so far: a stack of open forms and a mode.
-use Rattle.std.specs.Prelude.{ℕ, Bool, List, Option}
+use Rattle.std.specs.Prelude.{ℕ, Bool, List, [], ◌∷◌, Option}
 use Rattle.js_grammar.specs.Words.{Bytes}
 use Rattle.js_grammar.specs.Types.{Key, key, Ty}
 use Rattle.js_grammar.specs.Machine as ty
 use Rattle.js_grammar.specs.Code.{Prefixes, Level, Operator, Binder, Ex, ex, Exs, Links, Operands, Fields, Arms, Function, function, Sig, sig, Parameters, Block, block, Stmts, Simple, simple, Branches}
-use Rattle.js_grammar.specs.Items.{Importeds, Exporteds, ExportList, ImportForm, ItemForm, Items}
+use Rattle.js_grammar.specs.CodeFits.{Context, inside, looping, body_context}
+use Rattle.js_grammar.specs.Items.{Importeds, Exporteds, ExportList, ImportForm, ItemForm, Items, top_context}
 
 -- a list in brackets, with the place of the first: the elements of an array, or the arguments of a call, behind an expression and its links
 pub data Row : Type 0 where
@@ -17,10 +18,11 @@ pub data FunctionKind : Type 0 where
   is_statement : FunctionKind
   is_default : FunctionKind
 
--- whether an item stands behind `export`
+-- what stands before an item: nothing, `export`, or `export default`
 pub data Wrap : Type 0 where
   plain_item : Wrap
   exported_item : Wrap
+  default_item : Wrap
 
 -- what stands before a list of names in braces
 pub data Opening : Type 0 where
@@ -72,7 +74,9 @@ pub data Frame : Type 0 where
   in_row : Row → Exs → Frame
   in_index : Ex → Links → ℕ → Frame
   in_field : ℕ → Fields → Key → Frame
+  -- the value of an arrow, and its block
   in_arrow : Sig → Frame
+  in_body : Sig → Frame
   in_simple : ℕ → Verb → Frame
   in_declaration : ℕ → Binder → Bytes → Option Ty → Frame
   -- an `if` at the second place, behind the branches of a statement that began at the first
@@ -104,7 +108,7 @@ pub data Mode : Type 0 where
   parameter_word : Owner → ℕ → Parameters → ℕ → Bytes → Mode
   parameter_mark : Owner → ℕ → Parameters → ℕ → Bytes → Mode
   parameters_end : Owner → ℕ → Parameters → Bool → Mode
-  arrow_start : Mode
+  arrow_start : Sig → Mode
   -- an expression that no link follows
   settled : Ex → Mode
   statements_start : ℕ → Stmts → Mode
@@ -167,3 +171,18 @@ start_block (block f t ss) = f
 
 abbrev pub start_simple : Simple → ℕ
 start_simple (simple f t x) = f
+
+-- where a statement stands under a stack
+abbrev pub context : Stack → Context
+context [] = top_context
+context (in_function q s n g ∷ k) = body_context
+context (in_body g ∷ k) = body_context
+context (in_loop s e ∷ k) = looping (context k)
+context (in_item a w is ∷ k) = top_context
+context (f ∷ k) = context k
+
+abbrev pub within_function : Context → Bool
+within_function (inside f l) = f
+
+abbrev pub within_loop : Context → Bool
+within_loop (inside f l) = l

@@ -5,7 +5,7 @@ use Rattle.js_token.specs.declared.token.TokenKind.{TokenKind}
 use Rattle.js_token.specs.declared.token.TokenKind.TheVariants.{Name, Punct}
 use Rattle.js_token.specs.declared.punct.Punct.TheVariants.{CloseBrace, OpenParen, CloseParen, OpenBracket, CloseBracket, Dot, Comma, Semicolon, Colon, Question, QuestionQuestion, Arrow as ArrowMark, StrictEqual, StrictNotEqual, LooseEqual, LooseNotEqual, LessThan, GreaterThan, LessOrEqual, GreaterOrEqual, Plus, Minus, Star, Slash, Percent, AndAnd, OrOr, Bar}
 use Rattle.js_grammar.specs.Machine as ty
-use Rattle.js_grammar.specs.Code.{Level, rank, operand_rank, relation_level, Operator, nullish, or, and, strict_equal, strict_not_equal, loose_equal, loose_not_equal, less, greater, less_or_equal, greater_or_equal, add, subtract, multiply, divide, remainder, level_of, Ex, ex, form_rank, parens, elements, fields, prefixed, chain, cond, arrow, Exs, more_ex, no_link, more_link, link, index, call, Operands, no_operand, more_operand, operand, right_side, Fields, more_field, field, valued, no_arm, more_arm, arm, arrow_value, declaration}
+use Rattle.js_grammar.specs.Code.{Level, rank, operand_rank, relation_level, Operator, nullish, or, and, strict_equal, strict_not_equal, loose_equal, loose_not_equal, less, greater, less_or_equal, greater_or_equal, add, subtract, multiply, divide, remainder, level_of, Ex, ex, form_rank, ex_rank, parens, elements, fields, prefixed, chain, cond, arrow, Exs, more_ex, no_link, more_link, link, index, call, Operands, no_operand, more_operand, operand, right_side, Fields, more_field, field, valued, Arms, no_arm, more_arm, arm, arrow_value, declaration}
 use Rattle.js_grammar.specs.Items.{exports, export_default}
 use Rattle.code_law.specs.Frames.{Row, array_row, call_row, cast_type, in_prefix, in_chain, in_last, in_branch, in_parens, in_row, in_index, in_field, in_arrow, in_simple, in_declaration, in_if_test, in_loop_test, in_if, in_loop, in_default, Mode, want, after_links, row_start, fields_start, want_body, typing, Stack, Step, fault, go, done, start_ex, start_sig, start_key}
 use Rattle.code_law.specs.Bodies.{give_item, give_declaration, end_value}
@@ -98,12 +98,16 @@ close i (in_default a is ∷ k) e (Punct Semicolon) = give_item (suc i) k a is (
 close i (in_default a is ∷ k) e _ = fault
 close i (f ∷ k) e x = fault
 
+-- a test is no arrow
+abbrev pub ask_test : Stack → ℕ → Arms → Ex → Step
+ask_test k s hs e = if nat_le 1 (ex_rank e) then go (in_branch s hs e ∷ k) want else fault
+
 -- the expression is a test, and `?` stands behind it
 abbrev pub ask : ℕ → Stack → Ex → Step
 ask i (in_prefix s ps ∷ k) e = ask i k (ex s i (prefixed ps e))
 ask i (in_chain s p f os d o ∷ k) e = ask i k (ex s i (chain p f (more_operand os (operand d i (right_side o e)))))
-ask i (in_last s hs ∷ k) e = go (in_branch s hs e ∷ k) want
-ask i k e = go (in_branch (start_ex e) no_arm e ∷ k) want
+ask i (in_last s hs ∷ k) e = ask_test k s hs e
+ask i k e = ask_test k (start_ex e) no_arm e
 
 -- a further operand begins
 abbrev pub begin : ℕ → Stack → ℕ → Level → Ex → Operands → Joint → Step
@@ -118,11 +122,11 @@ open_chain i k (ex s t (chain q f os)) p w =
     else fault
 open_chain i k (ex s t x) p w = if nat_le (operand_rank p) (form_rank x) then begin i k s p (ex s t x) no_operand w else fault
 
--- open forms end that bind tighter, or as the level does
+-- open forms end that bind tighter, or as the level does; an operand that binds less than its chain asks for is none
 abbrev pub join : ℕ → Stack → Ex → Level → Joint → Step
 join i (in_prefix s ps ∷ k) e p w = join i k (ex s i (prefixed ps e)) p w
 join i (in_chain s q f os d o ∷ k) e p w =
-    if nat_lt (rank q) (rank p) then open_chain i (in_chain s q f os d o ∷ k) e p w
+    if nat_lt (rank q) (rank p) then (if nat_le (operand_rank q) (rank p) then open_chain i (in_chain s q f os d o ∷ k) e p w else fault)
     else join i k (ex s i (chain q f (more_operand os (operand d i (right_side o e))))) p w
 join i k e p w = open_chain i k e p w
 

@@ -6,3 +6,5 @@ pub mod Statements
 pub mod Modules
 pub mod Machine
 pub mod Law
+pub mod Reads
+pub mod Within

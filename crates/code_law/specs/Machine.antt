@@ -1,5 +1,4 @@
--- Reading an expression, or a module, token by token. All that fits is read as itself. What is read may yet break a condition: the
--- machine doesn't ask where `return`, `break` and `continue` stand, nor which words of lists and aliases are names.
+-- Reading an expression, or a module, token by token. All that fits is read as itself.
 use Rattle.std.specs.Prelude.{ℕ, suc, [], ◌∷◌}
 use Rattle.js_token.specs.declared.token.TokenKind.{TokenKind}
 use Rattle.js_grammar.specs.TypeSpelling.{Tokens}
@@ -30,7 +29,7 @@ step i k (parameter_start o s ps) x = parameter_step i k o s ps x
 step i k (parameter_word o s ps a n) x = parameter_word_step i k o s ps a n x
 step i k (parameter_mark o s ps a n) x = parameter_mark_step k o s ps a n x
 step i k (parameters_end o s ps c) x = end_step i k o s ps c x
-step i k arrow_start x = arrow_step i k x
+step i k (arrow_start g) x = arrow_step i k g x
 step i k (settled e) x = settle i k e x
 step i k (statements_start s ss) x = statements_step i k s ss x
 step i k (after_binder s w) x = binder_step k s w x

@@ -1,14 +1,15 @@
 -- The steps of reading items, each with the place of its token.
-use Rattle.std.specs.Prelude.{ℕ, suc, Bool, true, false, Option, Some, None, [], ◌∷◌, codes, if◌then◌else◌}
+use Rattle.std.specs.Prelude.{ℕ, suc, Bool, true, false, Option, Some, None, List, [], ◌∷◌, not, codes, if◌then◌else◌}
 use Rattle.std.specs.Str.{bytes_eq}
+use Rattle.js_token.specs.Words.{is_reserved}
 use Rattle.js_token.specs.declared.token.TokenKind.{TokenKind}
 use Rattle.js_token.specs.declared.token.TokenKind.TheVariants.{Name, Str, Punct}
 use Rattle.js_token.specs.declared.punct.Punct.TheVariants.{OpenBrace, CloseBrace, Comma, Semicolon, Assign, PlusPlus}
 use Rattle.js_grammar.specs.Words.{Bytes}
 use Rattle.js_grammar.specs.Machine as ty
 use Rattle.js_grammar.specs.Code.{ex, variable, no_link, no_operand}
-use Rattle.js_grammar.specs.Items.{no_imported, more_imported, imported, import_list, no_exported, more_exported, exported, ExportList, export_list, ImportForm, import_default, import_both, import_names, import_types, import_only, export_names, export_from, ItemForm, imports, exports, Items, has_importeds, has_exporteds}
-use Rattle.code_law.specs.Frames.{is_statement, is_default, Wrap, plain_item, exported_item, opens_names, opens_both, opens_types, opens_exports, importing, exporting, Listing, listing, alias_type, cast_type, evaluates, in_simple, in_item, in_default, function_start, after_binder, after_type_word, after_type_as, after_alias, after_import, import_word, import_comma, names_start, after_name, after_as, after_pair, after_list, after_from, after_export, export_type, after_exports, exports_from, after_default, item_end, Stack, Step, fault, go, done_items}
+use Rattle.js_grammar.specs.Items.{no_imported, more_imported, imported, import_list, Exporteds, no_exported, more_exported, exported, ExportList, export_list, ImportForm, import_default, import_both, import_names, import_types, import_only, export_names, export_from, ItemForm, imports, exports, Items, has_importeds, has_exporteds, base_names}
+use Rattle.code_law.specs.Frames.{is_statement, is_default, Wrap, plain_item, exported_item, default_item, opens_names, opens_both, opens_types, opens_exports, importing, exporting, Listing, listing, alias_type, cast_type, evaluates, in_simple, in_item, in_default, function_start, after_binder, after_type_word, after_type_as, after_alias, after_import, import_word, import_comma, names_start, after_name, after_as, after_pair, after_list, after_from, after_export, export_type, after_exports, exports_from, after_default, item_end, Stack, Step, fault, go, done_items}
 use Rattle.code_law.specs.Bodies.{give_item}
 use Rattle.code_law.specs.Expressions.{want_step, links_step, typed, inside}
 use Rattle.code_law.specs.Statements.{StatementWord, binds, begins_function, begins_import, begins_export, plain_word, statement_word, simple_word, simple_step}
@@ -19,16 +20,24 @@ top_word i k is n begins_function = go (in_item i plain_item is ∷ k) (function
 top_word i k is n begins_import = go k (after_import i is)
 top_word i k is n begins_export = go k (after_export i is)
 top_word i k is n plain_word = if bytes_eq n (codes "type") then go k (after_type_word i is) else simple_word i (in_item i plain_item is ∷ k) n plain_word
-top_word i k is n w = simple_word i (in_item i plain_item is ∷ k) n w
+top_word i k is n w = fault
 
 abbrev pub items_step : ℕ → Stack → Items → TokenKind → Step
 items_step i k is (Punct PlusPlus) = done_items is
 items_step i k is (Name n) = top_word i k is n (statement_word n)
 items_step i k is x = simple_step i (in_item i plain_item is ∷ k) x
 
+-- whether no word of the list is this
+abbrev pub is_none_of : List Bytes → Bytes → Bool
+is_none_of [] n = true
+is_none_of (w ∷ ws) n = if bytes_eq n w then false else is_none_of ws n
+
+abbrev pub may_alias : Bytes → Bool
+may_alias n = if is_reserved n then false else is_none_of base_names n
+
 -- `type` before a name begins an alias; it is a variable else, and so it is before `as` and a type
 abbrev pub type_word_step : ℕ → Stack → ℕ → Items → TokenKind → Step
-type_word_step i k a is (Name n) = if bytes_eq n (codes "as") then go k (after_type_as a i is) else go k (after_alias a plain_item is a n)
+type_word_step i k a is (Name n) = if bytes_eq n (codes "as") then go k (after_type_as a i is) else if may_alias n then go k (after_alias a plain_item is a n) else fault
 type_word_step i k a is x = links_step i (in_simple a evaluates ∷ in_item a plain_item is ∷ k) (ex a i (variable (codes "type"))) no_link x
 
 abbrev pub type_as_step : ℕ → Stack → ℕ → ℕ → Items → TokenKind → Step
@@ -42,7 +51,7 @@ alias_step k a w is p n _ = fault
 
 abbrev pub import_step : ℕ → Stack → ℕ → Items → TokenKind → Step
 import_step i k a is (Str s) = go k (item_end a is (imports import_only s))
-import_step i k a is (Name n) = go k (import_word a is n)
+import_step i k a is (Name n) = if is_reserved n then fault else go k (import_word a is n)
 import_step i k a is (Punct OpenBrace) = go k (names_start (listing a is opens_names i (importing no_imported)))
 import_step i k a is _ = fault
 
@@ -88,12 +97,17 @@ pair_step i k q (Punct CloseBrace) = end_names i k q false
 pair_step i k q (Punct Comma) = go k (names_start q)
 pair_step i k q _ = fault
 
+-- what is imported gets a name; what is exported may be any word
+abbrev pub may_name : Listing → Bytes → Bool
+may_name (listing a is q s (importing ns)) n = not (is_reserved n)
+may_name (listing a is q s (exporting ns)) n = true
+
 abbrev pub name_step : ℕ → Stack → Listing → ℕ → Bytes → TokenKind → Step
 name_step i k q p n (Name m) = if bytes_eq m (codes "as") then go k (after_as q p n) else fault
-name_step i k q p n x = pair_step i k (add_name q p i n None) x
+name_step i k q p n x = if may_name q n then pair_step i k (add_name q p i n None) x else fault
 
 abbrev pub as_step : ℕ → Stack → Listing → ℕ → Bytes → TokenKind → Step
-as_step i k q p n (Name m) = go k (after_pair (add_name q p (suc i) n (Some m)))
+as_step i k q p n (Name m) = if may_name q m then go k (after_pair (add_name q p (suc i) n (Some m))) else fault
 as_step i k q p n _ = fault
 
 abbrev pub source_step : Stack → ℕ → Items → ImportForm → TokenKind → Step
@@ -118,20 +132,28 @@ export_step i k a is (Punct OpenBrace) = go k (names_start (listing a is (opens_
 export_step i k a is _ = fault
 
 abbrev pub export_type_step : ℕ → Stack → ℕ → Items → ℕ → TokenKind → Step
-export_type_step i k a is p (Name n) = go k (after_alias a exported_item is p n)
+export_type_step i k a is p (Name n) = if may_alias n then go k (after_alias a exported_item is p n) else fault
 export_type_step i k a is p (Punct OpenBrace) = go k (names_start (listing a is (opens_exports true) i (exporting no_exported)))
 export_type_step i k a is p _ = fault
 
+abbrev pub are_names : Exporteds → Bool
+are_names no_exported = true
+are_names (more_exported ns (exported f t n w)) = if is_reserved n then false else are_names ns
+
+-- what is exported from this module is a name
+abbrev pub are_local : ExportList → Bool
+are_local (export_list f t ns c) = are_names ns
+
 abbrev pub exports_step : ℕ → Stack → ℕ → Items → Bool → ExportList → TokenKind → Step
 exports_step i k a is o ns (Name n) = if bytes_eq n (codes "from") then go k (exports_from a is o ns) else fault
-exports_step i k a is o ns x = end_item i k a is (exports (export_names o ns)) x
+exports_step i k a is o ns x = if are_local ns then end_item i k a is (exports (export_names o ns)) x else fault
 
 abbrev pub exports_from_step : Stack → ℕ → Items → Bool → ExportList → TokenKind → Step
 exports_from_step k a is o ns (Str s) = go k (item_end a is (exports (export_from o ns s)))
 exports_from_step k a is o ns _ = fault
 
 abbrev pub default_word : ℕ → Stack → ℕ → Items → Bytes → StatementWord → Step
-default_word i k a is n begins_function = go (in_item a exported_item is ∷ k) (function_start is_default i)
+default_word i k a is n begins_function = go (in_item a default_item is ∷ k) (function_start is_default i)
 default_word i k a is n w = want_step i (in_default a is ∷ k) (Name n)
 
 abbrev pub default_step : ℕ → Stack → ℕ → Items → TokenKind → Step

@@ -7,7 +7,7 @@ use Rattle.js_token.specs.declared.token.TokenKind.TheVariants.{Name, Punct}
 use Rattle.js_token.specs.declared.punct.Punct.TheVariants.{OpenBrace, CloseBrace, OpenParen, Semicolon, Colon, Assign}
 use Rattle.js_grammar.specs.Words.{Bytes}
 use Rattle.js_grammar.specs.Code.{Binder, const, let_word, block, Stmts, no_stmt, more_stmt, stmt, branches, Simple, simple, return_bare, break_loop, continue_loop, Branches, no_branch, no_else}
-use Rattle.code_law.specs.Frames.{is_statement, returns, throws, evaluates, declared_type, in_simple, in_declaration, in_if_test, in_loop_test, in_else, in_block, want, function_start, statements_start, after_binder, after_declared, after_return, after_simple, after_if, after_while, after_else, Stack, Step, fault, go}
+use Rattle.code_law.specs.Frames.{is_statement, returns, throws, evaluates, declared_type, in_simple, in_declaration, in_if_test, in_loop_test, in_else, in_block, want, function_start, statements_start, after_binder, after_declared, after_return, after_simple, after_if, after_while, after_else, Stack, Step, fault, go, context, within_function, within_loop}
 use Rattle.code_law.specs.Bodies.{give_block, end_simple}
 use Rattle.code_law.specs.Expressions.{want_step, typed}
 
@@ -46,10 +46,10 @@ abbrev pub statement_word : Bytes → StatementWord
 statement_word n = if is_reserved n then reserved_statement n else plain_word
 
 abbrev pub simple_word : ℕ → Stack → Bytes → StatementWord → Step
-simple_word i k n return_word = go k (after_return i)
+simple_word i k n return_word = if within_function (context k) then go k (after_return i) else fault
 simple_word i k n throw_word = go (in_simple i throws ∷ k) want
-simple_word i k n break_word = go k (after_simple (simple i (suc i) break_loop))
-simple_word i k n continue_word = go k (after_simple (simple i (suc i) continue_loop))
+simple_word i k n break_word = if within_loop (context k) then go k (after_simple (simple i (suc i) break_loop)) else fault
+simple_word i k n continue_word = if within_loop (context k) then go k (after_simple (simple i (suc i) continue_loop)) else fault
 simple_word i k n plain_word = want_step i (in_simple i evaluates ∷ k) (Name n)
 simple_word i k n w = fault
 
