@@ -98,9 +98,6 @@ take_whole [] (suc n) h = refl
 take_whole (x ∷ xs) zero h = absurd (omega arith)
 take_whole (x ∷ xs) (suc n) h = ap (λ l. x ∷ l) (take_whole xs n (omega arith))
 
-pub has_all : (ys : List ℕ) (n x : ℕ) → length ys ≤ n → Has ys x → Has (take n ys) x
-has_all ys n x all has = subst (λ (l : List ℕ). Has l x) (sym (take_whole ys n all)) has
-
 pub only_has : (y x : ℕ) → Has (y ∷ []) x → x ≡ y
 only_has y x (zero, is) = let f : Some y ≡ Some x = is in cc
 only_has y x (suc n, is) = none_some x is

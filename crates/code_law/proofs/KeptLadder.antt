@@ -55,9 +55,6 @@ same_level p q e = sym (level_rank p) ∙ ap level_at e ∙ level_rank q
 tests_same : (a b : ℕ) → nat_eq a b ≡ true → a ≡ b
 tests_same a b h = grind (arith, nat_tests)
 
-tests_less : (a b : ℕ) → nat_lt a b ≡ true → suc a ≤ b
-tests_less a b h = grind (arith, nat_tests)
-
 tests_most : (a b : ℕ) → nat_le a b ≡ true → a ≤ b
 tests_most a b h = grind (arith, nat_tests)
 

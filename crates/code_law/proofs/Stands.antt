@@ -1,9 +1,7 @@
 -- What stands above a stack may go on, and may be written otherwise.
-use Rattle.std.proofs.Common.{◌≡◌, refl, sym, ◌∙◌, ap, subst, true, false, [], ◌∷◌, ◌++◌, Bool, ℕ}
+use Rattle.std.proofs.Common.{◌≡◌, refl, sym, ◌∙◌, ap, true, false, [], ◌∷◌, ◌++◌, Bool, ℕ}
 use Rattle.std.proofs.lemmas.List.{append_assoc}
 use Rattle.js_token.specs.declared.token.TokenKind.{TokenKind}
-use Rattle.js_token.specs.declared.token.TokenKind.TheVariants.{Name}
-use Rattle.js_grammar.specs.Words.{Bytes}
 use Rattle.js_grammar.specs.TypeSpelling.{Tokens}
 use Rattle.js_grammar.specs.Code.{Ex}
 use Rattle.js_grammar.specs.CodeSpelling.{spell_ex}
@@ -30,9 +28,6 @@ stands_moved q (f ∷ k) s r e h = (claim_more f s r (λ l. l) e (h.0), stands_m
 pub stands_more : (q : Tokens) (x : TokenKind) (k : Stack) (s : Tokens → Tokens) → Stands q k s → Stands (q ++ x ∷ []) k (λ l. s (x ∷ l))
 stands_more q x [] s h = λ l. h (x ∷ l) ∙ sym (append_assoc q (x ∷ []) l)
 stands_more q x (f ∷ k) s h = (claim_more f s (λ l. s (x ∷ l)) (λ l. x ∷ l) (λ l. refl) (h.0), stands_more q x k (λ l. spell_frame f (s l)) (h.1))
-
-pub stands_word : (q : Tokens) (k : Stack) (m n : Bytes) → m ≡ n → Stands q k (λ l. Name m ∷ l) → Stands q k (λ l. Name n ∷ l)
-stands_word q k m n e h = subst (λ n. Stands q k (λ l. Name n ∷ l)) e h
 
 heads : {x y : TokenKind} {l r : Tokens} → x ∷ l ≡ y ∷ r → x ≡ y
 heads e = cc
