@@ -44,7 +44,10 @@ fn a_nullable_name_has_three_members(rt: HostRuntime) -> Result<(), NoMemory> {
     let t = named(rt.alloc(), b"A")?;
     let all = members(rt.alloc(), &table, &t)?;
     assert!(rt; all.len() == 3);
-    assert!(rt; all.get(2).is_some_and(|last| last.equals(&FlowType::Number)));
+    assert!(rt;
+        all.get(2)
+            .is_some_and(|last| last.equals(&FlowType::Number))
+    );
     assert!(rt; members_of(rt.alloc(), &table, &t)?.len() == 3);
     Ok(())
 }
