@@ -1,5 +1,5 @@
 -- How deep tokens nest.
-use Rattle.std.specs.Prelude.{ℕ, ◌≤◌, Bool, true, false, List, [], ◌∷◌, length, codes}
+use Rattle.std.specs.Prelude.{ℕ, ◌≤◌, nat_lt, Bool, true, false, List, [], ◌∷◌, length, codes}
 use Rattle.std.specs.Str.{bytes_eq}
 use Rattle.js_token.specs.declared.token.TokenKind.{TokenKind}
 use Rattle.js_token.specs.declared.token.TokenKind.TheVariants.{Name, Number, Str, Punct}
@@ -67,6 +67,10 @@ no_nest = nested [] false
 
 abbrev pub max_nesting : ℕ
 max_nesting = 200
+
+-- whether more is open than the limit allows
+abbrev pub is_deep : Nest → Bool
+is_deep n = nat_lt max_nesting (height n)
 
 -- each token leaves at most 200 entries open
 abbrev pub StaysWithin : Nest → Tokens → Type 0
