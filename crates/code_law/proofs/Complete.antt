@@ -18,7 +18,7 @@ use Rattle.code_law.specs.Bodies.{give_body, give_declaration, give_function, en
 use Rattle.code_law.specs.Ladder.{Joint, applies, casts, joins, ends, turn, joint_level, ask, begin, open_chain, join, settle_at, settle, close_row, close_fields, after_field}
 use Rattle.code_law.specs.Expressions.{marked, linked, field_step}
 use Rattle.code_law.specs.Statements.{simple_step, statements_step, is_else, branch_step}
-use Rattle.code_law.specs.Machine.{step, whole, resume, run, read_expression, go_on}
+use Rattle.code_law.specs.Machine.{step, resume, run, go_on}
 use Rattle.code_law.proofs.Ladder.{hold, tier, tier_ex, floor, rank_below, rank_most, tier_least, tier_of, turn_mark, open_first, open_more, join_opens, chain_ends, prefix_ends, last_ends, arrow_ends, ask_first, may_ask, arrow_stands, links_end, type_ends}
 use Rattle.code_law.proofs.Embedded.{c_type}
 use Rattle.code_law.proofs.Begins.{begin_item, begin_body, begin_parens}

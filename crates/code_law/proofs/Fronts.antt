@@ -1,5 +1,5 @@
 -- An expression in front of tokens that don't go on it is read as itself.
-use Rattle.std.proofs.Common.{◌≡◌, refl, sym, ◌∙◌, ap, subst, ℕ, ◌≤◌, Bool, true, false, [], ◌∷◌, codes, arith, if◌then◌else◌}
+use Rattle.std.proofs.Common.{◌≡◌, refl, sym, ◌∙◌, ap, subst, ℕ, ◌≤◌, false, [], ◌∷◌, arith, if◌then◌else◌}
 use Rattle.std.proofs.lemmas.Bool.{true≢false}
 use Rattle.js_token.specs.declared.token.TokenKind.{TokenKind}
 use Rattle.js_token.specs.declared.token.TokenKind.TheVariants.{Name, Punct}
@@ -12,7 +12,7 @@ use Rattle.js_grammar.specs.CodeSpelling.{spell_ex}
 use Rattle.js_grammar.specs.CodePlaces.{stop_ex}
 use Rattle.js_grammar.specs.CodeFits.{FitsEx}
 use Rattle.code_law.specs.Frames.{done}
-use Rattle.code_law.specs.Ladder.{Turn, joins, casts, ends, turn, settle_at}
+use Rattle.code_law.specs.Ladder.{joins, casts, ends, turn, settle_at}
 use Rattle.code_law.specs.Machine.{whole, go_on, read_expression}
 use Rattle.code_law.specs.GoesOn.{goes_on_expression}
 use Rattle.code_law.specs.Law.{SameSpellingSameExpression, SameFrontSameExpression}

@@ -1,5 +1,5 @@
 -- What stands above a stack may go on, and may be written otherwise.
-use Rattle.std.proofs.Common.{◌≡◌, refl, sym, ◌∙◌, ap, true, false, [], ◌∷◌, ◌++◌, Bool, ℕ}
+use Rattle.std.proofs.Common.{◌≡◌, refl, sym, ◌∙◌, ap, false, [], ◌∷◌, ◌++◌, Bool, ℕ}
 use Rattle.std.proofs.lemmas.List.{append_assoc}
 use Rattle.std.proofs.lemmas.Bool.{true≢false}
 use Rattle.js_token.specs.declared.token.TokenKind.{TokenKind}

@@ -1,11 +1,8 @@
 -- A type that is being read: the tokens of it so far lead to its state, and some more complete it.
-use Rattle.std.proofs.Common.{◌≡◌, refl, sym, ◌∙◌, ap, subst, ℕ, suc, Bool, true, false, [], ◌∷◌, ◌++◌, append_assoc}
+use Rattle.std.proofs.Common.{◌≡◌, refl, sym, ◌∙◌, ap, subst, ℕ, suc, Bool, false, [], ◌∷◌, ◌++◌, append_assoc}
 use Rattle.js_token.specs.declared.token.TokenKind.{TokenKind}
-use Rattle.js_token.specs.declared.token.TokenKind.TheVariants.{Name, Punct}
-use Rattle.js_token.specs.declared.punct.Punct.TheVariants.{OpenBrace, CloseBrace, OpenParen, CloseParen, OpenBracket, CloseBracket, Ellipsis, Comma, Colon, Question, Arrow, LessThan, GreaterThan, Bar}
-use Rattle.js_grammar.specs.Words.{array_name}
-use Rattle.js_grammar.specs.Types.{Places, no_place, more_place, Sign, unsigned, plus, minus, Key, key, bare, comma, dots, Ty, ty, Pres, no_pre, more_pre, Pre, pre, Core, fun, post, Base, base, Form, name, str, num, null, void, truth, array, paren, tuple, object, Params, no_param, more_param, Param, plain, named, Types, no_type, more_type, Props, no_prop, more_prop, Prop, prop}
-use Rattle.js_grammar.specs.TypeSpelling.{Tokens, opt, marks, brackets, spell_sign, spell_key, spell, spell_pres, spell_barred, spell_pre, spell_core, spell_base, spell_form, spell_params, spell_begun, spell_param, spell_types, spell_elements, spell_props, spell_rows, spell_prop}
+use Rattle.js_grammar.specs.Types.{Ty}
+use Rattle.js_grammar.specs.TypeSpelling.{Tokens}
 use Rattle.js_grammar.specs.Machine as ty
 use Rattle.js_grammar.specs.Machine.{first}
 use Rattle.js_grammar.specs.GoesOn.{goes_on_type}

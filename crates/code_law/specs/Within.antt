@@ -8,6 +8,7 @@ use Rattle.code_law.specs.Frames.{Mode, items_start, Stack}
 use Rattle.code_law.specs.Machine.{step, Outcome, faulty, whole, whole_items, resume}
 use Rattle.code_law.specs.Reads.{Spells, Begins, module_with, items_of}
 
+-- reading from a state on, up to the limit
 abbrev pub run_within : ℕ → Nest → Stack → Mode → Tokens → Outcome
 run_within i n k m [] = resume (λ k m. faulty []) (step i k m end_mark) []
 run_within i n k m (x ∷ l) = if is_deep (nest n x) then faulty (x ∷ l) else resume (λ k m. run_within (suc i) (nest n x) k m l) (step i k m x) (x ∷ l)

@@ -1,6 +1,5 @@
 -- The limit of nesting.
-use Rattle.std.proofs.Common.{◌≡◌, ℕ, ◌≤◌, nat_lt, arith, Bool, true, false, [], ◌∷◌, ◌++◌}
-use Rattle.std.proofs.lemmas.Bool.{false≢true}
+use Rattle.std.proofs.Common.{◌≡◌, ◌≤◌, nat_lt, arith, true, false, [], ◌∷◌, ◌++◌}
 use Rattle.std.proofs.lemmas.Bool.Decides.{nat_tests}
 use Rattle.js_grammar.specs.TypeSpelling.{Tokens}
 use Rattle.js_grammar.specs.Nesting.{Nest, nest, height, max_nesting, is_deep, StaysWithin}

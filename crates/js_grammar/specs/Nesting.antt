@@ -27,6 +27,7 @@ close_parts (false ∷ o) = close_parts o
 pub data Nest : Type 0 where
   nested : Opened → Bool → Nest
 
+-- how many entries are open
 abbrev pub height : Nest → ℕ
 height (nested o b) = length o
 
@@ -62,6 +63,7 @@ nest (nested o b) (Name w) = nested (after_word o b (bytes_eq w (codes "as"))) f
 nest (nested o b) (Number n) = nested o false
 nest (nested o b) (Str s) = nested o false
 
+-- before the first token
 abbrev pub no_nest : Nest
 no_nest = nested [] false
 

@@ -4,9 +4,11 @@ use Rattle.js_grammar.specs.TypeSpelling.{Tokens}
 use Rattle.js_grammar.specs.Nesting.{Nest, nest, no_nest, is_deep}
 use Rattle.js_grammar.specs.Machine.{Stack, Mode, want, step, end_mark, resume, Outcome, faulty}
 
+-- reading that ends here
 abbrev pub run_end : Bool → ℕ → Stack → Mode → Tokens → Outcome
 run_end can i k m l = resume (λ k m. faulty l) (step can i k m end_mark) l
 
+-- reading from a state on, up to the limit
 abbrev pub run_within : Bool → ℕ → Nest → Stack → Mode → Tokens → Outcome
 run_within can i n k m [] = run_end can i k m []
 run_within can i n k m (x ∷ l) =
