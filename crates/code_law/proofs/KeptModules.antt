@@ -2,6 +2,7 @@
 use Rattle.std.proofs.Common.{◌≡◌, refl, sym, ◌∙◌, ap, subst, ℕ, suc, ◌≤◌, arith, ◌&&◌, Bool, true, false, not, Option, Some, None, List, [], ◌∷◌, ◌++◌, codes, if◌then◌else◌}
 use Rattle.std.specs.Str.{bytes_eq}
 use Rattle.std.proofs.lemmas.Slice.Eq.{bytes_eq-Decides}
+use Rattle.std.proofs.lemmas.Bool.{false≢true}
 use Rattle.js_token.specs.Words.{is_reserved}
 use Rattle.js_token.specs.declared.token.TokenKind.{TokenKind}
 use Rattle.js_token.specs.declared.token.TokenKind.TheVariants.{Name, Str, Punct}
@@ -22,9 +23,6 @@ use Rattle.code_law.proofs.Typing.{typing_at}
 use Rattle.code_law.proofs.KeptBodies.{k_item}
 use Rattle.code_law.proofs.KeptExpressions.{k_want, k_links}
 use Rattle.code_law.proofs.States.{import_token, export_token, default_token, as_token, spell_listing, spell_pair, imports_names, spell_opening, spell_begun_names, spell_names, spell_before, spell_short, spell_mode, starts_plain, not_function_word, is_plain_word, Stands, IsBottom, FitsTop, FitsStack, FitsNames, FitsOpening, FitsListing, takes_simple, stop_names, stop_begun_names, begun_end, names_end, stop_before, is_short, FitsMode, FitsStep}
-
-no_true : {A : Type 0} → false ≡ true → A
-no_true e = absurd (let f : false ≡ true = e in cc)
 
 stands_same : (q : Tokens) (k : Stack) (s r : Tokens → Tokens) → ((l : Tokens) → s l ≡ r l) → Stands q k s → Stands q k r
 stands_same q k s r e h = stands_moved q k s r (λ l. sym (e l)) h
@@ -49,14 +47,14 @@ none_of [] n e = tt
 none_of (w ∷ ws) n e = by (bytes_eq n w) refl (none_of ws n) e
   where
     by : (b : Bool) → bytes_eq n w ≡ b → (is_none_of ws n ≡ true → IsNoneOf ws n) → (if b then false else is_none_of ws n) ≡ true → IsNoneOf (w ∷ ws) n
-    by true h r e = no_true e
-    by false h r e = ((λ d. no_true (sym h ∙ (bytes_eq-Decides n w).1 d)), r e)
+    by true h r e = absurd (false≢true e)
+    by false h r e = ((λ d. absurd (false≢true (sym h ∙ (bytes_eq-Decides n w).1 d))), r e)
 
 alias_name : (n : Bytes) → may_alias n ≡ true → IsName n × IsNoneOf base_names n
 alias_name n e = by (is_reserved n) refl e
   where
     by : (b : Bool) → is_reserved n ≡ b → (if b then false else is_none_of base_names n) ≡ true → IsName n × IsNoneOf base_names n
-    by true h e = no_true e
+    by true h e = absurd (false≢true e)
     by false h e = (h, none_of base_names n e)
 
 names_are : (ns : Exporteds) → are_names ns ≡ true → AreNames ns
@@ -64,14 +62,14 @@ names_are no_exported e = tt
 names_are (more_exported ns (exported f t n w)) e = by (is_reserved n) refl (names_are ns) e
   where
     by : (b : Bool) → is_reserved n ≡ b → (are_names ns ≡ true → AreNames ns) → (if b then false else are_names ns) ≡ true → AreNames ns × IsName n
-    by true h r e = no_true e
+    by true h r e = absurd (false≢true e)
     by false h r e = (r e, h)
 
 local_is : (ns : ExportList) → are_local ns ≡ true → AreLocal ns
 local_is (export_list f t ns c) e = names_are ns e
 
 not_reserved : (b : Bool) → not b ≡ true → b ≡ false
-not_reserved true e = no_true e
+not_reserved true e = absurd (false≢true e)
 not_reserved false e = refl
 
 stop_from : (m : ImportForm) → imports_names m ≡ true → (j : ℕ) → stop_import m j ≡ suc (stop_before m j)
@@ -79,20 +77,20 @@ stop_from (import_default n) e j = refl
 stop_from (import_both n ns) e j = refl
 stop_from (import_names ns) e j = refl
 stop_from (import_types ns) e j = refl
-stop_from import_only e j = no_true e
+stop_from import_only e j = absurd (false≢true e)
 
 spell_from : (m : ImportForm) → imports_names m ≡ true → (l : Tokens) → spell_before m (from_word ∷ l) ≡ spell_import m l
 spell_from (import_default n) e l = refl
 spell_from (import_both n ns) e l = refl
 spell_from (import_names ns) e l = refl
 spell_from (import_types ns) e l = refl
-spell_from import_only e l = no_true e
+spell_from import_only e l = absurd (false≢true e)
 
 spell_ended : (y : ItemForm) → is_short y ≡ true → (l : Tokens) → spell_short y (Punct Semicolon ∷ l) ≡ spell_item_form y l
 spell_ended (imports m s) e l = refl
 spell_ended (exports (export_from o ns s)) e l = refl
 spell_ended (exports (export_names o ns)) e l = refl
-spell_ended y e l = no_true e
+spell_ended y e l = absurd (false≢true e)
 
 -- a list in braces, whose place is z
 import_list_fits : (s i : ℕ) (ns : Importeds) (c : Bool) (z : ℕ) → s ≡ z → FitsImporteds ns (suc s) → i ≡ bump c (stop_importeds ns (suc s)) → CommaFits c (has_importeds ns) → FitsImportList (import_list s (suc i) ns c) z
@@ -227,11 +225,11 @@ module _ (q p : Tokens) (i : ℕ) (k : Stack) where
   k_names r h _ s = tt
 
   pub k_pair : (r : Listing) → FitsMode k (after_pair r) i → (x : TokenKind) → Stands p k (λ l. spell_pair r (x ∷ l)) → FitsStep q p i (pair_step i k r x)
-  k_pair (listing a is o z ns) h (Punct CloseBrace) s = k_end_names a is o z ns false (h.0.0) (h.0.1) (h.0.2) (h.2) (λ e. no_true e) s
+  k_pair (listing a is o z ns) h (Punct CloseBrace) s = k_end_names a is o z ns false (h.0.0) (h.0.1) (h.0.2) (h.2) (λ e. absurd (false≢true e)) s
   k_pair (listing a is o z (importing (more_imported ns n))) h (Punct Comma) s = ((h.0, ap suc (h.2)), s)
-  k_pair (listing a is o z (importing no_imported)) h (Punct Comma) s = no_true (h.1)
+  k_pair (listing a is o z (importing no_imported)) h (Punct Comma) s = absurd (false≢true (h.1))
   k_pair (listing a is o z (exporting (more_exported ns n))) h (Punct Comma) s = ((h.0, ap suc (h.2)), s)
-  k_pair (listing a is o z (exporting no_exported)) h (Punct Comma) s = no_true (h.1)
+  k_pair (listing a is o z (exporting no_exported)) h (Punct Comma) s = absurd (false≢true (h.1))
   k_pair r h _ s = tt
 
   pub k_name : (r : Listing) (b : ℕ) (n : Bytes) → FitsMode k (after_name r b n) i → (x : TokenKind) → Stands p k (λ l. spell_mode (after_name r b n) (x ∷ l)) → FitsStep q p i (name_step i k r b n x)

@@ -2,6 +2,7 @@
 use Rattle.std.proofs.Common.{◌≡◌, refl, sym, ◌∙◌, ap, ap₂, subst, ◌⊎◌, inl, inr, ℕ, suc, Bool, true, false, List, [], ◌∷◌, codes, arith, if◌then◌else◌}
 use Rattle.std.specs.Str.{bytes_eq}
 use Rattle.std.proofs.lemmas.Slice.Eq.{bytes_eq-Decides}
+use Rattle.std.proofs.lemmas.Bool.{false≢true, true≢false}
 use Rattle.js_token.specs.declared.token.TokenKind.{TokenKind}
 use Rattle.js_token.specs.declared.token.TokenKind.TheVariants.{Name, Str, Punct}
 use Rattle.js_token.specs.declared.punct.Punct.TheVariants.{Comma, Semicolon, Assign}
@@ -25,15 +26,12 @@ use Rattle.code_law.proofs.Complete.{c_ex, c_function, c_declaration, behind_bin
 use Rattle.code_law.proofs.Names.{c_importeds, c_exporteds}
 use Rattle.code_law.proofs.Top.{begin_top}
 
-no_true : {A : Type 0} → false ≡ true → A
-no_true e = absurd (let f : false ≡ true = e in cc)
-
 abbrev is_a_default : FunctionKind → Bool
 is_a_default is_default = true
 is_a_default q = false
 
 default_statement : is_default ≡ is_statement → ⊥
-default_statement e = let f : true ≡ false = ap is_a_default e in cc
+default_statement e = true≢false (ap is_a_default e)
 
 -- the value behind `export default`
 default_opens : (e : Ex) → BeginsNot (Name (codes "function")) e → (i a : ℕ) (k : Stack) (is : Items) (x : TokenKind) → Starts x → BeginsNot x e ⊎ (step i k (after_default a is) x ≡ want_step i (in_default a is ∷ k) x)
@@ -42,7 +40,7 @@ default_opens e n i a k is (Name m) (inl o) = inr (plain (statement_word m) o)
   where
     plain : (w : StatementWord) → is_plain w ≡ true → default_word i k a is m w ≡ want_step i (in_default a is ∷ k) (Name m)
     plain plain_word h = refl
-    plain w h = no_true h
+    plain w h = absurd (false≢true h)
 default_opens e n i a k is x (inl o) = inr refl
 
 none_of : (ws : List Bytes) (n : Bytes) → IsNoneOf ws n → is_none_of ws n ≡ true

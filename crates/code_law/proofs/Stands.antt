@@ -1,6 +1,7 @@
 -- What stands above a stack may go on, and may be written otherwise.
-use Rattle.std.proofs.Common.{◌≡◌, refl, sym, ◌∙◌, ap, true, false, [], ◌∷◌, ◌++◌, Bool, ℕ}
+use Rattle.std.proofs.Common.{◌≡◌, refl, sym, ◌∙◌, ap, false, [], ◌∷◌, ◌++◌, Bool, ℕ}
 use Rattle.std.proofs.lemmas.List.{append_assoc}
+use Rattle.std.proofs.lemmas.Bool.{true≢false}
 use Rattle.js_token.specs.declared.token.TokenKind.{TokenKind}
 use Rattle.js_grammar.specs.TypeSpelling.{Tokens}
 use Rattle.js_grammar.specs.Code.{Ex}
@@ -40,4 +41,4 @@ begins_not p e i f h o y n l q =
     let d = leads e i f in
     let a : d.0 ≡ y = heads (sym ((d.2 []).1) ∙ q) in
     let b : o.0 ≡ d.0 = heads (sym ((o.2 []).1) ∙ (d.2 (h [])).1) in
-    let t : true ≡ false = sym (o.1) ∙ ap p (b ∙ a) ∙ n in cc
+    true≢false (sym (o.1) ∙ ap p (b ∙ a) ∙ n)

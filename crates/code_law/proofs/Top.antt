@@ -2,6 +2,7 @@
 use Rattle.std.proofs.Common.{◌≡◌, refl, sym, ◌∙◌, ap, subst, inl, inr, ℕ, suc, ◌&&◌, Bool, true, false, [], ◌∷◌, codes, if◌then◌else◌}
 use Rattle.std.specs.Str.{bytes_eq}
 use Rattle.std.proofs.lemmas.Slice.Eq.{bytes_eq-Decides}
+use Rattle.std.proofs.lemmas.Bool.{false≢true}
 use Rattle.js_token.specs.declared.token.TokenKind.{TokenKind}
 use Rattle.js_token.specs.declared.token.TokenKind.TheVariants.{Name, Number, Str, Punct}
 use Rattle.js_token.specs.declared.punct.Punct.TheVariants.{OpenBrace, OpenParen, OpenBracket, Bang, Minus, Plus}
@@ -17,9 +18,6 @@ use Rattle.code_law.specs.Modules.{top_word}
 use Rattle.code_law.specs.Machine.{resume, run}
 use Rattle.code_law.proofs.Begins.{is_plain, opens, Starts, leads}
 
-no_true : {A : Type 0} → false ≡ true → A
-no_true e = absurd (let f : false ≡ true = e in cc)
-
 module _ (i : ℕ) (k : Stack) (is : Items) where
   abbrev below : Stack
   below = in_simple i evaluates ∷ in_item i plain_item is ∷ k
@@ -27,7 +25,7 @@ module _ (i : ℕ) (k : Stack) (is : Items) where
   -- the variable `type`
   type_variable : (l : Tokens) → begins_word l ≡ false → run i k (items_start is) (Name (codes "type") ∷ l) ≡ run i below want (Name (codes "type") ∷ l)
   type_variable [] a = refl
-  type_variable (Name n ∷ l) a = no_true (sym a)
+  type_variable (Name n ∷ l) a = absurd (false≢true (sym a))
   type_variable (x ∷ l) a = refl
 
   named : (n : Bytes) (l : Tokens) (b : Bool) → bytes_eq n (codes "type") ≡ b → is_plain (statement_word n) ≡ true → b && begins_word l ≡ false →
@@ -40,7 +38,7 @@ module _ (i : ℕ) (k : Stack) (is : Items) where
     where
       plain_only : (w : StatementWord) → is_plain w ≡ true → w ≡ plain_word
       plain_only plain_word h = refl
-      plain_only w h = no_true h
+      plain_only w h = absurd (false≢true h)
 
   opened : (x : TokenKind) (l : Tokens) → opens x ≡ true → (x ≡ Punct OpenBrace → ⊥) → begins_alias (x ∷ l) ≡ false → run i k (items_start is) (x ∷ l) ≡ run i below want (x ∷ l)
   opened (Name n) l o b s = named n l (bytes_eq n (codes "type")) refl o s
@@ -52,7 +50,7 @@ module _ (i : ℕ) (k : Stack) (is : Items) where
   opened (Punct Bang) l o b s = refl
   opened (Punct Minus) l o b s = refl
   opened (Punct Plus) l o b s = refl
-  opened (Punct p) l o b s = no_true o
+  opened (Punct p) l o b s = absurd (false≢true o)
 
   -- an expression at the head of a simple statement
   pub begin_top : (e : Ex) → FitsEx e i → BeginsPlain e → (l : Tokens) → begins_alias (spell_ex e l) ≡ false → run i k (items_start is) (spell_ex e l) ≡ run i below want (spell_ex e l)

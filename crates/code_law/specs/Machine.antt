@@ -12,6 +12,7 @@ use Rattle.code_law.specs.Expressions.{want_step, links_step, dot_step, row_step
 use Rattle.code_law.specs.Statements.{statements_step, binder_step, declared_step, return_step, semicolon_step, if_step, while_step, body_step, branch_step, else_step}
 use Rattle.code_law.specs.Modules.{items_step, type_word_step, alias_step, import_step, import_word_step, import_comma_step, names_step, name_step, as_step, pair_step, from_step, source_step, export_step, export_type_step, exports_step, exports_from_step, default_step, end_item}
 
+-- what a token at a place does in a state
 abbrev pub step : ℕ → Stack → Mode → TokenKind → Step
 step i k want x = want_step i k x
 step i k (after_links b ls) x = links_step i k b ls x
@@ -67,12 +68,14 @@ pub data Outcome : Type 0 where
   whole : Ex → Tokens → Outcome
   whole_items : Items → Tokens → Outcome
 
+-- how reading goes on behind a step, where these tokens are left
 abbrev pub resume : (Stack → Mode → Outcome) → Step → Tokens → Outcome
 resume r fault l = faulty l
 resume r (go k m) l = r k m
 resume r (done e) l = whole e l
 resume r (done_items is) l = whole_items is l
 
+-- reading from a state on, where the end of the tokens is read as a token of its own
 abbrev pub run : ℕ → Stack → Mode → Tokens → Outcome
 run i k m [] = resume (λ k m. faulty []) (step i k m end_mark) []
 run i k m (x ∷ l) = resume (λ k m. run (suc i) k m l) (step i k m x) (x ∷ l)
@@ -85,6 +88,7 @@ read_expression i l = run i [] want l
 abbrev pub read_module : Tokens → Outcome
 read_module l = run 0 [] (items_start no_item) l
 
+-- reading from a step on, where the first of these tokens was its token
 abbrev pub go_on : ℕ → Step → Tokens → Outcome
 go_on i s [] = resume (λ k m. faulty []) s []
 go_on i s (x ∷ l) = resume (λ k m. run (suc i) k m l) s (x ∷ l)

@@ -31,6 +31,7 @@ abbrev pub is_none_of : List Bytes → Bytes → Bool
 is_none_of [] n = true
 is_none_of (w ∷ ws) n = if bytes_eq n w then false else is_none_of ws n
 
+-- whether the word may name an alias
 abbrev pub may_alias : Bytes → Bool
 may_alias n = if is_reserved n then false else is_none_of base_names n
 
@@ -108,6 +109,7 @@ abbrev pub source_step : Stack → ℕ → Items → ImportForm → TokenKind �
 source_step k a is m (Str s) = go k (item_end a is (imports m s))
 source_step k a is m _ = fault
 
+-- the semicolon at i ends the item
 abbrev pub end_item : ℕ → Stack → ℕ → Items → ItemForm → TokenKind → Step
 end_item i k a is x (Punct Semicolon) = give_item (suc i) k a is x
 end_item i k a is x _ = fault
@@ -130,6 +132,7 @@ export_type_step i k a is p (Name n) = if may_alias n then go k (after_alias a e
 export_type_step i k a is p (Punct OpenBrace) = go k (names_start (listing a is (opens_exports true) i (exporting no_exported)))
 export_type_step i k a is p _ = fault
 
+-- whether no exported word is reserved
 abbrev pub are_names : Exporteds → Bool
 are_names no_exported = true
 are_names (more_exported ns (exported f t n w)) = if is_reserved n then false else are_names ns
