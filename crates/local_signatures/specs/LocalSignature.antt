@@ -1,5 +1,5 @@
 -- The local signature of a module.
-use Rattle.std.specs.Prelude.{◌≡◌, ℕ, zero, suc, Bool, true, false, not, List, [], ◌∷◌, ◌++◌, map, length, filter, Option, Some, None, option_to_list}
+use Rattle.std.specs.Prelude.{◌≡◌, ℕ, zero, suc, true, false, not, List, [], ◌∷◌, ◌++◌, map, length, filter, Option, Some, None, option_to_list}
 use Rattle.std.specs.List.{flat_map, filter_map}
 use Rattle.check_values.specs.Rows.{Bytes, Rows, row_at, is_among, by_name}
 use Rattle.check_values.specs.declared.signatures.Origin.{Origin}
