@@ -24,6 +24,11 @@ abbrev pub first_of_each : {X : Type 0} → Rows X → Rows X
 first_of_each [] = []
 first_of_each (row ∷ rows) = row ∷ filter (λ later. not (bytes_eq later.0 row.0)) (first_of_each rows)
 
+-- the texts, each at its first place alone
+abbrev pub distinct : List Bytes → List Bytes
+distinct [] = []
+distinct (word ∷ words) = word ∷ filter (λ later. not (bytes_eq later word)) (distinct words)
+
 abbrev pub is_among : List Bytes → Bytes → Bool
 is_among words word = list_any (bytes_eq word) words
 

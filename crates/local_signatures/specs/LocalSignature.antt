@@ -83,3 +83,8 @@ local_signature m =
       aliases = filter (λ row. is_among (reached_names m) row.0) (aliases_of m);
       imports = filter (λ row. is_among (reached_names m) row.local) (imports_of m);
     }
+
+-- the signature of a source, by its tree where it has one
+abbrev pub signature_of : Option Module → LocalSig
+signature_of None = broken_signature
+signature_of (Some m) = local_signature m

@@ -9,7 +9,7 @@ use Rattle.check_values.specs.FaultOrder.{faults_in_order}
 use Rattle.check_values.specs.declared.codes.Code.{Code}
 use Rattle.check_values.specs.declared.codes.Code.TheVariants.{CannotResolveModule, CannotResolveName, MissingExport, NameAlreadyBound, RecursiveAlias, RecursiveDefinition, TypeAsValue, ValueAsType}
 use Rattle.check_values.specs.declared.faults.Fault.{Fault}
-use Rattle.check_values.specs.declared.signatures.DepRow.{DepRow}
+use Rattle.check_values.specs.declared.signatures.Deps.{Deps}
 use Rattle.check_values.specs.declared.signatures.Sig.{Sig}
 use Rattle.check_values.specs.declared.signatures.Export.{Export}
 use Rattle.check_values.specs.declared.signatures.Export.TheVariants as says
@@ -19,6 +19,7 @@ use Rattle.type_terms.specs.Show.{quoted}
 use Rattle.local_signatures.specs.Scope as home
 use Rattle.local_signatures.specs.Scope.{bound_import, bound_variable, bound_function, bound_alias, scope_of, default_name}
 use Rattle.local_signatures.specs.Faults.{signature_faults}
+use Rattle.merged_signatures.specs.Chains.{found}
 use Rattle.flow_facts.specs.Known.{no_facts}
 use Rattle.typing.specs.Names.{Kind, constant, type_name, Binding, Scope, number_at, binding_of, prelude}
 use Rattle.typing.specs.Changes.{Change, changes_of_function, changes_of_declaration, changes_of_simple, changes_of_ex}
@@ -31,17 +32,13 @@ use Rattle.typing.specs.Typing.{read, read_function, read_declaration, read_simp
 -- on a cycle, and members and subtyping by the alias table.
 pub record Program : Type 0 where
   pub path : Bytes
-  pub deps : List DepRow
+  pub deps : Deps
   pub sigs : Bytes → Option Sig
   pub is_cyclic : Bytes → Bool
   pub members : FlowType → List FlowType
   pub below : FlowType → FlowType → Bool
 
 -- ---- other modules
-
--- the module that a specifier finds
-abbrev pub found_by : List DepRow → Bytes → Option Bytes
-found_by rows spec = unwrap_or (row_at (map (λ (row : DepRow). (row.spec, row.found)) rows) spec) None
 
 -- what a module says of one of its exports: nothing, where there is no such module or it is broken
 pub data Saying : Type 0 where
@@ -63,7 +60,7 @@ said_by p name (Some path) = said_by_sig name (p.sigs path)
 
 -- what the module that a specifier finds says of a name
 abbrev pub said : Program → Bytes → Bytes → Saying
-said p spec name = said_by p name (found_by p.deps spec)
+said p spec name = said_by p name (found p.deps spec)
 
 -- the type of an imported value
 abbrev pub value_said : Saying → FlowType
@@ -176,7 +173,7 @@ no_notes = record { faults = []; watched = None; stopped = false }
 -- a specifier at a token
 abbrev pub specifier_read : World → Program → ℕ → Bytes → Notes → Notes
 specifier_read w p token spec notes =
-    elim (found_by p.deps spec) [
+    elim (found p.deps spec) [
       None ↦ name_fault (fault_at w token (suc token) CannotResolveModule (quoted spec)) notes
     | Some path ↦ notes ]
 

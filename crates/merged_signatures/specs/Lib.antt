@@ -1,0 +1,4 @@
+pub mod Chains
+pub mod Merged
+pub mod Job
+pub mod Reach
