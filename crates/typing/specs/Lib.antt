@@ -9,4 +9,3 @@ pub mod Objects
 pub mod Forms
 pub mod Statements
 pub mod Typing
-pub mod Modules

@@ -16,9 +16,12 @@ abbrev pub type_meant : TypeMeaning → FlowType
 type_meant (a_type t) = t
 type_meant (no_type_of code) = made.Any
 
--- the type of a tree
+-- the type of a tree, by what names mean
+abbrev pub written_by : (Bytes → TypeMeaning) → Ty → FlowType
+written_by meaning t = type_of (λ name. type_meant (meaning name)) t
+
 abbrev pub written : World → Ty → FlowType
-written w t = type_of (λ name. type_meant (w.type_meaning name)) t
+written w t = written_by w.type_meaning t
 
 abbrev pub meaning_fault : World → ℕ → ℕ → Bytes → TypeMeaning → Notes → Notes
 meaning_fault w f t name (a_type meant) notes = notes
