@@ -8,7 +8,7 @@ use Rattle.type_values.specs.declared.types.FlowType.{FlowType}
 use Rattle.type_values.specs.declared.types.FlowType as made
 use Rattle.type_values.specs.declared.types.Param as value
 use Rattle.type_terms.specs.Join.{join_of}
-use Rattle.flow_facts.specs.Properties.{eff}
+use Rattle.type_terms.specs.Optional.{eff}
 use Rattle.flow_facts.specs.Known.{Known, no_facts, entered_function}
 use Rattle.typing.specs.Names.{Kind, constant, changing, shared, Binding, Scope, number_at, binds, is_constant_number}
 use Rattle.typing.specs.Changes.{Change, is_set_inside}

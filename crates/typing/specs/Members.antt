@@ -16,8 +16,9 @@ use Rattle.type_values.specs.declared.types.Variance.TheVariants.{Read, Write}
 use Rattle.type_values.specs.declared.types.FlowType.TheOpen.{FlowType-F, Any, Mixed, Str, StrLit, NumLit, Null, Void, Object, Tuple, Array, ReadArray, Function}
 use Rattle.type_terms.specs.Join.{join_of}
 use Rattle.type_terms.specs.Show.{brief, quoted}
+use Rattle.type_terms.specs.Optional.{eff}
 use Rattle.flow_facts.specs.Cells.{Level}
-use Rattle.flow_facts.specs.Properties.{prop_of, read_type, eff}
+use Rattle.flow_facts.specs.Properties.{prop_of, read_type}
 use Rattle.typing.specs.States.{World, fault_at, two_types}
 
 -- what a member gives, and its faults
