@@ -3,6 +3,7 @@ use Rattle.std.specs.Prelude.{ℕ, suc, ◌-◌, ◌++◌, not, ◌&&◌, ◌||�
 use Rattle.js_grammar.specs.Code.{Prefix, negation, minus_sign, plus_sign, kind_of, Prefixes, no_prefix, more_prefix, Operator, nullish, or, and, strict_equal, strict_not_equal, loose_equal, loose_not_equal, less, greater, less_or_equal, greater_or_equal, add, subtract, multiply, divide, remainder, Ex, Operand, operand, OperandForm, right_side, as_type, Operands, no_operand, more_operand}
 use Rattle.check_values.specs.Rows.{Bytes}
 use Rattle.check_values.specs.declared.codes.Code.{Code}
+use Rattle.check_values.specs.declared.faults.Fault.{Fault}
 use Rattle.check_values.specs.declared.codes.Code.TheVariants.{InvalidCompare, UnsafeArithmetic}
 use Rattle.type_values.specs.declared.types.FlowType.{FlowType}
 use Rattle.type_values.specs.declared.types.FlowType as made
@@ -54,7 +55,7 @@ number_asked w f t ty notes = if is_number w ty then notes else add_fault (fault
 
 -- yes and no change places
 abbrev pub swapped : Out → Out
-swapped o = elim o.no [ None ↦ record o { ty = made.Boolean } | Some no ↦ record o { ty = made.Boolean; yes = no; no = Some o.yes } ]
+swapped o = elim o.no [ None ↦ record o { ty = made.Boolean } | Some falsy ↦ record o { ty = made.Boolean; yes = falsy; no = Some o.yes } ]
 
 abbrev pub signed_out : World → ℕ → ℕ → Out → Out
 signed_out w f t o = plainly made.Number (change_notes (number_asked w f t o.ty) (after o))
@@ -71,12 +72,11 @@ abbrev pub prefixes_out : World → Prefixes → ℕ → ℕ → Out → Out
 prefixes_out w no_prefix f t o = o
 prefixes_out w (more_prefix ps at p) f t o = prefixes_out w ps at t (noted_out w at t (prefix_out w p f t o))
 
--- ---- operators
+-- ---- `&&`, `||`, `??`
 
 -- the place that a chain is before an operand: only its first part may be one
-abbrev pub place_before : Operands → Option Place → Option Place
-place_before no_operand place = place
-place_before (more_operand os o) place = None
+abbrev pub place_before : Bool → Option Place → Option Place
+place_before goes_on place = if goes_on then None else place
 
 abbrev pub nullish_now : World → Option Place → Out → Now
 nullish_now w None a = after a
@@ -110,6 +110,50 @@ nullish_out w a b = record {
   no = None;
   notes = b.notes }
 
+-- ---- conditionals
+
+-- a branch behind the test that begins at a token: its type, and the facts after it
+pub record Chosen : Type 0 where
+  pub first : ℕ
+  pub ty : FlowType
+  pub facts : Known
+
+-- the branches that were read, in order, and what the next test is read from
+pub record Choices : Type 0 where
+  pub chosen : List Chosen
+  pub now : Now
+
+abbrev pub choice_out : Chosen → Out → Out
+choice_out c rest =
+    record { ty = join_of (c.ty ∷ rest.ty ∷ []); yes = joined c.facts (after rest).facts; no = None; notes = rest.notes }
+
+-- a conditional that ends at a token: each branch and all that follows it
+abbrev pub choices_out : World → ℕ → List Chosen → Out → Out
+choices_out w t [] last = last
+choices_out w t (c ∷ chosen) last = noted_out w c.first t (choice_out c (choices_out w t chosen last))
+
+-- ---- comparisons of a place
+
+abbrev pub is_equality : Operator → Bool
+is_equality strict_equal = true
+is_equality strict_not_equal = true
+is_equality loose_equal = true
+is_equality loose_not_equal = true
+is_equality op = false
+
+-- what a chain with one operator compares, and whether its being true says that the sides differ
+abbrev pub compared : Scope → Ex → Operands → Option (Comparison × Bool)
+compared scope e (more_operand no_operand (operand f t (right_side op b))) =
+    if is_equality op then elim (comparison_of scope op e b) [ None ↦ None | Some c ↦ Some (c, is_negated op) ] else None
+compared scope e os = None
+
+abbrev pub compared_out : World → Option (Comparison × Bool) → Out → Out
+compared_out w None o = o
+compared_out w (Some (c, negated)) o =
+    record o { yes = assume_equal w (not negated) c o.yes; no = Some (assume_equal w negated c o.yes) }
+
+-- ---- `<` and its like
+
 abbrev pub both_below : World → FlowType → FlowType → FlowType → Bool
 both_below w a b t = w.below a t && w.below b t
 
@@ -123,6 +167,8 @@ compare_asked w f t a b notes =
 
 abbrev pub compare_out : World → ℕ → ℕ → Out → Out → Out
 compare_out w f t a b = plainly made.Boolean (change_notes (compare_asked w f t a.ty b.ty) (after b))
+
+-- ---- arithmetic
 
 -- the type of a sum, if there is one
 abbrev pub sum_type : World → FlowType → FlowType → Option FlowType
@@ -143,6 +189,8 @@ sum_out w f t a b = sum_found w f t a.ty b.ty (after b) (sum_type w a.ty b.ty)
 abbrev pub product_out : World → ℕ → ℕ → ℕ → Out → Out → Out
 product_out w f at t a b =
     plainly made.Number (change_notes (λ notes. number_asked w (suc at) t b.ty (number_asked w f at a.ty notes)) (after b))
+
+-- ---- each operator
 
 -- A chain begins at a token, has an operator at a second one, and its right side ends at a third one.
 abbrev pub operator_out : World → ℕ → ℕ → ℕ → Operator → Out → Out → Out
@@ -176,29 +224,8 @@ first_want w (more_operand no_operand (operand f t form)) = cast_want w form
 first_want w (more_operand os o) = first_want w os
 
 -- a later part, at these tokens, is asked to be below its type
-abbrev pub cast_asked : World → ℕ → ℕ → Operands → FlowType → FlowType → Notes → Notes
-cast_asked w f t no_operand want ty notes = notes
-cast_asked w f t (more_operand os o) want ty notes = asked w f t want ty notes
-
--- ---- comparisons of a place
-
-abbrev pub is_equality : Operator → Bool
-is_equality strict_equal = true
-is_equality strict_not_equal = true
-is_equality loose_equal = true
-is_equality loose_not_equal = true
-is_equality op = false
-
--- what a chain with one operator compares, and whether its being true says that the sides differ
-abbrev pub compared : Scope → Ex → Operands → Option (Comparison × Bool)
-compared scope e (more_operand no_operand (operand f t (right_side op b))) =
-    if is_equality op then elim (comparison_of scope op e b) [ None ↦ None | Some c ↦ Some (c, is_negated op) ] else None
-compared scope e os = None
-
-abbrev pub compared_out : World → Option (Comparison × Bool) → Out → Out
-compared_out w None o = o
-compared_out w (Some (c, negated)) o =
-    record o { yes = assume_equal w (not negated) c o.yes; no = Some (assume_equal w negated c o.yes) }
+abbrev pub cast_asked : World → ℕ → ℕ → Bool → FlowType → FlowType → Notes → Notes
+cast_asked w f t goes_on want ty notes = if goes_on then asked w f t want ty notes else notes
 
 -- ---- properties, indices, calls
 
@@ -208,13 +235,13 @@ stepped w place steps now = maybe_place_out w place (steps_type steps) (change_n
 -- the property `.key` of an object that was read
 abbrev pub property_out : World → ℕ → ℕ → ℕ → Bytes → Option Place → Out → Out
 property_out w f at t key place o =
-    let part = record { object_first = f; object_end = at; object_type = o.ty; first = suc at; end = t; details = key } in
+    let part : Part = record { object_first = f; object_end = at; object_type = o.ty; first = suc at; end = t; details = key } in
     stepped w place (map (property_read w part key) (levels w o.ty)) (after o)
 
 -- the element `[i]` of an object that was read, once the index is
 abbrev pub index_out : World → ℕ → ℕ → ℕ → Out → Out → Out
 index_out w f at t o i =
-    let part = record { object_first = f; object_end = at; object_type = o.ty; first = suc at; end = t - 1; details = brief i.ty } in
+    let part : Part = record { object_first = f; object_end = at; object_type = o.ty; first = suc at; end = t - 1; details = brief i.ty } in
     stepped w None (map (index_read w part i.ty) (levels w o.ty)) (after i)
 
 -- the arguments that were read, in order
@@ -225,32 +252,10 @@ pub record Args : Type 0 where
 -- a call of what was read, once the arguments are
 abbrev pub call_out : World → ℕ → ℕ → ℕ → Out → Args → Out
 call_out w f at t o given =
-    let c = record { first = f; callee_end = at; end = t; callee_type = o.ty; args = given.args } in
-    let steps = map (member_called w c) (levels w o.ty) in
-    let faults = steps_faults steps ++ args_faults w (levels w o.ty) given.args in
+    let c : Call = record { first = f; callee_end = at; end = t; callee_type = o.ty; args = given.args } in
+    let steps : List Step = map (member_called w c) (levels w o.ty) in
+    let faults : List Fault = steps_faults steps ++ args_faults w (levels w o.ty) given.args in
     plainly (steps_type steps) (change_facts (live without_properties) (change_notes (add_faults faults) given.now))
-
--- ---- conditionals
-
--- a branch behind the test that begins at a token: its type, and the facts after it
-pub record Chosen : Type 0 where
-  pub first : ℕ
-  pub ty : FlowType
-  pub facts : Known
-
--- the branches that were read, in order, and what the next test is read from
-pub record Choices : Type 0 where
-  pub chosen : List Chosen
-  pub now : Now
-
-abbrev pub choice_out : Chosen → Out → Out
-choice_out c rest =
-    record { ty = join_of (c.ty ∷ rest.ty ∷ []); yes = joined c.facts (after rest).facts; no = None; notes = rest.notes }
-
--- a conditional that ends at a token: each branch and all that follows it
-abbrev pub choices_out : World → ℕ → List Chosen → Out → Out
-choices_out w t [] last = last
-choices_out w t (c ∷ chosen) last = noted_out w c.first t (choice_out c (choices_out w t chosen last))
 
 -- ---- literals
 

@@ -12,7 +12,7 @@ use Rattle.type_values.specs.declared.types.FlowType as made
 use Rattle.type_values.specs.declared.types.FlowProp.{FlowProp, out-FlowProp}
 use Rattle.type_values.specs.declared.types.Variance.TheVariants.{Both}
 use Rattle.type_values.specs.declared.types.FlowType.TheOpen.{FlowType-F, Any, Object, Tuple, Array, ReadArray}
-use Rattle.type_terms.specs.Join.{join_of, widened}
+use Rattle.type_terms.specs.Join.{join_of, widened, level_is_any}
 use Rattle.type_terms.specs.Show.{shown_key}
 use Rattle.tree_types.specs.TreeTypes.{key_text, last_of_each}
 use Rattle.flow_facts.specs.Cells.{Level}
@@ -76,10 +76,6 @@ takes_value w own (Some literal) c = takes_literal w literal (prop_of own c.prop
 abbrev pub is_candidate : World → List Entry → Candidate → Bool
 is_candidate w entries c = list_all (λ entry. takes_value w entry.name entry.literal c) (filter (counts entries) entries)
 
-abbrev pub is_any_level : Level → Bool
-is_any_level Any = true
-is_any_level level = false
-
 abbrev pub the_candidate : List Candidate → Option Candidate
 the_candidate (c ∷ []) = Some c
 the_candidate all = None
@@ -90,7 +86,7 @@ candidate_among w entries false (c ∷ []) = Some c
 candidate_among w entries has_any objects = the_candidate (filter (is_candidate w entries) objects)
 
 abbrev pub candidate_of : World → List Entry → FlowType → Option Candidate
-candidate_of w entries t = candidate_among w entries (list_any is_any_level (levels w t)) (filter_map object_of (levels w t))
+candidate_of w entries t = candidate_among w entries (list_any level_is_any (levels w t)) (filter_map object_of (levels w t))
 
 abbrev pub candidate_for : World → List Entry → Want → Option Candidate
 candidate_for w entries None = None

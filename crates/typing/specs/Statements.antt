@@ -83,7 +83,7 @@ property_target key declared (Some p) = set_place p declared
 -- the property `.key` of an object that was read
 abbrev pub property_goal : World → ℕ → ℕ → ℕ → Bytes → Option Place → Out → Goal
 property_goal w f at t key place o =
-    let part = record { object_first = f; object_end = at; object_type = o.ty; first = suc at; end = t; details = key } in
+    let part : Part = record { object_first = f; object_end = at; object_type = o.ty; first = suc at; end = t; details = key } in
     record {
       wants = filter_map (target_of_prop key) (levels w o.ty);
       faults = steps_faults (map (property_written w part key) (levels w o.ty));
@@ -92,7 +92,7 @@ property_goal w f at t key place o =
 -- the element `[i]` of an object, once the index was read
 abbrev pub element_goal : World → ℕ → ℕ → Ex → Out → Out → Goal
 element_goal w f at e o i =
-    let part = record { object_first = f; object_end = at; object_type = o.ty; first = first_of e; end = end_of e; details = brief i.ty } in
+    let part : Part = record { object_first = f; object_end = at; object_type = o.ty; first = first_of e; end = end_of e; details = brief i.ty } in
     record {
       wants = filter_map (target_of_index w i.ty) (levels w o.ty);
       faults = steps_faults (map (index_written w part i.ty) (levels w o.ty));

@@ -57,9 +57,9 @@ property_of None key = None
 property_of (Some variable_at) key = Some (property_place variable_at key)
 
 -- one property step from a variable
-abbrev pub step_place : Scope → Ex → Links → Option Place
-step_place scope e (more_link no_link (link f t (member key))) = property_of (variable_in scope e) key
-step_place scope e ls = None
+abbrev pub step_place : Option ℕ → Links → Option Place
+step_place from (more_link no_link (link f t (member key))) = property_of from key
+step_place from ls = None
 
 -- the place that an expression is, parentheses round it left out
 abbrev mutual
@@ -69,7 +69,7 @@ abbrev mutual
   pub place_in_form : Scope → ExForm → Option Place
   place_in_form scope (variable name) = elim (variable_number scope name) [ None ↦ None | Some n ↦ Some (variable_place n) ]
   place_in_form scope (parens e) = place_in scope e
-  place_in_form scope (postfixed e ls) = step_place scope e ls
+  place_in_form scope (postfixed e ls) = step_place (variable_in scope e) ls
   place_in_form scope form = None
 
 -- ---- the sides of a comparison

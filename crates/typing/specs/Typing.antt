@@ -2,7 +2,7 @@
 use Rattle.std.specs.Prelude.{ℕ, suc, ◌+◌, ◌++◌, not, ◌&&◌, Bool, true, false, List, [], ◌∷◌, map, length, Option, Some, None, if◌then◌else◌}
 use Rattle.std.specs.List.{filter_map, list_any}
 use Rattle.js_grammar.specs.Types.{Ty}
-use Rattle.js_grammar.specs.Code.{Binder, Ex, ex, ExForm, variable, number, text, truth_value, null_value, parens, elements, fields, function_ex, postfixed, prefixed, chain, cond, arrow, Exs, no_ex, more_ex, Link, link, LinkForm, member, index, call, Links, no_link, more_link, Operand, operand, OperandForm, right_side, as_type, Operands, no_operand, more_operand, Field, field, FieldForm, shorthand, valued, Fields, no_field, more_field, Arm, arm, Arms, no_arm, more_arm, Function, function, Sig, Parameter, ArrowBody, arrow_block, arrow_value, Block, block, Stmts, no_stmt, more_stmt, Stmt, stmt, StmtForm, declares, function_stmt, does, branches, loop, nested, Declaration, declaration, Simple, simple, SimpleForm, return_bare, return_value, throw_value, break_loop, continue_loop, assign, evaluate, Body, block_body, simple_body, Branch, branch, Branches, no_branch, more_branch, Else, no_else, else_body}
+use Rattle.js_grammar.specs.Code.{Binder, Ex, ex, ExForm, variable, number, text, truth_value, null_value, parens, elements, fields, function_ex, postfixed, prefixed, chain, cond, arrow, Exs, no_ex, more_ex, Link, link, LinkForm, member, index, call, Links, no_link, more_link, Operand, operand, OperandForm, right_side, as_type, Operands, no_operand, more_operand, has_operands, Field, field, FieldForm, shorthand, valued, Fields, no_field, more_field, Arm, arm, Arms, no_arm, more_arm, Function, function, Sig, Parameter, ArrowBody, arrow_block, arrow_value, Block, block, Stmts, no_stmt, more_stmt, Stmt, stmt, StmtForm, declares, function_stmt, does, branches, loop, nested, Declaration, declaration, Simple, simple, SimpleForm, return_bare, return_value, throw_value, break_loop, continue_loop, assign, evaluate, Body, block_body, simple_body, Branch, branch, Branches, no_branch, more_branch, Else, no_else, else_body}
 use Rattle.check_values.specs.Rows.{Bytes}
 use Rattle.type_values.specs.declared.types.FlowType.{FlowType}
 use Rattle.type_values.specs.declared.types.FlowType as made
@@ -15,7 +15,7 @@ use Rattle.typing.specs.Names.{Scope, meaning_of}
 use Rattle.typing.specs.Changes.{Change, declared_in, changes_of_ex, changes_of_stmts, changes_of_body}
 use Rattle.typing.specs.States.{World, Want, Notes, Now, Out, Env, no_of, after, on_yes, on_no, now_of, with_now, plainly, change_notes, against, asked, noted_out, reach, dead, returns, leave}
 use Rattle.typing.specs.TypeFaults.{written, annotated, type_read, annotation_read}
-use Rattle.typing.specs.Tests.{number_type, step_place, place_in}
+use Rattle.typing.specs.Tests.{number_type, variable_in, step_place, place_in}
 use Rattle.typing.specs.Members.{Level, levels, Arg, one_function, param_at}
 use Rattle.typing.specs.Functions.{bind_sig, bind_stmts, none_bound, enter_block, own_scope, sig_read, result_of, function_type, function_read, body_env, kept_facts, ended}
 use Rattle.typing.specs.Objects.{Entry, entry_of, entries_of, key_bound, Candidate, candidate_for, value_want, key_asked, all_given, prop_read, object_type, array_type, Elements, elements_for, element_want, count_of}
@@ -63,12 +63,20 @@ abbrev mutual
   read w (ex f t form) scope want now = noted_out w f t (read_form w f t form scope want now)
 
   pub read_form : World → ℕ → ℕ → ExForm → Scope → Want → Now → Out
-  read_form w f t (variable name) scope want now = against w f t want (variable_out w f t name scope now)
   read_form w f t (number digits) scope want now = against w f t want (plainly (number_type digits) now)
   read_form w f t (text s) scope want now = against w f t want (plainly (made.StrLit s) now)
   read_form w f t (truth_value b) scope want now = against w f t want (truth_out b now)
   read_form w f t null_value scope want now = against w f t want (plainly made.Null now)
+  read_form w f t (variable name) scope want now = against w f t want (variable_out w f t name scope now)
   read_form w f t (parens e) scope want now = read w e scope want now
+  read_form w f t (prefixed marks e) scope want now =
+      against w f t want (prefixes_out w marks (first_of e) t (read w e scope None now))
+  read_form w f t (chain level e os) scope want now =
+      let first = read w e scope (first_want w os) now in
+      against w f t want (compared_out w (compared scope e os) (read_operands w f os (place_in scope e) scope first))
+  read_form w f t (cond arms e) scope want now =
+      let choices = read_arms w arms scope want now in
+      choices_out w t choices.chosen (read w e scope want choices.now)
   read_form w f t (elements es comma) scope want now =
       let matched = elements_for w (count_of es) want in
       let items = read_elements w es scope matched now in
@@ -79,18 +87,10 @@ abbrev mutual
       let read_props = read_fields w fs scope candidate entries now in
       let given = change_notes (all_given w f t entries candidate) read_props.now in
       unless_matched w f t want candidate (plainly (object_type read_props.props) given)
+  read_form w f t (postfixed e ls) scope want now =
+      against w f t want (read_links w f ls (variable_in scope e) scope (read w e scope None now))
   read_form w f t (function_ex made_by) scope want now = against w f t want (made_out (read_function w true made_by scope now))
   read_form w f t (arrow s body) scope want now = against w f t want (made_out (read_arrow w s body scope now))
-  read_form w f t (postfixed e ls) scope want now =
-      against w f t want (read_links w f ls e scope (read w e scope None now))
-  read_form w f t (prefixed marks e) scope want now =
-      against w f t want (prefixes_out w marks (first_of e) t (read w e scope None now))
-  read_form w f t (chain level e os) scope want now =
-      let first = read w e scope (first_want w os) now in
-      against w f t want (compared_out w (compared scope e os) (read_operands w f os (place_in scope e) scope first))
-  read_form w f t (cond arms e) scope want now =
-      let choices = read_arms w arms scope want now in
-      choices_out w t choices.chosen (read w e scope want choices.now)
 
   -- the elements of an array literal, against what matches them
   pub read_elements : World → Exs → Scope → Option Elements → Now → Items
@@ -115,11 +115,12 @@ abbrev mutual
       noted_out w f (suc f) (against w f (suc f) want (variable_out w f (suc f) name scope now))
   read_field w f (valued k e) scope want now = read w e scope want now
 
-  -- the links behind an expression that was read, which begins at a token
-  pub read_links : World → ℕ → Links → Ex → Scope → Out → Out
-  read_links w f no_link e scope base = base
-  read_links w f (more_link ls (link at t form)) e scope base =
-      noted_out w f t (read_link w f at t form (step_place scope e (more_link ls (link at t form))) scope (read_links w f ls e scope base))
+  -- the links behind an expression that was read, which begins at a token and may be a variable
+  pub read_links : World → ℕ → Links → Option ℕ → Scope → Out → Out
+  read_links w f no_link from scope base = base
+  read_links w f (more_link ls (link at t form)) from scope base =
+      let place = step_place from (more_link ls (link at t form)) in
+      noted_out w f t (read_link w f at t form place scope (read_links w f ls from scope base))
 
   pub read_link : World → ℕ → ℕ → ℕ → LinkForm → Option Place → Scope → Out → Out
   read_link w f at t (member key) place scope o = property_out w f at t key place o
@@ -139,22 +140,23 @@ abbrev mutual
   pub read_operands : World → ℕ → Operands → Option Place → Scope → Out → Out
   read_operands w f no_operand place scope first = first
   read_operands w f (more_operand os (operand at t form)) place scope first =
-      noted_out w f t (read_operand w f at t form os (place_before os place) scope (read_operands w f os place scope first))
+      noted_out w f t (read_operand w f at t form (has_operands os) place scope (read_operands w f os place scope first))
 
-  pub read_operand : World → ℕ → ℕ → ℕ → OperandForm → Operands → Option Place → Scope → Out → Out
-  read_operand w f at t (right_side op e) before place scope a =
-      operator_out w f at t op a (read w e scope None (right_now w op place a))
-  read_operand w f at t (as_type v) before place scope a =
-      let now = change_notes (λ notes. cast_asked w f at before (written w v) a.ty (type_read w v notes)) (after a) in
+  -- behind a chain that has operands already (true) or is its first part
+  pub read_operand : World → ℕ → ℕ → ℕ → OperandForm → Bool → Option Place → Scope → Out → Out
+  read_operand w f at t (right_side op e) goes_on place scope a =
+      operator_out w f at t op a (read w e scope None (right_now w op (place_before goes_on place) a))
+  read_operand w f at t (as_type v) goes_on place scope a =
+      let now = change_notes (λ notes. cast_asked w f at goes_on (written w v) a.ty (type_read w v notes)) (after a) in
       plainly (written w v) now
 
   -- the branches of a conditional but the last
   pub read_arms : World → Arms → Scope → Want → Now → Choices
   read_arms w no_arm scope want now = record { chosen = []; now = now }
-  read_arms w (more_arm arms (arm f t test value)) scope want now =
+  read_arms w (more_arm arms (arm f t test chosen)) scope want now =
       let before = read_arms w arms scope want now in
       let o = read w test scope None before.now in
-      let v = read w value scope want (on_yes o) in
+      let v = read w chosen scope want (on_yes o) in
       record {
         chosen = before.chosen ++ record { first = f; ty = v.ty; facts = (after v).facts } ∷ [];
         now = record { facts = no_of o; notes = v.notes } }
@@ -215,11 +217,13 @@ abbrev mutual
       let now = change_notes (variable_named w tf name (meaning_of env.scope name)) (now_of env) in
       assigned_env w e goal (read w e env.scope (goal_want goal) now) env
   read_simple w f t (assign (ex tf tt (postfixed base (more_link ls (link at end (member key))))) e) env =
-      let o = read_links w tf ls base env.scope (read w base env.scope None (now_of env)) in
-      let goal = property_goal w tf at end key (step_place env.scope base (more_link ls (link at end (member key)))) o in
+      let from = variable_in env.scope base in
+      let o = read_links w tf ls from env.scope (read w base env.scope None (now_of env)) in
+      let goal = property_goal w tf at end key (step_place from (more_link ls (link at end (member key)))) o in
       assigned_env w e goal (read w e env.scope (goal_want goal) (after o)) env
   read_simple w f t (assign (ex tf tt (postfixed base (more_link ls (link at end (index i))))) e) env =
-      let o = read_links w tf ls base env.scope (read w base env.scope None (now_of env)) in
+      let from = variable_in env.scope base in
+      let o = read_links w tf ls from env.scope (read w base env.scope None (now_of env)) in
       let at_index = read w i env.scope None (after o) in
       let goal = element_goal w tf at i o at_index in
       assigned_env w e goal (read w e env.scope (goal_want goal) (after at_index)) env
