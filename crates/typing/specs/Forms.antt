@@ -17,7 +17,7 @@ use Rattle.flow_facts.specs.Known.{Known, joined, live, type_at, variable_place,
 use Rattle.typing.specs.Names.{Binding, Scope, Meaning, variable_of, no_variable, meaning_of, has_facts}
 use Rattle.typing.specs.Tests.{Comparison, comparison_of, assume_equal, is_negated}
 use Rattle.typing.specs.States.{World, Want, Notes, Now, Out, no_of, after, on_yes, on_no, plainly, change_facts, change_notes, assume, fault_at, name_fault, add_fault, add_faults, two_types, against, asked, noted_out}
-use Rattle.typing.specs.Members.{Level, levels, Step, steps_type, steps_faults, Part, property_read, index_read, Arg, Call, member_called, args_faults}
+use Rattle.typing.specs.Members.{levels, Step, steps_type, steps_faults, Part, property_read, index_read, Arg, Call, member_called, args_faults}
 use Rattle.typing.specs.TypeFaults.{written, type_read}
 
 -- ---- variables and places

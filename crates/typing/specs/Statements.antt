@@ -14,7 +14,7 @@ use Rattle.flow_facts.specs.Known.{Known, joined, live, without, is_named, witho
 use Rattle.typing.specs.Names.{Kind, shared, Binding, Scope, Meaning, variable_of, no_variable, is_constant, has_facts, number_at, declares_type, numbers_of}
 use Rattle.typing.specs.Changes.{Change, variable_set, property_set, sets_all}
 use Rattle.typing.specs.States.{World, Want, Notes, Now, Out, Env, no_of, after, on_no, now_of, with_now, change_notes, asked, asked_want, add_fault, add_faults, name_fault, fault_at, returns, dead}
-use Rattle.typing.specs.Members.{Level, levels, Part, steps_type, steps_faults, property_read, property_written, index_written, target_of_prop, target_of_index, the_one}
+use Rattle.typing.specs.Members.{levels, Part, steps_type, steps_faults, property_read, property_written, index_written, target_of_prop, target_of_index, the_one}
 use Rattle.type_terms.specs.Show.{brief}
 
 abbrev pub first_of : Ex → ℕ

@@ -10,7 +10,7 @@ use Rattle.flow_facts.specs.declared.place.Place.{Place}
 use Rattle.flow_facts.specs.declared.test.Test.{Test}
 use Rattle.flow_facts.specs.declared.test.Test as test
 use Rattle.flow_facts.specs.declared.test.Lit.{Lit}
-use Rattle.flow_facts.specs.declared.test.Lit as lit
+use Rattle.flow_facts.specs.declared.test.Lit.TheVariants as lit
 use Rattle.flow_facts.specs.Known.{Known, variable_place, property_place}
 use Rattle.typing.specs.Names.{Binding, Scope, Meaning, variable_of, no_variable, meaning_of, has_facts, undefined_number}
 use Rattle.typing.specs.States.{World, assume}

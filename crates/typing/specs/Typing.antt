@@ -16,7 +16,7 @@ use Rattle.typing.specs.Changes.{Change, declared_in, changes_of_ex, changes_of_
 use Rattle.typing.specs.States.{World, Want, Notes, Now, Out, Env, no_of, after, on_yes, on_no, now_of, with_now, plainly, change_notes, against, asked, noted_out, reach, dead, returns, leave}
 use Rattle.typing.specs.TypeFaults.{written, annotated, type_read, annotation_read}
 use Rattle.typing.specs.Tests.{number_type, variable_in, step_place, place_in}
-use Rattle.typing.specs.Members.{Level, levels, Arg, one_function, param_at}
+use Rattle.typing.specs.Members.{levels, Arg, one_function, param_at}
 use Rattle.typing.specs.Functions.{bind_sig, bind_stmts, none_bound, enter_block, own_scope, sig_read, result_of, function_type, function_read, body_env, kept_facts, ended}
 use Rattle.typing.specs.Objects.{Entry, entry_of, entries_of, key_bound, Candidate, candidate_for, value_want, key_asked, all_given, prop_read, object_type, array_type, Elements, elements_for, element_want, count_of}
 use Rattle.typing.specs.Forms.{variable_out, prefixes_out, place_before, right_now, operator_out, first_want, cast_asked, compared, compared_out, property_out, index_out, Args, call_out, Chosen, Choices, choices_out, unless_matched}
