@@ -23,7 +23,7 @@ same_table sigs others table deps agree t = record {
 }
 
 pub key_law : KeyLaw
-key_law r path deps m spans sigs others errors agree h = (h.0, same_table sigs others h.0 deps agree h.1, h.2)
+key_law r path deps source sigs others errors agree h = (h.0, same_table sigs others h.0 deps agree h.1, h.2)
 
 at_path : (sigs a b : Sigs) (deps : Deps) → IsTable sigs deps a → IsTable sigs deps b → (p : Bytes) (x y : Option Sig) → a p ≡ x → b p ≡ y → a p ≡ b p
 at_path sigs a b deps t u p (Some s) y e f = let r = t.only p s e in rw (u.has p r) (t.has p r)
@@ -31,6 +31,6 @@ at_path sigs a b deps t u p None (Some s) e f = let r = u.only p s f in rw (u.ha
 at_path sigs a b deps t u p None None e f = rw e (sym f)
 
 pub one_answer : OneAnswer
-one_answer r path deps m spans sigs a b h k =
+one_answer r path deps source sigs a b h k =
     let same : h.0 ≡ k.0 = λ i p. at_path sigs h.0 k.0 deps h.1 k.1 p (h.0 p) (k.0 p) (λ _. h.0 p) (λ _. k.0 p) i in
-    rw h.2 (rw k.2 (ap (errors_by r path deps m spans) same))
+    rw h.2 (rw k.2 (ap (errors_by r path deps source) same))

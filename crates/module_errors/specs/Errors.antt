@@ -1,8 +1,9 @@
 -- The errors of a module, and the type at a place of it.
-use Rattle.std.specs.Prelude.{ℕ, ◌++◌, false, List, [], Option, Some, None}
+use Rattle.std.specs.Prelude.{ℕ, ◌++◌, false, List, [], ◌∷◌, Option, Some, None}
 use Rattle.flow_values.specs.declared.span.Span.{Span}
 use Rattle.js_grammar.specs.Items.{Items, Module, module_of}
 use Rattle.check_values.specs.FaultOrder.{faults_in_order}
+use Rattle.check_values.specs.declared.codes.Code.{Code}
 use Rattle.check_values.specs.declared.faults.Fault.{Fault}
 use Rattle.type_values.specs.declared.types.FlowType.{FlowType}
 use Rattle.local_signatures.specs.Faults.{signature_faults}
@@ -37,6 +38,10 @@ module_read p (module_of f t is) spans watch =
 -- The errors of a module: the set of its faults, in order.
 abbrev pub module_errors : Program → Module → List Span → List Fault
 module_errors p m spans = faults_in_order (signature_faults m spans ++ (module_read p m spans None).notes.faults)
+
+-- the one error of a source that has no tree, at a byte place
+abbrev pub broken_errors : Code → ℕ → List Fault
+broken_errors code place = record { span = record { start = place; end = place }; code = code; details = [] } ∷ []
 
 abbrev pub seen_type : Option Seen → Option FlowType
 seen_type None = None

@@ -5,6 +5,7 @@ use Rattle.std.specs.Str.{bytes_eq}
 use Rattle.flow_values.specs.declared.span.Span.{Span}
 use Rattle.js_grammar.specs.Items.{Module}
 use Rattle.check_values.specs.Rows.{Bytes, row_at}
+use Rattle.check_values.specs.declared.codes.Code.{Code}
 use Rattle.check_values.specs.declared.faults.Fault.{Fault}
 use Rattle.check_values.specs.declared.signatures.Deps.{Deps}
 use Rattle.check_values.specs.declared.signatures.Sig.{Sig}
@@ -17,7 +18,7 @@ use Rattle.merged_signatures.specs.Reach.{Reach}
 use Rattle.typing.specs.States.{TypeMeaning}
 use Rattle.typing.specs.TypeFaults.{written_by}
 use Rattle.module_errors.specs.Program.{Program, type_bound}
-use Rattle.module_errors.specs.Errors.{module_errors}
+use Rattle.module_errors.specs.Errors.{module_errors, broken_errors}
 
 -- the merged signatures of modules
 abbrev pub Sigs : Type 0
@@ -63,13 +64,19 @@ program_of r path deps m table =
     let unfolds = unfolded (r.is_cyclic types) types in
     record { path = path; deps = deps; sigs = table; is_cyclic = r.is_cyclic types; members = r.members unfolds; below = r.below unfolds }
 
+-- A source: its tree and the span of each token, or its fault and the byte place of it.
+pub data Source : Type 0 where
+  whole : Module → List Span → Source
+  broken : Code → ℕ → Source
+
 -- the errors of a module that sees this table
-abbrev pub errors_by : Reading → Bytes → Deps → Module → List Span → Sigs → List Fault
-errors_by r path deps m spans table = module_errors (program_of r path deps m table) m spans
+abbrev pub errors_by : Reading → Bytes → Deps → Source → Sigs → List Fault
+errors_by r path deps (whole m spans) table = module_errors (program_of r path deps m table) m spans
+errors_by r path deps (broken code place) table = broken_errors code place
 
 -- These are the errors of the module in a program with these signatures.
-abbrev pub AreErrors : Reading → Bytes → Deps → Module → List Span → Sigs → List Fault → Type 0
-AreErrors r path deps m spans sigs errors = (table : Sigs) × IsTable sigs deps table × (errors ≡ errors_by r path deps m spans table)
+abbrev pub AreErrors : Reading → Bytes → Deps → Source → Sigs → List Fault → Type 0
+AreErrors r path deps source sigs errors = (table : Sigs) × IsTable sigs deps table × (errors ≡ errors_by r path deps source table)
 
 -- ---- the laws
 
@@ -80,11 +87,11 @@ Agree sigs deps others = (path : Bytes) → Reach sigs deps path → others path
 -- The key law: whatever signatures say elsewhere, the errors are the same.
 abbrev pub KeyLaw : Type 0
 KeyLaw =
-    (r : Reading) (path : Bytes) (deps : Deps) (m : Module) (spans : List Span) (sigs others : Sigs) (errors : List Fault) → Agree sigs deps others
-    → AreErrors r path deps m spans sigs errors → AreErrors r path deps m spans others errors
+    (r : Reading) (path : Bytes) (deps : Deps) (source : Source) (sigs others : Sigs) (errors : List Fault) → Agree sigs deps others
+    → AreErrors r path deps source sigs errors → AreErrors r path deps source others errors
 
 -- there is one answer
 abbrev pub OneAnswer : Type 0
 OneAnswer =
-    (r : Reading) (path : Bytes) (deps : Deps) (m : Module) (spans : List Span) (sigs : Sigs) (a b : List Fault)
-    → AreErrors r path deps m spans sigs a → AreErrors r path deps m spans sigs b → a ≡ b
+    (r : Reading) (path : Bytes) (deps : Deps) (source : Source) (sigs : Sigs) (a b : List Fault)
+    → AreErrors r path deps source sigs a → AreErrors r path deps source sigs b → a ≡ b

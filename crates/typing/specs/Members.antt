@@ -1,5 +1,5 @@
 -- What each member of a type gives where it is read, written, indexed or called.
-use Rattle.std.specs.Prelude.{ℕ, zero, suc, ◌+◌, ◌++◌, nat_le, ◌&&◌, Bool, List, [], ◌∷◌, map, length, drop, Option, Some, None, if◌then◌else◌, codes}
+use Rattle.std.specs.Prelude.{ℕ, ◌+◌, ◌++◌, nat_le, ◌&&◌, Bool, List, [], ◌∷◌, map, length, drop, slice_get, Option, Some, None, option_map, if◌then◌else◌, codes}
 use Rattle.std.specs.List.{flat_map, list_all}
 use Rattle.std.specs.Fmt.{decimal}
 use Rattle.std.specs.Str.{bytes_eq}
@@ -182,6 +182,11 @@ target_of_index w i level = target_of_key (out-FlowType i) level
 abbrev pub levels : World → FlowType → List Level
 levels w t = map (λ m. out-FlowType m) (w.members t)
 
+-- the one element of a list, where it has one
+abbrev pub the_one : {X : Type 0} → List X → Option X
+the_one (x ∷ []) = Some x
+the_one all = None
+
 -- ---- a call
 
 -- an argument that was read, at these tokens
@@ -203,9 +208,7 @@ taken_by p = eff (out-Param p).optional (out-Param p).ty
 
 -- what a parameter takes, where there is one
 abbrev pub param_at : List Param → ℕ → Option FlowType
-param_at [] k = None
-param_at (p ∷ ps) zero = Some (taken_by p)
-param_at (p ∷ ps) (suc k) = param_at ps k
+param_at params k = option_map taken_by (slice_get params k)
 
 -- a parameter without argument takes `void`
 abbrev pub may_lack : World → Param → Bool
@@ -254,8 +257,3 @@ member_misfits w args level = []
 abbrev pub args_faults : World → List Level → List Arg → List Fault
 args_faults w (Function params result ∷ []) args = []
 args_faults w members args = flat_map (member_misfits w args) members
-
--- what a type as a wanted one is: where there are several, each is asked
-abbrev pub the_one : List FlowType → Option FlowType
-the_one (t ∷ []) = Some t
-the_one types = None

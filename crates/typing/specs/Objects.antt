@@ -1,5 +1,5 @@
 -- Object and array literals against a type.
-use Rattle.std.specs.Prelude.{ℕ, zero, suc, ◌+◌, ◌++◌, ◌==◌, nat_lt, not, ◌&&◌, ◌||◌, Bool, true, false, List, [], ◌∷◌, map, filter, length, Option, Some, None, if◌then◌else◌}
+use Rattle.std.specs.Prelude.{ℕ, suc, ◌+◌, ◌++◌, ◌==◌, nat_lt, not, ◌&&◌, ◌||◌, Bool, true, false, List, [], ◌∷◌, map, filter, length, slice_get, Option, Some, None, if◌then◌else◌}
 use Rattle.std.specs.List.{filter_map, list_any, list_all}
 use Rattle.std.specs.Str.{bytes_eq}
 use Rattle.js_grammar.specs.Types.{Key, key}
@@ -76,14 +76,10 @@ takes_value w own (Some literal) c = takes_literal w literal (prop_of own c.prop
 abbrev pub is_candidate : World → List Entry → Candidate → Bool
 is_candidate w entries c = list_all (λ entry. takes_value w entry.name entry.literal c) (filter (counts entries) entries)
 
-abbrev pub the_candidate : List Candidate → Option Candidate
-the_candidate (c ∷ []) = Some c
-the_candidate all = None
-
 -- Where there is no `any`, one object is the candidate whatever its properties.
 abbrev pub candidate_among : World → List Entry → Bool → List Candidate → Option Candidate
 candidate_among w entries false (c ∷ []) = Some c
-candidate_among w entries has_any objects = the_candidate (filter (is_candidate w entries) objects)
+candidate_among w entries has_any objects = the_one (filter (is_candidate w entries) objects)
 
 abbrev pub candidate_of : World → List Entry → FlowType → Option Candidate
 candidate_of w entries t = candidate_among w entries (list_any level_is_any (levels w t)) (filter_map object_of (levels w t))
@@ -167,15 +163,10 @@ abbrev pub elements_for : World → ℕ → Want → Option Elements
 elements_for w count None = None
 elements_for w count (Some t) = list_of_length count (filter_map list_of (levels w t))
 
-abbrev pub nth_type : List FlowType → ℕ → Want
-nth_type [] k = None
-nth_type (t ∷ types) zero = Some t
-nth_type (t ∷ types) (suc k) = nth_type types k
-
 abbrev pub element_want : Option Elements → ℕ → Want
 element_want None k = None
 element_want (Some (elements_of element)) k = Some element
-element_want (Some (elements_in all)) k = nth_type all k
+element_want (Some (elements_in all)) k = slice_get all k
 
 abbrev pub count_of : Exs → ℕ
 count_of no_ex = 0
