@@ -18,7 +18,7 @@ unfolding unfolded_by
 rows_unfold rows key = (some_type rows key).1
 
 pub members_by_rows : (rows : List Row) (t : FlowType) → AreMembers (unfolded_by rows) (t ∷ []) (members_by rows t)
-unfolding unfolded_by, members_by
+unfolding unfolded_by members_by
 members_by_rows rows t = (rows_end rows (λ key. (some_type rows key).0) (λ key. (some_type rows key).1) (t ∷ [])).1
 
 same_unfolding : (rows : List Row) (table : AliasTable) → Unfolds rows (unfolded table) → unfolded table ≡ unfolded_by rows

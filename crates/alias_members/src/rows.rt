@@ -11,7 +11,6 @@ ghost use Rattle.type_values.specs.declared.types.FlowType.{FlowType};
 
 /// A law: rows unfold each name to `unfolded_by`, by which `members_by` are a type's members. A table
 /// that unfolds names as the rows do, as one that is built from them does, gives the same members.
-#[tactic(auto, using(crate::proofs::ByRows::rows_unfold, crate::proofs::ByRows::members_by_rows, crate::proofs::ByRows::same_members))]
 pub fn rows_unfold()
     ensures unfolds { (rows : List Row) → Unfolds rows (unfolded_by rows) }
     ensures members { (rows : List Row) (t : FlowType) → AreMembers (unfolded_by rows) (t ∷ []) (members_by rows t) }
