@@ -7,7 +7,7 @@ use Rattle.recheck_run.proofs.reading.read_program.Goals as goal
 pub returns-in_err-take_row-clause-fault : goal.returns-in_err-take_row-clause-fault
 returns-in_err-take_row-clause-fault g c =
     let p = err_from_is_err_and c.from_residual.result c.from_residual.ensures.1 in
-    rw (p.1, p.2) (unread_among c.args.rows.now c.loop-row.row-index c.row-item.result _ _ _ _ (omega arith) c.row-item.is c.loop-row.invariant.faults c.in_err-take_row.ensures.fault)
+    rw (p.1, p.2) (unread_among c.args.rows.now c.loop-row.row-index c.row-item.result (g.F.Folder.seen c.args.folder.now) (g.F.Folder.seen c.loop-row.folder) (g.F.Folder.seen c.take_row.new.folder) _ (omega arith) c.row-item.is c.loop-row.invariant.faults c.in_err-take_row.ensures.fault)
 
 pub loop-row-preserved : goal.loop-row-preserved
 loop-row-preserved g c =
