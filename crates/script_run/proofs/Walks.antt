@@ -227,11 +227,11 @@ module _ (listed : List Bytes) (before : WalkState) (source : SourceSeen) where
   pub stops : (left : Option (List Bytes)) (n : ℕ) (mid : WalkState) (now : Outside) → now.folder ≡ mid.folder → now.out ≡ mid.out → (walked : HasWalked listed lines left n before mid)
       → TookAllGiven walked.lines source.left now.script.left → HasStopped listed first now
   unfolding so_far_of
-  stops left n mid now unread silent walked took = record {
+  stops left n mid now unread unwritten walked took = record {
     read_faults = walked.read_faults;
     printed = walked.printed;
     run = so_far_of listed lines before left n mid walked;
     took_all = took;
-    written = ap (λ (k : SinkSeen). k.written) silent ∙ walked.written;
+    written = ap (λ (k : SinkSeen). k.written) unwritten ∙ walked.written;
     counted = ap (λ (f : FolderSeen). f.faults) unread ∙ walked.counted;
   }

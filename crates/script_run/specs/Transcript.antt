@@ -20,10 +20,11 @@ pub record Standing : Type 0 where
   pub version : ℕ
   pub rows : Rows
 
--- the most modules, and the most lines of a script
+-- the most modules
 abbrev pub MOST_MODULES : ℕ
 MOST_MODULES = 1024
 
+-- the most lines of a script, blank ones counted
 abbrev pub MOST_LINES : ℕ
 MOST_LINES = 1048576
 
@@ -44,6 +45,7 @@ pub data Rechecks (told : Option Program) : Standing → Standing → ℕ → By
       (done_line (s.version + 1) (length program) (length program) (error_count (full1 program)))
   cannot_read : (s : Standing) (path : Bytes) → IsTouched s.rows path → Rechecks told s s 1 (fault_line path s.version)
 
+-- the standing after an edit of this path to this text, which the next recheck takes
 abbrev pub with_edit : Standing → Bytes → Bytes → Standing
 with_edit s path text = record { program = s.program; version = s.version; rows = edited s.rows path (take.Text text) }
 

@@ -5,4 +5,4 @@ use Rattle.script_run.proofs.walk.answer.Goals as goal
 
 pub returns-clause-breaks : goal.returns-clause-breaks
 returns-clause-breaks g c =
-    on_err _ _ (breaks_off _ _ (walk_state c.turn.new.session (g.F.Folder.seen c.turn.new.folder) (g.K.Sink.seen c.print.new.out)) _ _ _ (search rules) c.print.ensures.front c.in_ok-printed.ensures.turned)
+    on_err _ _ (breaks_off _ _ (walk_state c.turn.new.self (g.F.Folder.seen c.turn.new.folder) (g.K.Sink.seen c.print.new.out)) _ _ _ (search rules) c.print.ensures.front c.in_ok-printed.ensures.turned)

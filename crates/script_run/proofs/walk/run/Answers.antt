@@ -3,7 +3,7 @@ use Rattle.flow_base.specs.Seen.{outside}
 use Rattle.flow_model.specs.Errors.{full1, error_count}
 use Rattle.script_reader.specs.Lines.{bytes_left, lines_left}
 use Rattle.script_run.specs.Transcript.{Standing, start}
-use Rattle.script_run.specs.Steps.{walk_state, HasWalked, Closes}
+use Rattle.script_run.specs.Steps.{walk_state, HasWalked, Takes, Closes}
 use Rattle.script_run.proofs.Givens.{begins, then_front, took_all}
 use Rattle.script_run.proofs.Walks.{on_err, some_of, none_of, begin, more, stops, finishes, front_of_run, front_of_walk, front_of_break, front_of_load}
 use Rattle.script_run.proofs.walk.run.Goals as goal
@@ -88,9 +88,10 @@ loop-reader-preserved g c =
     let mid = walk_state c.loop-reader.session (g.F.Folder.seen c.loop-reader.folder) (g.K.Sink.seen c.loop-reader.out) in
     let now = walk_state c.step.new.session (g.F.Folder.seen c.step.new.folder) (g.K.Sink.seen c.step.new.out) in
     let left = lines_left c.loop-reader.reader (g.S.Source.seen c.loop-reader.script).left in
-    let takes = none_of c.in_ok-ending.field-0 _ c.in-None.is c.in_ok-ending.ensures.takes in
+    let left' = lines_left c.step.new.reader (g.S.Source.seen c.step.new.script).left in
+    let takes = none_of c.in_ok-ending.field-0 (Takes c.loop-reader.taken left left' mid now) c.in-None.is c.in_ok-ending.ensures.takes in
     record {
-      walked = more c.args.listed (lines_left [] (g.S.Source.seen c.args.script.now).left) before left (lines_left c.step.new.reader (g.S.Source.seen c.step.new.script).left) c.loop-reader.taken mid now
+      walked = more c.args.listed (lines_left [] (g.S.Source.seen c.args.script.now).left) before left left' c.loop-reader.taken mid now
           c.loop-reader.invariant.told c.loop-reader.invariant.walked takes;
       front =
           then_front (g.S.Source.seen c.args.script.now).left (bytes_left c.loop-reader.reader (g.S.Source.seen c.loop-reader.script).left) (bytes_left c.step.new.reader (g.S.Source.seen c.step.new.script).left)

@@ -1,4 +1,4 @@
-use Rattle.std.proofs.Common.{rules, ◌≡◌, ◌∙◌, sym, subst}
+use Rattle.std.proofs.Common.{rules, ◌≡◌, ◌∙◌, subst}
 use Rattle.script_reader.specs.Lines.{HasLine, bytes_left}
 use Rattle.script_reader.specs.Steps.{Reads}
 use Rattle.script_reader.specs.declared.reader.Step.TheVariants.{More}
