@@ -41,14 +41,7 @@ fn answer(rt: &HostRuntime, words: &[String]) -> Status
     let mut folder = folder_of(rt, words);
     let mut script = StdinSource::new(rt.reader());
     let mut out = StdoutSink::new(rt);
-    flowd(
-        rt.alloc(),
-        words,
-        &mut folder,
-        &mut script,
-        &mut out,
-        &Open,
-    )
+    flowd(rt.alloc(), words, &mut folder, &mut script, &mut out, &Open)
 }
 
 // The status is what a run on these words answers.

@@ -12,7 +12,7 @@ use crate::words::usage;
 use crate::{Status, root_word};
 use flow_base::{Folder, FolderFault, List, Path, Sink, SinkFault, Source, Turnstile};
 use script_print::files_line;
-use script_run::{Ended, WalkEnd, RunFault, run, write_all};
+use script_run::{Ended, RunFault, WalkEnd, run, write_all};
 use std::alloc::Global;
 
 const MOST_MODULES: usize = 1024;

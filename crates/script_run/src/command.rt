@@ -5,7 +5,7 @@ ghost use Rattle.script_reader.specs.Lines.{bytes_left, lines_left, TakesFront, 
 ghost use Rattle.script_run.specs.Transcript.{Ends};
 ghost use Rattle.script_run.specs.Steps.{Means, Reads};
 
-use crate::{WalkEnd, RunFault};
+use crate::{RunFault, WalkEnd};
 use flow_base::{Source, Text};
 use script_line::{Line, LineFault, read_line};
 use script_reader::{LineReader, ReadFault};

@@ -11,7 +11,7 @@ use crate::command::{Command, read_command};
 use crate::ending::last_line;
 use crate::session::Session;
 use crate::sinks::write_all;
-use crate::{Ended, WalkEnd, RunFault};
+use crate::{Ended, RunFault, WalkEnd};
 use flow_base::{Folder, List, Path, Sink, SinkFault, Source};
 use script_line::Line;
 use script_reader::LineReader;
