@@ -44,6 +44,13 @@ fn answer(rt: &HostRuntime, words: &[String]) -> Status
     flowd(rt.alloc(), words, &mut folder, &mut script, &mut out, &Open)
 }
 
+// The same with words of its own.
+fn answer_own(rt: HostRuntime, words: Vec<String>) -> Status
+    ensures { IsAnswer (map string_bytes words.items) result }
+{
+    answer(&rt, words.as_slice())
+}
+
 // The status is what a run on these words answers.
 #[derive(Drop)]
 struct Answered(Snapshot<Vec<String>>);
@@ -64,7 +71,7 @@ pub fn answer_apart(rt: &HostRuntime, words: Vec<String>) -> Status
     let promise = Answered(Snapshot::of(&words));
     let started = Builder::new()
         .stack_size(STACK)
-        .spawn_with(rt, promise, move || answer(&own, words.as_slice()));
+        .spawn_with(rt, promise, move || answer_own(own, words));
     match started {
         Ok(thread) => thread.join(rt),
         Err(_) => {

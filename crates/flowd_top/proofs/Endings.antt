@@ -1,11 +1,12 @@
 -- How a run of the program ends.
-use Rattle.std.proofs.Common.{◌≡◌, ◌==◌, Bool, true, false, min, ℕ, ◌+◌, ◌-◌, ◌^◌, ◌<◌, ◌≤◌, List, [], length, Option, Some, None, refl, sym, ap, ◌∙◌, subst, arith, inl, inr, ◌⊎◌}
+use Rattle.std.proofs.Common.{◌≡◌, ◌==◌, Bool, true, false, ℕ, ◌+◌, ◌-◌, ◌^◌, ◌<◌, ◌≤◌, List, [], length, Option, Some, None, refl, sym, ap, ◌∙◌, subst, arith, inl, inr, ◌⊎◌}
 use Rattle.std.proofs.lemmas.List.{append-nil}
 use Rattle.std.specs.Prelude.{if◌then◌else◌}
 use Rattle.flow_base.specs.Causes.{RoseBy}
-use Rattle.flow_base.specs.Program.{Bytes, IsRising, paths_of}
+use Rattle.flow_base.specs.Program.{Bytes, Program, IsRising, paths_of}
 use Rattle.flow_base.specs.Outside.{appended, HoldsFront, WhereTold}
-use Rattle.flow_base.specs.Seen.{FolderSeen, SourceSeen, SinkSeen, Outside, outside}
+use Rattle.flow_base.specs.Seen.{FolderSeen, SourceSeen, SinkSeen, Outside, outside, folder_seen}
+use Rattle.flow_base.specs.declared.outside.LastFault.{LastFault}
 use Rattle.script_print.specs.Printed.{files_line}
 use Rattle.script_reader.specs.Lines.{lines_left}
 use Rattle.script_run.specs.declared.ending.WalkEnd.{WalkEnd}
@@ -27,9 +28,12 @@ appended_none (Some held) = ap Some (append-nil held)
 front_none : (before now : Option Bytes) → now ≡ before → HoldsFront before now []
 front_none before now same = (0, omega arith, same ∙ sym (appended_none before))
 
+same_fields : (t u : Option Program) (m n : ℕ) (l k : LastFault) → t ≡ u → m ≡ n → l ≡ k → folder_seen t m l ≡ folder_seen u n k
+same_fields t u m n l k told faults last_fault = cc
+
 -- two folders of which the same is seen
 same_folder : (a b : FolderSeen) → a.told ≡ b.told → a.faults ≡ b.faults → a.last_fault ≡ b.last_fault → a ≡ b
-same_folder a b told faults last_fault = cc
+same_folder a b told faults last_fault = same_fields a.told b.told a.faults b.faults a.last_fault b.last_fault told faults last_fault
 
 module _ (words : List Bytes) (before now : Outside) where
   -- at want of memory, and after a fault of the sink

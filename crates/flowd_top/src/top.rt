@@ -1,4 +1,4 @@
-ghost use Rattle.std.specs.Prelude.{◌≡◌, ◌≤◌, ◌<◌, ◌⊎◌, [], map, length, string_bytes, None, Err};
+ghost use Rattle.std.specs.Prelude.{◌≡◌, ◌≤◌, ◌<◌, ◌⊎◌, map, length, string_bytes, None, Err};
 ghost use Rattle.flow_base.specs.Program.{IsRising};
 ghost use Rattle.flow_base.specs.Causes.{raised, Counts};
 ghost use Rattle.flow_base.specs.Seen.{outside};
@@ -65,7 +65,7 @@ pub fn flowd<F: Folder, S: Source, K: Sink, T: Turnstile + Sync>(
         Err(FolderFault::NoMemory) => return Status::NoMemory,
     };
     if listed.len() > MOST_MODULES {
-        return refuse_files(alloc, listed.len() as u64, out);
+        return refuse_files(alloc, &listed, out);
     }
     run_over(alloc, listed, folder, script, out)
 }
@@ -113,12 +113,12 @@ fn status_of(ended: Ended) -> Status
     }
 }
 
-// Refuses a folder of so many files.
-fn refuse_files<K: Sink>(alloc: Global, count: u64, out: &mut K) -> Status
-    ensures writes { WritesLast (K.seen out.old).written (K.seen out.new).written (files_line count) Status.Limit result }
+// Refuses a folder of these files, which are too many.
+fn refuse_files<K: Sink>(alloc: Global, listed: &List<Path>, out: &mut K) -> Status
+    ensures writes { WritesLast (K.seen out.old).written (K.seen out.new).written (files_line (length listed.now)) Status.Limit result }
     ensures counts { Counts (result ≡ Status.SinkFault) (K.seen out.old).faults (K.seen out.new).faults }
 {
-    match files_line(alloc, count) {
+    match files_line(alloc, listed.len() as u64) {
         Ok(line) => write_last(out, line.as_bytes(), Status::Limit),
         Err(_) => Status::NoMemory,
     }

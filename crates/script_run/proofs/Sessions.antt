@@ -1,5 +1,5 @@
 -- A heap of modules and the edits that wait, as the walk sees them.
-use Rattle.std.proofs.Common.{◌≡◌, ◌==◌, eq-eqb, ℕ, zero, suc, ◌+◌, ◌*◌, ◌-◌, ◌^◌, ◌<◌, ◌≤◌, List, [], ◌∷◌, length, false, Option, Some, refl, sym, ap, ◌∙◌, subst, arith, inl, inr}
+use Rattle.std.proofs.Common.{◌≡◌, ◌==◌, eq-eqb, ℕ, zero, suc, ◌+◌, ◌*◌, ◌-◌, ◌^◌, ◌<◌, List, [], ◌∷◌, length, false, Some, refl, sym, ap, ◌∙◌, subst, arith, inl, inr}
 use Rattle.std.specs.Prelude.{slice_get}
 use Rattle.std.specs.List.{AllByRecursion}
 use Rattle.std.proofs.lemmas.Option.{same_Some}
@@ -14,7 +14,6 @@ use Rattle.flow_state.specs.declared.payload.RootRow.{RootRow}
 use Rattle.flow_state.specs.declared.payload.Root.{Root}
 use Rattle.flow_state.specs.declared.payload.Payload.{Payload}
 use Rattle.flow_state.specs.declared.payload.Payload.TheVariants as payload
-use Rattle.recheck_run.specs.Waiting.{Waiting}
 use Rattle.recheck_run.specs.Wanted.{Rows, MayBecome, IsTouched, unedited}
 use Rattle.recheck_run.specs.Recheck.{RecheckState, IsEmptyHeap, Rechecked, CountsReads}
 use Rattle.recheck_run.specs.declared.recheck.Outcome.{Outcome}

@@ -13,7 +13,7 @@ use Rattle.script_reader.specs.Lines.{LINE_LIMIT, script_lines, lines_left, HasN
 use Rattle.script_run.specs.declared.ending.WalkEnd.{WalkEnd}
 use Rattle.script_run.specs.declared.command.Command.{Command}
 use Rattle.script_run.specs.declared.command.Command.TheVariants as command
-use Rattle.script_run.specs.Transcript.{Standing, start, Rechecks, Turns, Walked, Ends, last_line, IsRun, IsRunSoFar, PrintsBetweenLines, MOST_LINES}
+use Rattle.script_run.specs.Transcript.{Standing, Rechecks, Turns, Walked, Ends, last_line, IsRun, IsRunSoFar, PrintsBetweenLines, MOST_LINES}
 use Rattle.script_run.specs.Session.{HasRechecked, HasTurned}
 
 -- a line was taken from those that are left, which says this and doesn't end the script
