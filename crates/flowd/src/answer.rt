@@ -8,7 +8,7 @@ use crate::streams::{StdinSource, StdoutSink};
 use flow_base::Open;
 use flowd_top::{Status, flowd, root_word};
 use std::snapshot::Snapshot;
-use std::thread::{Builder, Promise};
+use std::thread::{Builder, Promise, Threads};
 
 // The bytes of the stack of the thread that does all work: 1 GiB. Each level of a type takes some of
 // it where a type is walked, and no source within the limit has a type so deep that it takes all.
@@ -64,16 +64,16 @@ impl Promise<Status> for Answered {
 /// The run on these words, on a thread with a large stack. Where no such thread can be started it
 /// says so on standard error, and nothing is done.
 #[tactic(auto, using(crate::proofs::Answering::nothing_done))]
-pub fn answer_apart(rt: &HostRuntime, words: Vec<String>) -> Status
+pub fn answer_apart(threads: &impl Threads, rt: &HostRuntime, words: Vec<String>) -> Status
     ensures { IsAnswer (map string_bytes words.items) result }
 {
     let own = *rt;
     let promise = Answered(Snapshot::of(&words));
     let started = Builder::new()
         .stack_size(STACK)
-        .spawn_with(rt, promise, move || answer_own(own, words));
+        .spawn_with(threads, promise, move || answer_own(own, words));
     match started {
-        Ok(thread) => thread.join(rt),
+        Ok(thread) => thread.join(threads),
         Err(_) => {
             let _ = rt.eprintln("flowd: no thread with a stack of 1 GiB could be started");
             Status::NoMemory

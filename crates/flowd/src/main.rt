@@ -17,6 +17,7 @@ use flowd_top::Status;
 use std::env;
 use std::io::ErrorKind;
 use std::process::ExitCode;
+use std::thread::Threads;
 
 // The words of the command line, without the program's own name. Where one is not UTF-8 there are
 // none, which are no command's words either.
@@ -36,17 +37,22 @@ fn words(rt: &HostRuntime) -> Result<Vec<String>, NoMemory> {
 
 // The status of the run on the words of the command line.
 #[tactic(auto, using(crate::proofs::Answering::nothing_done))]
-fn run(rt: &HostRuntime) -> Status
+fn run(threads: &impl Threads, rt: &HostRuntime) -> Status
     ensures { HasAnswered result }
 {
     match words(rt) {
-        Ok(words) => answer_apart(rt, words),
+        Ok(words) => answer_apart(threads, rt, words),
         Err(NoMemory) => Status::NoMemory,
     }
 }
 
-fn main(rt: HostRuntime) -> ExitCode
+// What the process ends with.
+fn exit_code(threads: &impl Threads, rt: &HostRuntime) -> ExitCode
     ensures { EndsWith result }
 {
-    ExitCode::from(run(&rt).number())
+    ExitCode::from(run(threads, rt).number())
+}
+
+fn main(rt: HostRuntime) -> ExitCode {
+    exit_code(&rt, &rt)
 }
