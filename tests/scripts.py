@@ -266,22 +266,6 @@ def an_output_with_room_for_a_part(root):
 
 
 @case
-def an_output_that_takes_a_part_at_a_time(root):
-    """A stop and a signal to go on cut a write short that waits for room in a pipe."""
-    text = with_errors(root, 5_000)
-    talk = Talk(root)
-    talk.say(STATUS + END)
-    for _ in range(20):
-        time.sleep(0.02)
-        talk.flowd.send_signal(signal.SIGSTOP)
-        time.sleep(0.005)
-        talk.flowd.send_signal(signal.SIGCONT)
-    talk.expect(text)
-    talk.expect_end(ERRORS)
-    talk.flowd.stdin.close()
-
-
-@case
 def a_stack_that_cannot_be_had(root):
     """Where the thread that does all work can't be started, nothing is done, and the status says so."""
     write(f"{root}/a.js")
