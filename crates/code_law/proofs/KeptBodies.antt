@@ -116,7 +116,7 @@ module _ (q p : Tokens) where
   k_end_simple i (in_block z ss ∷ k) s x b t m h f d = k_stmt i (in_block z ss ∷ k) (stmt s (suc i) (does (simple s i x))) s refl h (refl, ap suc (f.1), f) (ap suc (f.1)) d
   k_end_simple i (in_item a plain_item is ∷ k) s x b t m h f d =
       let y = simple s i x in
-      k_item i k a is (does_item y) (h.0.0) (m t, subst (FitsSimple y _) (h.0.1) f) (ap suc (f.1 ∙ ap (stop_simple y) (h.0.1))) (d.1)
+      k_item i k a is (does_item y) (h.0.0) (m t, d.0, subst (FitsSimple y _) (h.0.1) f) (ap suc (f.1 ∙ ap (stop_simple y) (h.0.1))) (d.1)
   k_end_simple i (in_item a exported_item is ∷ k) s x b t m h f d = no_true t
   k_end_simple i (in_item a default_item is ∷ k) s x b t m h f d = no_true t
   k_end_simple i (in_if z bs a e ∷ k) s x b t m h f d = k_body i (in_if z bs a e ∷ k) (simple_body (simple s i x)) s refl h f (ap suc (f.1)) d

@@ -1,5 +1,5 @@
 -- Each step at top level keeps what its state stands for.
-use Rattle.std.proofs.Common.{◌≡◌, refl, sym, ◌∙◌, ap, subst, ℕ, suc, ◌≤◌, arith, Bool, true, false, not, Option, Some, None, List, [], ◌∷◌, ◌++◌, codes, if◌then◌else◌}
+use Rattle.std.proofs.Common.{◌≡◌, refl, sym, ◌∙◌, ap, subst, ℕ, suc, ◌≤◌, arith, ◌&&◌, Bool, true, false, not, Option, Some, None, List, [], ◌∷◌, ◌++◌, codes, if◌then◌else◌}
 use Rattle.std.specs.Str.{bytes_eq}
 use Rattle.std.proofs.lemmas.Slice.Eq.{bytes_eq-Decides}
 use Rattle.js_token.specs.Words.{is_reserved}
@@ -9,19 +9,18 @@ use Rattle.js_token.specs.declared.punct.Punct.TheVariants.{OpenBrace, CloseBrac
 use Rattle.js_grammar.specs.Words.{Bytes, IsName}
 use Rattle.js_grammar.specs.TypeSpelling.{Tokens, opt}
 use Rattle.js_grammar.specs.TypeFits.{bump, CommaFits}
-use Rattle.js_grammar.specs.Machine as ty
-use Rattle.js_grammar.specs.Code.{ex, variable, no_link, no_operand}
-use Rattle.js_grammar.specs.Items.{Importeds, no_imported, more_imported, import_list, Exporteds, no_exported, more_exported, exported, ExportList, export_list, ImportForm, import_default, import_both, import_names, import_types, import_only, export_names, export_from, ItemForm, imports, exports, Items, has_importeds, has_exporteds, base_names, IsNoneOf, AreNames, AreLocal, from_word, type_word, spell_items, spell_item_form, spell_import, spell_export_list, stop_import, stop_importeds, stop_exporteds, FitsImporteds, FitsImportList, FitsExporteds, FitsExportList}
-use Rattle.code_law.specs.Frames.{Wrap, plain_item, exported_item, Opening, opens_names, opens_both, opens_types, opens_exports, Names, importing, exporting, Listing, listing, cast_type, in_simple, in_item, in_default, evaluates, after_type_word, after_type_as, after_alias, after_import, import_word, import_comma, names_start, after_name, after_as, after_pair, after_list, after_from, after_export, export_type, after_exports, exports_from, after_default, item_end, Stack, Step, fault, go}
+use Rattle.js_grammar.specs.Code.{Binder, const, let_word, ex, variable, no_link}
+use Rattle.js_grammar.specs.CodeSpelling.{binder_word}
+use Rattle.js_grammar.specs.Items.{Importeds, no_imported, more_imported, import_list, Exporteds, no_exported, more_exported, exported, ExportList, export_list, ImportForm, import_default, import_both, import_names, import_types, import_only, export_names, export_from, ItemForm, imports, exports, Items, has_importeds, has_exporteds, base_names, IsNoneOf, AreNames, AreLocal, from_word, type_word, spell_items, spell_item_form, spell_import, spell_export_list, stop_import, stop_importeds, stop_exporteds, FitsImporteds, FitsImportList, FitsExporteds, FitsExportList, begins_word, begins_alias}
+use Rattle.code_law.specs.Frames.{Wrap, plain_item, exported_item, Opening, opens_names, opens_both, opens_types, opens_exports, Names, importing, exporting, Listing, listing, in_simple, in_item, in_default, evaluates, after_type_word, after_alias, after_import, import_word, import_comma, names_start, after_name, after_as, after_pair, after_list, after_from, after_export, export_type, after_exports, exports_from, after_default, item_end, Stack, Step, fault, go}
 use Rattle.code_law.specs.Expressions.{want_step}
 use Rattle.code_law.specs.Statements.{StatementWord, binds, begins_function, begins_import, begins_export, plain_word, statement_word, simple_word}
-use Rattle.code_law.specs.Modules.{top_word, items_step, is_none_of, may_alias, type_word_step, type_as_step, alias_step, import_step, from_step, import_word_step, import_comma_step, add_name, has_names, may_name, end_names, names_step, pair_step, name_step, as_step, source_step, end_item, export_word, export_step, export_type_step, are_names, are_local, exports_step, exports_from_step, default_word, default_step}
+use Rattle.code_law.specs.Modules.{top_word, items_step, is_none_of, may_alias, type_word_step, alias_step, import_step, from_step, import_word_step, import_comma_step, add_name, has_names, may_name, end_names, names_step, pair_step, name_step, as_step, source_step, end_item, export_word, export_step, export_type_step, are_names, are_local, exports_step, exports_from_step, default_word, default_step}
 use Rattle.code_law.proofs.StatementWords.{IsStatement, statement_is}
 use Rattle.code_law.proofs.Stands.{stands_moved}
 use Rattle.code_law.proofs.Typing.{typing_at}
 use Rattle.code_law.proofs.KeptBodies.{k_item}
 use Rattle.code_law.proofs.KeptExpressions.{k_want, k_links}
-use Rattle.code_law.proofs.KeptParameters.{k_typing}
 use Rattle.code_law.proofs.States.{import_token, export_token, default_token, as_token, spell_listing, spell_pair, imports_names, spell_opening, spell_begun_names, spell_names, spell_before, spell_short, spell_mode, starts_plain, not_function_word, is_plain_word, Stands, IsBottom, FitsTop, FitsStack, FitsNames, FitsOpening, FitsListing, takes_simple, stop_names, stop_begun_names, begun_end, names_end, stop_before, is_short, FitsMode, FitsStep}
 
 no_true : {A : Type 0} → false ≡ true → A
@@ -29,6 +28,10 @@ no_true e = absurd (let f : false ≡ true = e in cc)
 
 stands_same : (q : Tokens) (k : Stack) (s r : Tokens → Tokens) → ((l : Tokens) → s l ≡ r l) → Stands q k s → Stands q k r
 stands_same q k s r e h = stands_moved q k s r (λ l. sym (e l)) h
+
+binder_apart : (w : Binder) (l : Tokens) → begins_alias (Name (binder_word w) ∷ l) ≡ false
+binder_apart const l = refl
+binder_apart let_word l = refl
 
 at_bottom : (q : Tokens) (k : Stack) (s : Tokens → Tokens) → IsBottom k → Stands q k s → (l : Tokens) → s l ≡ q ++ l
 at_bottom q [] s b h = h
@@ -285,46 +288,29 @@ module _ (q p : Tokens) (i : ℕ) (k : Stack) where
   k_plain d x h t e s = k_want q p i (in_simple i evaluates ∷ d) x ((t, refl), h) refl ((x, e, λ l. (l, refl)), s)
 
   k_top_word : (is : Items) → FitsTop k i is → (n : Bytes) (w : StatementWord) → statement_word n ≡ w → IsStatement w n → Stands p k (λ l. spell_items is (Name n ∷ l)) → FitsStep q p i (top_word i k is n w)
-  k_top_word is t n (binds w) d e s = ((((t, refl), stack_bottom k (t.0)), refl, refl), (tt, stands_same p k _ _ (λ l. ap (λ n. spell_items is (Name n ∷ l)) e) s))
-  k_top_word is t n begins_function d e s = ((((t, refl), stack_bottom k (t.0)), refl, refl), (tt, stands_same p k _ _ (λ l. ap (λ n. spell_items is (Name n ∷ l)) e) s))
+  k_top_word is t n (binds w) d e s = ((((t, refl), stack_bottom k (t.0)), refl, refl), (binder_apart w, stands_same p k _ _ (λ l. ap (λ n. spell_items is (Name n ∷ l)) e) s))
+  k_top_word is t n begins_function d e s = ((((t, refl), stack_bottom k (t.0)), refl, refl), (λ l. refl, stands_same p k _ _ (λ l. ap (λ n. spell_items is (Name n ∷ l)) e) s))
   k_top_word is t n begins_import d e s = ((t, refl), stands_same p k _ _ (λ l. ap (λ n. spell_items is (Name n ∷ l)) e) s)
   k_top_word is t n begins_export d e s = ((t, refl), stands_same p k _ _ (λ l. ap (λ n. spell_items is (Name n ∷ l)) e) s)
   k_top_word is t n plain_word d e s = by (bytes_eq n (codes "type")) refl
     where
       by : (b : Bool) → bytes_eq n (codes "type") ≡ b → FitsStep q p i (if b then go k (after_type_word i is) else simple_word i (in_item i plain_item is ∷ k) n plain_word)
       by true e = ((t, refl), stands_same p k _ _ (λ l. ap (λ n. spell_items is (Name n ∷ l)) (sym (is_word n (codes "type") e))) s)
-      by false e = k_plain (in_item i plain_item is ∷ k) (Name n) ((t, refl), stack_bottom k (t.0)) refl (ap is_plain_word d) (tt, s)
+      by false e = k_plain (in_item i plain_item is ∷ k) (Name n) ((t, refl), stack_bottom k (t.0)) refl (ap is_plain_word d) (λ l. ap (λ b. b && begins_word l) e, s)
   k_top_word is t n w d e s = tt
 
   pub k_items : (is : Items) → FitsTop k i is → (x : TokenKind) → Stands q k (spell_items is) → Stands p k (λ l. spell_items is (x ∷ l)) → FitsStep q p i (items_step i k is x)
   k_items is t (Punct PlusPlus) r s = (t.1, t.2, at_bottom q k (spell_items is) (t.0) r)
   k_items is t (Name n) r s = k_top_word is t n (statement_word n) refl (statement_is n) s
   k_items is t (Punct OpenBrace) r s = tt
-  k_items is t x r s = k_plain (in_item i plain_item is ∷ k) x ((t, refl), stack_bottom k (t.0)) refl refl (tt, s)
+  k_items is t x r s = k_plain (in_item i plain_item is ∷ k) x ((t, refl), stack_bottom k (t.0)) refl refl (λ l. refl, s)
 
   pub k_type_word : (a : ℕ) (is : Items) → FitsMode k (after_type_word a is) i → (x : TokenKind) → Stands p k (λ l. spell_mode (after_type_word a is) (x ∷ l)) → FitsStep q p i (type_word_step i k a is x)
-  k_type_word a is h (Name n) s = by (bytes_eq n (codes "as")) refl
-    where
-      by : (b : Bool) → bytes_eq n (codes "as") ≡ b → FitsStep q p i (if b then go k (after_type_as a i is) else if may_alias n then go k (after_alias a plain_item is a n) else fault)
-      by true e = ((h.0, h.1, refl), stands_same p k _ _ (λ l. ap (λ n. spell_items is (type_word ∷ Name n ∷ l)) (sym (is_word n (codes "as") e))) s)
-      by false e = k_if q p i (may_alias n) (go k (after_alias a plain_item is a n)) (λ e. (((h.0, refl, refl, (alias_name n e).0, (alias_name n e).1), ap suc (h.1)), s))
+  k_type_word a is h (Name n) s = k_if q p i (may_alias n) (go k (after_alias a plain_item is a n)) (λ e. (((h.0, refl, refl, (alias_name n e).0, (alias_name n e).1), ap suc (h.1)), s))
   k_type_word a is h x s =
       let r : 10 ≤ 10 = omega arith in
       k_links q p i (in_simple a evaluates ∷ in_item a plain_item is ∷ k) (ex a i (variable (codes "type"))) no_link x ((refl, refl), ((h.0, refl), stack_bottom k (h.0.0))) refl
-      (r, (refl, h.1, refl), tt, h.1) ((type_word, refl, λ l. (x ∷ l, refl)), (tt, s))
-
-  pub k_type_as : (a d : ℕ) (is : Items) → FitsMode k (after_type_as a d is) i → (x : TokenKind) → Stands p k (λ l. spell_mode (after_type_as a d is) (x ∷ l)) → FitsStep q p i (type_as_step i k a d is x)
-  k_type_as a d is h (Punct Assign) s =
-      let n = alias_name (codes "as") refl in
-      let y = typing_at true (suc (suc (suc a))) (suc i) (ap suc (h.2 ∙ ap suc (h.1))) in
-      (((h.0, refl, refl, n.0, n.1), y.0, y.1), s)
-  k_type_as a d is h x s =
-      let b = in_simple a evaluates ∷ in_item a plain_item is ∷ k in
-      let r : 6 ≤ 10 = omega arith in
-      let z : 0 ≤ 6 = omega arith in
-      let y = typing_at true (suc d) i (h.2) in
-      k_typing q p i b (cast_type a (ex a d (variable (codes "type"))) no_operand d) [] ty.want (y.0) x
-      (((refl, refl), ((h.0, refl), stack_bottom k (h.0.0))), refl, z, (r, (refl, h.1, refl), tt, h.1)) (y.1) ((type_word, refl, λ l. (as_token ∷ x ∷ l, refl)), (tt, s))
+      (r, (refl, h.1, refl), tt, h.1) ((type_word, refl, λ l. (x ∷ l, refl)), (λ l. refl, s))
 
   k_default_word : (a : ℕ) (is : Items) → FitsMode k (after_default a is) i → (n : Bytes) (w : StatementWord) → statement_word n ≡ w → IsStatement w n → Stands p k (λ l. spell_mode (after_default a is) (Name n ∷ l)) → FitsStep q p i (default_word i k a is n w)
   k_default_word a is h n begins_function d e s =
