@@ -1,5 +1,5 @@
 -- A settled job tells what the whole program does.
-use Rattle.std.proofs.Common.{◌≡◌, ℕ, zero, suc, Bool, true, false, List, [], ◌∷◌, map, Option, Some, None, refl, sym, ap, ap₂, ◌∙◌, ◌⊎◌, inl, inr, subst, subst₂, cond, is_some, IsSome, option_map, unwrap_or, bytes_eq}
+use Rattle.std.proofs.Common.{◌≡◌, ℕ, zero, suc, Bool, true, false, List, [], ◌∷◌, map, Option, Some, None, refl, sym, ap, ap₂, ◌∙◌, ◌⊎◌, inl, inr, subst₂, cond, is_some, IsSome, option_map, unwrap_or, bytes_eq}
 use Rattle.std.specs.List.{AllByRecursion}
 use Rattle.check_values.specs.Rows.{Bytes, Rows, row_at}
 use Rattle.check_values.specs.declared.signatures.Origin.{Origin}
@@ -9,11 +9,11 @@ use Rattle.check_values.specs.declared.signatures.Deps.{Deps}
 use Rattle.check_values.specs.declared.signatures.Export.{Export}
 use Rattle.check_values.specs.declared.signatures.Export.TheVariants as export
 use Rattle.check_values.specs.declared.signatures.Sig.{Sig}
-use Rattle.type_names.specs.Names.{Name, replaced}
+use Rattle.type_names.specs.Names.{replaced}
 use Rattle.type_values.specs.declared.types.FlowType.{FlowType}
-use Rattle.merged_signatures.specs.Chains.{Known, View, found, End, at_value, at_alias, unknown, cyclic, Step, ends, goes, goes_to, step_of, step_in, of_kind, end_of, end_within, most, denotes}
+use Rattle.merged_signatures.specs.Chains.{Known, View, found, End, at_value, at_alias, unknown, cyclic, Step, ends, goes, goes_to, step_of, step_in, of_kind, end_of, most, denotes}
 use Rattle.merged_signatures.specs.Merged.{import_at, as_alias, alias_at, alias_through, alias_imported, alias_named, name_type, type_with, type_at, export_of, signature_with, merged_known, merged}
-use Rattle.merged_signatures.specs.Job.{Job, members_view, JobEnd, inside, told, told_of_kind, job_of_kind, job_end_of, told_by, job_end_within, job_denotes, alias_told, job_as_alias, job_alias_at, job_export_of, job_merged, job_signatures}
+use Rattle.merged_signatures.specs.Job.{Job, members_view, JobEnd, inside, told, told_of_kind, job_of_kind, job_end_of, told_by, job_end_within, job_denotes, alias_told, job_as_alias, job_alias_at, job_export_of, job_merged}
 use Rattle.merged_signatures.specs.Repeats.{onward, next, IsSmall}
 use Rattle.merged_signatures.specs.Settled.{IsSettled, AJobTellsTheProgram}
 use Rattle.merged_signatures.proofs.Names.{bytes_same, bytes_itself}

@@ -1,5 +1,5 @@
 -- Merging some modules of a program, where others outside are merged already.
-use Rattle.std.specs.Prelude.{ℕ, zero, suc, Bool, true, false, List, [], ◌∷◌, map, Option, Some, None, unwrap_or}
+use Rattle.std.specs.Prelude.{ℕ, zero, suc, Bool, true, false, List, map, Option, Some, None, unwrap_or}
 use Rattle.check_values.specs.Rows.{Bytes, Rows, row_at}
 use Rattle.check_values.specs.declared.signatures.Export.{Export}
 use Rattle.check_values.specs.declared.signatures.Export.TheVariants as export
