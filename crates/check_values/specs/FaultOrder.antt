@@ -11,8 +11,8 @@ use Rattle.check_values.specs.Rows.{ordered}
 abbrev pub fault_cmp : Fault → Fault → Ordering
 fault_cmp a b =
     ordering_then (nat_cmp a.span.start b.span.start)
-      (ordering_then (nat_cmp a.span.end b.span.end)
-        (ordering_then (slice_cmp nat_cmp (code_name a.code) (code_name b.code)) (slice_cmp nat_cmp a.details b.details)))
+    (ordering_then (nat_cmp a.span.end b.span.end)
+    (ordering_then (slice_cmp nat_cmp (code_name a.code) (code_name b.code)) (slice_cmp nat_cmp a.details b.details)))
 
 -- the set of faults, in order
 abbrev pub faults_in_order : List Fault → List Fault

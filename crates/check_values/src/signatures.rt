@@ -61,10 +61,7 @@ pub enum Export {
     /// A value of this type.
     Value(FlowType),
     /// The alias of this name in a module.
-    Alias {
-        module: Path,
-        name: Text,
-    },
+    Alias { module: Path, name: Text },
     /// Nothing is known.
     Unknown,
     /// A chain of re-exports that comes back to itself.

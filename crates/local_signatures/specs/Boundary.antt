@@ -1,7 +1,7 @@
 -- The types that a module's boundary tells: those of annotations, and those that an initialiser has by its form alone.
-use Rattle.std.specs.Prelude.{ℕ, Bool, true, false, List, [], ◌∷◌, ◌++◌, Option, Some, None, option_map}
+use Rattle.std.specs.Prelude.{List, [], ◌∷◌, ◌++◌, Option, Some, None, option_map}
 use Rattle.js_grammar.specs.Types.{Ty}
-use Rattle.js_grammar.specs.Code.{Level, relation_level, Ex, ex, ExForm, number, text, truth_value, null_value, parens, function_ex, chain, arrow, Operand, operand, OperandForm, right_side, as_type, Operands, no_operand, more_operand, Function, function, Sig, sig, Parameter, parameter, Parameters, no_parameter, more_parameter, Declaration, declaration}
+use Rattle.js_grammar.specs.Code.{relation_level, Ex, ex, ExForm, number, text, truth_value, null_value, parens, function_ex, chain, arrow, operand, as_type, Operands, more_operand, Function, function, Sig, sig, Parameter, parameter, Parameters, no_parameter, more_parameter, Declaration, declaration}
 use Rattle.type_values.specs.declared.types.FlowType.{FlowType}
 use Rattle.type_values.specs.declared.types.FlowType as made
 use Rattle.type_values.specs.declared.types.Param as value

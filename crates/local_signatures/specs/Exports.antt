@@ -4,8 +4,8 @@ use Rattle.std.specs.List.{flat_map}
 use Rattle.check_values.specs.Rows.{Bytes, Rows, row_at, by_name}
 use Rattle.check_values.specs.declared.signatures.Origin.{Origin}
 use Rattle.check_values.specs.declared.signatures.Origin.TheVariants as origin
-use Rattle.js_grammar.specs.Code.{Ex, Function, function, Declaration, declaration}
-use Rattle.js_grammar.specs.Items.{AliasOf, alias, Exported, exported, Exporteds, no_exported, more_exported, ExportList, export_list, ExportForm, export_declaration, export_function, export_alias, export_names, export_from, export_default_function, export_default, ItemForm, exports, Item, item, Module}
+use Rattle.js_grammar.specs.Code.{Function, function, Declaration, declaration}
+use Rattle.js_grammar.specs.Items.{AliasOf, alias, exported, Exporteds, no_exported, more_exported, ExportList, export_list, ExportForm, export_declaration, export_function, export_alias, export_names, export_from, export_default_function, export_default, ItemForm, exports, Item, item, Module}
 use Rattle.type_values.specs.declared.types.FlowType.{FlowType}
 use Rattle.type_values.specs.declared.types.FlowType as made
 use Rattle.type_names.specs.Names.{names_in}

@@ -1,5 +1,5 @@
 -- The faults of a local signature: the exports whose types no annotation tells.
-use Rattle.std.specs.Prelude.{ℕ, ◌-◌, List, [], ◌∷◌, Option, Some, None, slice_index_or}
+use Rattle.std.specs.Prelude.{ℕ, ◌-◌, List, [], ◌∷◌, None, slice_index_or}
 use Rattle.std.specs.List.{flat_map}
 use Rattle.flow_values.specs.declared.span.Span.{Span}
 use Rattle.check_values.specs.Rows.{Bytes}

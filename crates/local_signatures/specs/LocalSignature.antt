@@ -1,7 +1,7 @@
 -- The local signature of a module.
-use Rattle.std.specs.Prelude.{◌≡◌, ℕ, zero, suc, Bool, true, false, not, List, [], ◌∷◌, ◌++◌, map, length, filter, Option, Some, None, option_to_list}
+use Rattle.std.specs.Prelude.{◌≡◌, ◌↔◌, ℕ, zero, suc, true, false, List, [], ◌∷◌, ◌++◌, map, length, filter, Option, Some, None}
 use Rattle.std.specs.List.{flat_map, filter_map}
-use Rattle.check_values.specs.Rows.{Bytes, Rows, row_at, is_among, by_name}
+use Rattle.check_values.specs.Rows.{Bytes, Rows, row_at, is_among, distinct, by_name}
 use Rattle.check_values.specs.declared.signatures.Origin.{Origin}
 use Rattle.check_values.specs.declared.signatures.ImportRow.{ImportRow}
 use Rattle.check_values.specs.declared.signatures.LocalSig.{LocalSig}
@@ -60,20 +60,21 @@ pub record IsLocalSignature (m : Module) (s : LocalSig) : Type 0 where
 abbrev pub broken_signature : LocalSig
 broken_signature = record { broken = true; exports = []; aliases = []; imports = [] }
 
--- The same, as a function. One round adds the names that the aliases of names lead to; a path of different aliases has no more
--- steps than there are aliases.
-abbrev pub led_to_by_name : Rows FlowType → Bytes → List Bytes
-led_to_by_name aliases word = flat_map led_to_by_type (option_to_list (row_at aliases word))
+-- The same, as a function. A round adds the names that the aliases among the names lead to. Each round but the last comes to
+-- an alias that wasn't there before.
+abbrev pub led_to_by : Option FlowType → List Bytes
+led_to_by None = []
+led_to_by (Some t) = led_to_by_type t
 
 abbrev pub next_names : Rows FlowType → List Bytes → List Bytes
-next_names aliases words = words ++ filter (λ word. not (is_among words word)) (flat_map (led_to_by_name aliases) words)
+next_names aliases words = distinct (words ++ flat_map (λ word. led_to_by (row_at aliases word)) words)
 
 abbrev pub names_after : Rows FlowType → ℕ → List Bytes → List Bytes
 names_after aliases zero words = words
 names_after aliases (suc rounds) words = names_after aliases rounds (next_names aliases words)
 
 abbrev pub reached_names : Module → List Bytes
-reached_names m = names_after (aliases_of m) (length (aliases_of m)) (led_to_by_exports m)
+reached_names m = names_after (aliases_of m) (suc (length (aliases_of m))) (led_to_by_exports m)
 
 abbrev pub local_signature : Module → LocalSig
 local_signature m =
@@ -88,3 +89,7 @@ local_signature m =
 abbrev pub signature_of : Option Module → LocalSig
 signature_of None = broken_signature
 signature_of (Some m) = local_signature m
+
+-- a module has one local signature, and it is that one
+abbrev pub HasOneLocalSignature : Type 0
+HasOneLocalSignature = (m : Module) (s : LocalSig) → IsLocalSignature m s ↔ (s ≡ local_signature m)

@@ -1,5 +1,5 @@
 -- What the names of a module's top level are bound to.
-use Rattle.std.specs.Prelude.{ℕ, Bool, true, false, List, [], ◌∷◌, ◌++◌, Option, Some, None, unwrap_or, if◌then◌else◌, codes}
+use Rattle.std.specs.Prelude.{Bool, true, false, List, [], ◌∷◌, ◌++◌, Option, Some, None, unwrap_or, if◌then◌else◌, codes}
 use Rattle.std.specs.List.{flat_map}
 use Rattle.check_values.specs.Rows.{Bytes, Rows, row_at, first_of_each}
 use Rattle.js_grammar.specs.Types.{Ty}

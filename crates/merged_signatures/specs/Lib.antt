@@ -2,3 +2,5 @@ pub mod Chains
 pub mod Merged
 pub mod Job
 pub mod Reach
+pub mod Repeats
+pub mod Settled

@@ -1,8 +1,7 @@
 -- The dependency list of a module.
-use Rattle.std.specs.Prelude.{ℕ, List, [], ◌∷◌, ◌++◌, map, Option, Some, None}
-use Rattle.js_grammar.specs.Items.{ExportForm, export_from, ItemForm, imports, exports, Item, item, Items, no_item, more_item, Module, module_of}
+use Rattle.std.specs.Prelude.{List, [], ◌∷◌, ◌++◌, map, Option, Some, None}
+use Rattle.js_grammar.specs.Items.{export_from, ItemForm, imports, exports, Item, item, Items, no_item, more_item, Module, module_of}
 use Rattle.check_values.specs.Rows.{Bytes, distinct}
-use Rattle.check_values.specs.declared.signatures.DepRow.{DepRow}
 use Rattle.check_values.specs.declared.signatures.Deps.{Deps}
 use Rattle.module_resolution.specs.Resolution.{resolved}
 
