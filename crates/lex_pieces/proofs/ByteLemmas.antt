@@ -14,7 +14,7 @@ use Rattle.js_token.specs.Words.{is_whole}
 use Rattle.js_token.specs.declared.token.TokenKind.{TokenKind}
 use Rattle.js_token.specs.declared.token.TokenKind.TheVariants.{Name, Number, Str, Punct}
 use Rattle.js_token.specs.declared.punct.Punct.{Punct as MarkType}
-use Rattle.js_token.specs.declared.punct.Punct.TheVariants.{Dot as DotMark}
+use Rattle.js_token.specs.declared.punct.Punct.TheVariants.{Dot as DotMark, OpenBrace as OpenBraceMark, CloseBrace as CloseBraceMark, OpenParen as OpenParenMark, CloseParen as CloseParenMark, OpenBracket as OpenBracketMark, CloseBracket as CloseBracketMark, Comma as CommaMark, Semicolon as SemicolonMark, Colon as ColonMark, Percent as PercentMark}
 use Rattle.js_token.specs.Marks.{spelling}
 use Rattle.source_characters.specs.Words.{continues_word}
 use Rattle.lex_pieces.specs.declared.piece.Piece.{Piece}
@@ -22,20 +22,20 @@ use Rattle.lex_pieces.specs.declared.start.Start.{Start}
 use Rattle.lex_pieces.specs.declared.start.Start.TheVariants.{Blank, Word, Digit, Quote, Dot, Slash, Mark}
 use Rattle.lex_pieces.specs.Characters.{goes_on, is_quote, LF}
 use Rattle.lex_pieces.specs.Starts.{start_of, Starts}
-use Rattle.lex_pieces.specs.Marks.{mark_at}
-use Rattle.lex_pieces.specs.Comments.{comment_len, line_len}
+use Rattle.lex_pieces.specs.Marks.{mark_at, longest_of_two, longest_of_three}
+use Rattle.lex_pieces.specs.Comments.{closed_len, comment_len, line_len}
 use Rattle.lex_pieces.specs.Escapes.{begins_with}
 use Rattle.lex_pieces.specs.Reading.{number_len}
 use Rattle.lex_pieces.specs.Strings.{Part, IsPart, plain, AreParts, written, ReadsParts, IsStringRead, starts_with_digit}
 use Rattle.lex_pieces.specs.Read.{IsRead, blank_piece, word_piece, number_piece, mark_piece}
-use Rattle.lex_pieces.specs.Bytes.{Tells, IsTold, Begins, is_ascii, is_word_byte, ends_told, front_is_ascii, stops_whole, ends_plain, is_plain_byte, is_line_byte, line_ends, mark_told}
+use Rattle.lex_pieces.specs.Bytes.{Tells, IsTold, Begins, is_ascii, is_word_byte, ends_told, front_is_ascii, stops_whole, ends_plain, is_plain_byte, is_line_byte, line_ends, mark_alone, mark_told}
 use Rattle.lex_pieces.proofs.Runs.{Stops, run, run_passes, run_stops, run_front}
 use Rattle.lex_pieces.proofs.Fronts.{blank_read, word_read, digit_some, mark_read, dot_mark, slash_mark, slash_comment, dot_alone, quote_some, quote_char, slash_char, dot_char}
 use Rattle.lex_pieces.proofs.MarkLemmas.{mark_sound}
 use Rattle.lex_pieces.proofs.NumberLemmas.{whole_number}
 use Rattle.lex_pieces.proofs.PartLemmas.{begun}
 use Rattle.lex_pieces.proofs.StringReads.{string_read}
-use Rattle.lex_pieces.proofs.CommentLemmas.{not_lf}
+use Rattle.lex_pieces.proofs.CommentLemmas.{not_lf, Closing, closed_sound, closed_exact}
 
 -- ASCII AT THE FRONT
 ascii_head : (text bytes : List ℕ) (b : ℕ) → b < 128 → encode_utf8_all text ≡ b ∷ bytes → (more : List ℕ) × (text ≡ b ∷ more) × (encode_utf8_all more ≡ bytes)
@@ -211,6 +211,128 @@ mark_is_told bytes reads = at (front_is_ascii bytes) refl
 pub mark_only_told : (bytes : List ℕ) → Begins Mark bytes → IsTold bytes (mark_told bytes)
 mark_only_told bytes begins = mark_is_told bytes (λ text e. mark_read text (starts_told Mark bytes text begins e))
 
+-- a mark with which no other one begins
+Alone : ℕ → MarkType → Type 0
+Alone k m = (rest : List ℕ) → mark_at (k ∷ rest) ≡ Some (m, 1)
+
+alone_123 : Alone 123 OpenBraceMark
+unfolding Alone longest_of_two longest_of_three
+alone_123 [] = refl
+alone_123 (b ∷ []) = refl
+alone_123 (b ∷ c ∷ rest) = refl
+
+alone_125 : Alone 125 CloseBraceMark
+unfolding Alone longest_of_two longest_of_three
+alone_125 [] = refl
+alone_125 (b ∷ []) = refl
+alone_125 (b ∷ c ∷ rest) = refl
+
+alone_40 : Alone 40 OpenParenMark
+unfolding Alone longest_of_two longest_of_three
+alone_40 [] = refl
+alone_40 (b ∷ []) = refl
+alone_40 (b ∷ c ∷ rest) = refl
+
+alone_41 : Alone 41 CloseParenMark
+unfolding Alone longest_of_two longest_of_three
+alone_41 [] = refl
+alone_41 (b ∷ []) = refl
+alone_41 (b ∷ c ∷ rest) = refl
+
+alone_91 : Alone 91 OpenBracketMark
+unfolding Alone longest_of_two longest_of_three
+alone_91 [] = refl
+alone_91 (b ∷ []) = refl
+alone_91 (b ∷ c ∷ rest) = refl
+
+alone_93 : Alone 93 CloseBracketMark
+unfolding Alone longest_of_two longest_of_three
+alone_93 [] = refl
+alone_93 (b ∷ []) = refl
+alone_93 (b ∷ c ∷ rest) = refl
+
+alone_44 : Alone 44 CommaMark
+unfolding Alone longest_of_two longest_of_three
+alone_44 [] = refl
+alone_44 (b ∷ []) = refl
+alone_44 (b ∷ c ∷ rest) = refl
+
+alone_59 : Alone 59 SemicolonMark
+unfolding Alone longest_of_two longest_of_three
+alone_59 [] = refl
+alone_59 (b ∷ []) = refl
+alone_59 (b ∷ c ∷ rest) = refl
+
+alone_58 : Alone 58 ColonMark
+unfolding Alone longest_of_two longest_of_three
+alone_58 [] = refl
+alone_58 (b ∷ []) = refl
+alone_58 (b ∷ c ∷ rest) = refl
+
+alone_37 : Alone 37 PercentMark
+unfolding Alone longest_of_two longest_of_three
+alone_37 [] = refl
+alone_37 (b ∷ []) = refl
+alone_37 (b ∷ c ∷ rest) = refl
+
+alone_hit : (a k : ℕ) (p m : MarkType) → eqb a k ≡ true → Alone k p → Some p ≡ Some m → Alone a m
+unfolding Alone
+alone_hit a k p m same is found rest = let which : p ≡ m = cc in ap (λ (x : ℕ). mark_at (x ∷ rest)) (eqb-true a k same) ∙ (is rest ∙ ap (λ (q : MarkType). Some (q, 1)) which)
+
+alone_is : (a : ℕ) (m : MarkType) → mark_alone a ≡ Some m → Alone a m
+alone_is a m h0 =
+    elim (cases_Bool (eqb a 123)) [
+      | inl t ↦ alone_hit a 123 OpenBraceMark m t alone_123 (rw t at h0)
+      | inr f ↦ let h1 = rw f at h0 in
+          elim (cases_Bool (eqb a 125)) [
+            | inl t ↦ alone_hit a 125 CloseBraceMark m t alone_125 (rw t at h1)
+            | inr f ↦ let h2 = rw f at h1 in
+                elim (cases_Bool (eqb a 40)) [
+                  | inl t ↦ alone_hit a 40 OpenParenMark m t alone_40 (rw t at h2)
+                  | inr f ↦ let h3 = rw f at h2 in
+                      elim (cases_Bool (eqb a 41)) [
+                        | inl t ↦ alone_hit a 41 CloseParenMark m t alone_41 (rw t at h3)
+                        | inr f ↦ let h4 = rw f at h3 in
+                            elim (cases_Bool (eqb a 91)) [
+                              | inl t ↦ alone_hit a 91 OpenBracketMark m t alone_91 (rw t at h4)
+                              | inr f ↦ let h5 = rw f at h4 in
+                                  elim (cases_Bool (eqb a 93)) [
+                                    | inl t ↦ alone_hit a 93 CloseBracketMark m t alone_93 (rw t at h5)
+                                    | inr f ↦ let h6 = rw f at h5 in
+                                        elim (cases_Bool (eqb a 44)) [
+                                          | inl t ↦ alone_hit a 44 CommaMark m t alone_44 (rw t at h6)
+                                          | inr f ↦ let h7 = rw f at h6 in
+                                              elim (cases_Bool (eqb a 59)) [
+                                                | inl t ↦ alone_hit a 59 SemicolonMark m t alone_59 (rw t at h7)
+                                                | inr f ↦ let h8 = rw f at h7 in
+                                                    elim (cases_Bool (eqb a 58)) [
+                                                      | inl t ↦ alone_hit a 58 ColonMark m t alone_58 (rw t at h8)
+                                                      | inr f ↦ let h9 = rw f at h8 in
+                                                          elim (cases_Bool (eqb a 37)) [
+                                                            | inl t ↦ alone_hit a 37 PercentMark m t alone_37 (rw t at h9)
+                                                            | inr f ↦ let h10 = rw f at h9 in
+                                                                absurd (let none : None ≡ Some m = h10 in cc)
+                                                          ]
+                                                    ]
+                                              ]
+                                        ]
+                                  ]
+                            ]
+                      ]
+                ]
+          ]
+    ]
+
+pub alone_told : (a : ℕ) (bytes : List ℕ) (m : MarkType) → Begins Mark (a ∷ bytes) → mark_alone a ≡ Some m → Tells (a ∷ bytes) (record { kind = Some (Punct m); len = 1 })
+unfolding Alone
+alone_told a bytes m begins is = tells _ _ (λ text e.
+    let head = ascii_head text bytes a begins.0 e in
+    let here : mark_at text ≡ Some (m, 1) = ap mark_at head.1 ∙ alone_is a m is head.0 in
+    let front = front_of (a ∷ bytes) text 1 (omega arith) (and_from (is_ascii a) true (lt-ltb a 128 begins.0) refl) e in
+    (subst (λ (o : Option (MarkType × ℕ)). IsRead text (option_map (λ (q : MarkType × ℕ). record { kind = Some (Punct q.0); len = q.1 }) o)) here (mark_read text (starts_told Mark (a ∷ bytes) text begins e)), front.size))
+
+pub ruleset mark_tells = (alone_told, mark_only_told)
+
 -- a text whose bytes fail a test of ASCII at their front fails it, too
 first_fails : (p : ℕ → Bool) → ((c : ℕ) → p c ≡ true → c < 128) → (d : ℕ) (more bytes : List ℕ) → encode_utf8_all (d ∷ more) ≡ bytes → ((c : ℕ) (cs : List ℕ) → bytes ≡ c ∷ cs → p c ≡ false) → p d ≡ false
 first_fails p low d more bytes e fails = at (p d) refl
@@ -285,6 +407,43 @@ pub line_at : (bytes : List ℕ) (n : ℕ) → Begins Slash bytes → begins_wit
     Tells bytes (blank_piece (n + 2))
 line_at [] n begins second is ends = absurd begins
 line_at (b ∷ bytes) n begins second is ends = line_told b bytes n begins second is ends
+
+block_comment : (text : List ℕ) (n : ℕ) → closed_len text ≡ Some n → comment_len (47 ∷ 42 ∷ text) ≡ Some (n + 2)
+unfolding comment_len
+block_comment text n is = ap (option_map (λ k. k + 2)) is
+
+block_after : (b : ℕ) (bytes : List ℕ) (n : ℕ) → Begins Slash (b ∷ 42 ∷ bytes) → closed_len bytes ≡ Some n → list_all is_ascii (take n bytes) ≡ true → Tells (b ∷ 42 ∷ bytes) (blank_piece (n + 2))
+block_after b bytes n begins is low = tells _ _ (λ text e.
+    let slash = slash_byte b (42 ∷ bytes) text begins e in
+    let second = ascii_head slash.0 bytes 42 (omega arith) slash.2 in
+    let found = closed_sound bytes n is in
+    let whole : bytes ≡ (found.body ++ 42 ∷ 47 ∷ []) ++ found.rest = found.split ∙ sym (append_assoc found.body (42 ∷ 47 ∷ []) found.rest) in
+    let count : length (found.body ++ 42 ∷ 47 ∷ []) ≡ n = omega (arith, length-append found.body (42 ∷ 47 ∷ []), found.len) in
+    let fits : n ≤ length bytes = omega (arith, ap length whole, length-append (found.body ++ 42 ∷ 47 ∷ []) found.rest, count) in
+    let front = front_of bytes second.0 n fits low second.2 in
+    let taken : take n bytes ≡ found.body ++ 42 ∷ 47 ∷ [] = ap (take n) whole ∙ take_at (found.body ++ 42 ∷ 47 ∷ []) found.rest n count in
+    let closed : closed_len second.0 ≡ Some n =
+    ap closed_len (front.whole ∙ (ap (λ l. l ++ front.more) taken ∙ append_assoc found.body (42 ∷ 47 ∷ []) front.more)) ∙ (closed_exact found.body front.more found.first ∙ ap Some (sym found.len)) in
+    let len : comment_len text ≡ Some (n + 2) = ap comment_len (slash.1 ∙ ap (λ (l : List ℕ). 47 ∷ l) second.1) ∙ block_comment second.0 n closed in
+    let all : list_all is_ascii (take (n + 2) (b ∷ 42 ∷ bytes)) ≡ true =
+    (let two : n + 2 ≡ suc (suc n) = omega arith in rw two (and_from (is_ascii b) _ (lt-ltb b 128 begins.0) low)) in
+    let size = front_of (b ∷ 42 ∷ bytes) text (n + 2) (omega (arith, fits)) all e in
+    (slash_comment text (n + 2) (starts_told Slash (b ∷ 42 ∷ bytes) text begins e) len, size.size))
+
+block_told : (b : ℕ) (bytes : List ℕ) (n : ℕ) → Begins Slash (b ∷ bytes) → begins_with 42 bytes ≡ true → closed_len (drop 1 bytes) ≡ Some n → list_all is_ascii (take n (drop 1 bytes)) ≡ true → Tells (b ∷ bytes) (blank_piece (n + 2))
+block_told b bytes n begins second is low =
+    subst (λ (l : List ℕ). Tells (b ∷ l) (blank_piece (n + 2))) (sym (begun 42 bytes second)) (block_after b (drop 1 bytes) n begins is low)
+
+pub block_at : (bytes : List ℕ) (n : ℕ) → Begins Slash bytes → begins_with 42 (drop 1 bytes) ≡ true → closed_len (drop 2 bytes) ≡ Some n → list_all is_ascii (take n (drop 2 bytes)) ≡ true → Tells bytes (blank_piece (n + 2))
+block_at [] n begins second is low = absurd begins
+block_at (b ∷ bytes) n begins second is low = block_told b bytes n begins second is low
+
+pub two_bytes : (bytes : List ℕ) → begins_with 42 (drop 1 bytes) ≡ true → 2 ≤ length bytes
+two_bytes [] h = absurd (true≢false (sym h))
+two_bytes (b ∷ []) h = absurd (true≢false (sym h))
+two_bytes (b ∷ c ∷ bytes) h = omega arith
+
+pub ruleset block_tells = (two_bytes)
 
 pub ruleset slash_tells = (slash_told)
 

@@ -2,6 +2,8 @@
 use Rattle.std.specs.Prelude.{◌≡◌, ℕ, ◌<◌, Bool, true, ◌&&◌, ◌||◌, ◌==◌, not, nat_lt, List, [], ◌∷◌, Option, Some, None, length, take, if◌then◌else◌}
 use Rattle.std.specs.Str.{encode_utf8_all}
 use Rattle.source_characters.specs.Words.{continues_word}
+use Rattle.js_token.specs.declared.punct.Punct.{Punct}
+use Rattle.js_token.specs.declared.punct.Punct.TheVariants.{OpenBrace, CloseBrace, OpenParen, CloseParen, OpenBracket, CloseBracket, Comma, Semicolon, Colon, Percent}
 use Rattle.lex_pieces.specs.declared.piece.Piece.{Piece}
 use Rattle.lex_pieces.specs.declared.start.Start.{Start}
 use Rattle.lex_pieces.specs.Characters.{goes_on, LF}
@@ -67,3 +69,17 @@ line_ends (b ∷ bytes) = b == LF
 -- the mark at the front, where three ASCII characters tell it
 abbrev pub mark_told : List ℕ → Option Piece
 mark_told bytes = if front_is_ascii bytes then mark_piece bytes else None
+
+-- the mark that begins with this character, where no other one does
+abbrev pub mark_alone : ℕ → Option Punct
+mark_alone a =
+    if a == 123 then Some OpenBrace else
+    if a == 125 then Some CloseBrace else
+    if a == 40 then Some OpenParen else
+    if a == 41 then Some CloseParen else
+    if a == 91 then Some OpenBracket else
+    if a == 93 then Some CloseBracket else
+    if a == 44 then Some Comma else
+    if a == 59 then Some Semicolon else
+    if a == 58 then Some Colon else
+    if a == 37 then Some Percent else None

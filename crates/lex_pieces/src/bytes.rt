@@ -1,8 +1,9 @@
 //! Pieces that the bytes of a source tell: each of their characters is ASCII, and so is the byte that shows their end.
-ghost use Rattle.std.specs.Prelude.{◌≡◌, ◌≤◌, length, IfOk};
-ghost use Rattle.std.specs.List.{prefix_len};
+ghost use Rattle.std.specs.Prelude.{◌≡◌, ◌≤◌, true, length, drop, IfOk, IfSome, IsTrue};
+ghost use Rattle.std.specs.List.{list_all, prefix_len};
 ghost use Rattle.std.specs.Char.{is_ascii_digit};
-ghost use Rattle.lex_pieces.specs.Bytes.{IsTold, Begins, is_word_byte, ends_told, front_is_ascii, stops_whole, ends_plain, is_plain_byte, is_line_byte, line_ends, mark_told};
+ghost use Rattle.lex_pieces.specs.Bytes.{IsTold, Begins, is_ascii, is_word_byte, ends_told, front_is_ascii, stops_whole, ends_plain, is_plain_byte, is_line_byte, line_ends, mark_alone, mark_told};
+ghost use Rattle.lex_pieces.specs.Comments.{closes, closed_len};
 ghost use Rattle.lex_pieces.specs.Escapes.{begins_with};
 ghost use Rattle.lex_pieces.specs.Strings.{starts_with_digit};
 ghost use Rattle.lex_pieces.specs.Marks.{mark_at};
@@ -208,7 +209,7 @@ fn starts_with_digit(bytes: &[u8]) -> bool
     }
 }
 
-// A line's comment, or a mark.
+// A comment, or a mark.
 #[tactic(auto, using(crate::proofs::ByteLemmas::slash_tells))]
 fn tell_slash(bytes: &[u8]) -> Option<Piece>
     requires { Begins Start.Slash bytes.now }
@@ -228,12 +229,65 @@ fn tell_slash(bytes: &[u8]) -> Option<Piece>
                     None
                 }
             } else if begins_with_byte(b'*', rest) {
-                None
+                tell_block(bytes)
             } else {
                 mark_told(bytes)
             }
         }
     }
+}
+
+// A comment of ASCII that is closed.
+#[tactic(auto, using(crate::proofs::ByteLemmas::block_tells))]
+fn tell_block(bytes: &[u8]) -> Option<Piece>
+    requires slash { Begins Start.Slash bytes.now }
+    requires star { begins_with 42 (drop 1 bytes.now) ≡ true }
+    ensures { IsTold bytes.now result }
+{
+    let block = &bytes[2..];
+    match closed_bytes(block) {
+        None => None,
+        Some(len) => {
+            if are_ascii(&block[..len]) {
+                Some(Piece {
+                    kind: None,
+                    len: len + 2,
+                })
+            } else {
+                None
+            }
+        }
+    }
+}
+
+// Through the first `*/`.
+#[tactic(auto, using(crate::proofs::Closing::closing))]
+fn closed_bytes(bytes: &[u8]) -> Option<usize>
+    ensures value { result ≡ closed_len bytes.now }
+    ensures within { IfSome result (λ len. len ≤ length bytes.now) }
+{
+    for at in 0..bytes.len() {
+        if closes(&bytes[at..]) {
+            return Some(at + 2);
+        }
+    }
+    None
+}
+
+fn closes(bytes: &[u8]) -> bool
+    ensures value { result ≡ closes bytes.now }
+    ensures within { IsTrue result → 2 ≤ length bytes.now }
+{
+    match bytes {
+        [first, next, ..] => *first == b'*' && *next == b'/',
+        _ => false,
+    }
+}
+
+fn are_ascii(bytes: &[u8]) -> bool
+    ensures { result ≡ list_all is_ascii bytes.now }
+{
+    bytes.iter().all(|b| b.is_ascii())
 }
 
 // How many ASCII characters stand before the line's end.
@@ -256,15 +310,45 @@ fn line_ends(bytes: &[u8]) -> bool
     }
 }
 
-#[tactic(auto, using(crate::proofs::ByteLemmas::mark_only_told))]
+#[tactic(auto, using(crate::proofs::ByteLemmas::mark_tells))]
 fn tell_mark(bytes: &[u8]) -> Option<Piece>
     requires { Begins Start.Mark bytes.now }
     ensures { IsTold bytes.now result }
 {
-    mark_told(bytes)
+    match bytes {
+        [] => None,
+        [first, ..] => match mark_alone(*first) {
+            Some(mark) => Some(Piece {
+                kind: Some(TokenKind::Punct(mark)),
+                len: 1,
+            }),
+            None => mark_told(bytes),
+        },
+    }
+}
+
+// The mark that begins with this character, where no other one does.
+#[inline]
+fn mark_alone(a: u8) -> Option<Punct>
+    ensures { result ≡ mark_alone a }
+{
+    match a {
+        b'{' => Some(Punct::OpenBrace),
+        b'}' => Some(Punct::CloseBrace),
+        b'(' => Some(Punct::OpenParen),
+        b')' => Some(Punct::CloseParen),
+        b'[' => Some(Punct::OpenBracket),
+        b']' => Some(Punct::CloseBracket),
+        b',' => Some(Punct::Comma),
+        b';' => Some(Punct::Semicolon),
+        b':' => Some(Punct::Colon),
+        b'%' => Some(Punct::Percent),
+        _ => None,
+    }
 }
 
 // The mark at the front, where ASCII alone tells it.
+#[inline]
 fn mark_told(bytes: &[u8]) -> Option<Piece>
     ensures { result ≡ mark_told bytes.now }
 {
@@ -280,6 +364,7 @@ fn mark_told(bytes: &[u8]) -> Option<Piece>
     }
 }
 
+#[inline]
 fn front_is_ascii(bytes: &[u8]) -> bool
     ensures { result ≡ front_is_ascii bytes.now }
 {
@@ -292,6 +377,7 @@ fn front_is_ascii(bytes: &[u8]) -> bool
 }
 
 // The longest mark at the front, read as if each byte were a character.
+#[inline]
 fn mark_in(bytes: &[u8]) -> Option<(Punct, usize)>
     ensures { result ≡ mark_at bytes.now }
 {

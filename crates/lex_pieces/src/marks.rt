@@ -23,6 +23,7 @@ pub fn mark_of(a: char) -> Option<(Punct, usize)>
 }
 
 /// The longest mark that begins with these characters.
+#[inline]
 #[tactic(auto, unfolding(crate::specs::Marks::longest_of_three))]
 pub fn longest_of_three(a: char, b: char, c: char) -> Option<(Punct, usize)>
     ensures { result ≡ longest_of_three a b c }
@@ -31,6 +32,7 @@ pub fn longest_of_three(a: char, b: char, c: char) -> Option<(Punct, usize)>
 }
 
 /// The longest mark of one or two characters that begins with these.
+#[inline]
 #[tactic(auto, unfolding(crate::specs::Marks::longest_of_two))]
 pub fn longest_of_two(a: char, b: char) -> Option<(Punct, usize)>
     ensures { result ≡ longest_of_two a b }
@@ -39,12 +41,14 @@ pub fn longest_of_two(a: char, b: char) -> Option<(Punct, usize)>
 }
 
 // A mark with its length.
+#[inline]
 fn with_len(len: usize, mark: Option<Punct>) -> Option<(Punct, usize)>
     ensures { result ≡ with_len len mark }
 {
     Some((mark?, len))
 }
 
+#[inline]
 fn mark_of_one(a: char) -> Option<Punct>
     ensures { result ≡ mark_of_one a }
 {
@@ -74,6 +78,7 @@ fn mark_of_one(a: char) -> Option<Punct>
     }
 }
 
+#[inline]
 fn mark_of_two(a: char, b: char) -> Option<Punct>
     ensures { result ≡ mark_of_two a b }
 {
@@ -92,6 +97,7 @@ fn mark_of_two(a: char, b: char) -> Option<Punct>
     }
 }
 
+#[inline]
 fn mark_of_three(a: char, b: char, c: char) -> Option<Punct>
     ensures { result ≡ mark_of_three a b c }
 {

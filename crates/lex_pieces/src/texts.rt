@@ -4,7 +4,7 @@ use flow_values::{NoMemory, Text};
 use std::alloc::Global;
 
 /// The number of places of a table of texts.
-const PLACES: usize = 4096;
+const PLACES: usize = 1024;
 
 /// Texts that were made before, each at a place that its bytes give: a text that is made again is
 /// shared while no other one took its place.
@@ -12,7 +12,7 @@ const PLACES: usize = 4096;
 pub struct Texts {
     alloc: Global,
     places: Vec<Option<Text>>,
-    ghost whole: { length places.items ≡ 4096 },
+    ghost whole: { length places.items ≡ 1024 },
 }
 
 impl Texts {
@@ -50,12 +50,13 @@ impl Texts {
 }
 
 // The place of a text of these bytes, which spreads short words.
+#[inline]
 fn place_of(bytes: &[u8]) -> usize
-    ensures { result < 4096 }
+    ensures { result < 1024 }
 {
     let mut sum: u32 = 0;
     for b in bytes {
         sum = sum.wrapping_mul(31).wrapping_add(u32::from(*b));
     }
-    (sum ^ (sum >> 12)) as usize % PLACES
+    (sum ^ (sum >> 10)) as usize % PLACES
 }
