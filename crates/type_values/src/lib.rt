@@ -1,9 +1,8 @@
-//! Types, with their copies, their equality and their order.
+//! Types, whose parts are shared, with their equality and their order.
 #![tactic(auto)]
 
-mod copies;
-mod equality;
 mod order;
+mod sharing;
 mod types;
 
 pub use types::{FlowProp, FlowType, Param, Variance};

@@ -1,0 +1,9 @@
+//! The members of types, by the aliases of a table.
+#![tactic(auto)]
+
+mod opening;
+
+pub use opening::{has_members, has_one_list_of_members, members, members_of};
+
+#[cfg(test)]
+mod tests;
