@@ -2,8 +2,8 @@
 use Rattle.std.proofs.Common.{◌≡◌, ◌⊎◌, inl, inr, ◌&&◌, ℕ, zero, suc, ◌<◌, Bool, true, false, List, [], ◌∷◌, length, get_or, map, Option, Some, None, if◌then◌else◌, refl, sym, ap, ◌∙◌, subst, arith}
 use Rattle.std.specs.Prelude.{Contains}
 use Rattle.type_values.specs.declared.types.FlowType.{FlowType}
-use Rattle.alias_cycles.specs.Cycles.{Leads, here, along}
-use Rattle.alias_cycles.proofs.Searches.{joined}
+use Rattle.graph_search.specs.Cycles.{Leads, here, along}
+use Rattle.graph_search.proofs.Searches.{joined}
 use Rattle.alias_table.specs.Aliases.{Row, Key, is_text, is_row_of, alias_type, names_of, Step, IsCyclic}
 use Rattle.alias_table.proofs.Graph.{none_some, split_and}
 use Rattle.alias_table.proofs.Texts.{same_text, text_itself}

@@ -1,6 +1,0 @@
-use Rattle.std.proofs.Common.{take}
-use Rattle.alias_cycles.specs.Searching.{Marks}
-use Rattle.alias_cycles.proofs.cycles.mark_all.Given as goal
-
-abbrev pub invariant-loop-x : goal.invariant-loop-x
-invariant-loop-x l = Marks (take l.x-index l.xs) l.fn.marks l.marks

@@ -1,6 +1,0 @@
-use Rattle.std.proofs.Common.{sym, ◌∙◌, ap, Some}
-use Rattle.alias_cycles.proofs.Lists.{get_index}
-use Rattle.alias_cycles.proofs.searching.ends.Goals as goal
-
-pub returns : goal.returns
-returns c = get_index c.args.edges.now c.args.x c.index-edges-x.result c.index-edges-x.result c.requires (sym c.index-edges-x.is) ∙ ap Some (sym c.as_slice.ensures)
