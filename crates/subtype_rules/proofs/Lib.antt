@@ -1,0 +1,5 @@
+pub mod Walks
+pub mod Kept
+pub mod Grown
+pub mod Lifted
+pub mod TableNames

@@ -1,0 +1,4 @@
+pub mod Whole
+pub mod Itself
+pub mod Named
+pub mod Justified
