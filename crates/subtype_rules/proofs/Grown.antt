@@ -6,8 +6,8 @@ use Rattle.subtyping.specs.Rows.{Pair}
 use Rattle.type_values.specs.declared.types.FlowType.{FlowType}
 use Rattle.alias_table.specs.Aliases.{Key}
 use Rattle.subtyping.specs.Rows.{ways}
-use Rattle.subtype_rules.specs.Numbered.{ways_of}
-use Rattle.subtype_rules.specs.Collected.{Grows, StandFor, IsHopeless, IsAdded, IsRow, AreRows}
+use Rattle.subtyping.specs.Numbered.{ways_of}
+use Rattle.subtyping.specs.Collected.{Grows, StandFor, IsHopeless, IsAdded, IsRow, AreRows}
 use Rattle.std.proofs.lemmas.List.Elements.{Contains-append_left, Contains-append_right}
 use Rattle.subtyping.proofs.Whole.{split, first_or, nothing, here}
 

@@ -1,5 +1,4 @@
 pub mod Walks
 pub mod Kept
 pub mod Grown
-pub mod Lifted
-pub mod TableNames
+pub mod Deciding

@@ -2,7 +2,7 @@
 ghost use Rattle.std.specs.Prelude.{◌≡◌, ◌∷◌, ◌<◌, [], ℕ, true, length, map, slice_get, Some, IfSome, OnOk, IfOk};
 ghost use Rattle.alias_table.specs.Table.{unfolded};
 ghost use Rattle.subtyping.specs.Rows.{Pair, ways};
-ghost use Rattle.subtype_rules.specs.Collected.{Grows, StandFor, IsHopeless, IsAdded, IsRow, AreRows};
+ghost use Rattle.subtyping.specs.Collected.{Grows, StandFor, IsHopeless, IsAdded, IsRow, AreRows};
 ghost use Rattle.alias_table.specs.Aliases.{Key};
 ghost use Rattle.type_values.specs.declared.types.FlowType.{FlowType};
 

@@ -4,6 +4,8 @@
 mod below;
 mod collecting;
 mod deleting;
+mod laws;
 mod rows;
 
 pub use below::is_subtype;
+pub use laws::below_is_the_relation;

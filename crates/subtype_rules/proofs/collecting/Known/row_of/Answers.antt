@@ -1,7 +1,7 @@
 use Rattle.std.proofs.Common.{subst, ap, ◌∙◌, ◌≡◌, get_or}
 use Rattle.subtyping.specs.Rows.{ways}
 use Rattle.alias_table.specs.Table.{unfolded}
-use Rattle.subtype_rules.specs.Collected.{IsRow}
+use Rattle.subtyping.specs.Collected.{IsRow}
 use Rattle.subtype_rules.proofs.Grown.{same_at}
 use Rattle.subtype_rules.proofs.collecting.Known.row_of.Goals as goal
 

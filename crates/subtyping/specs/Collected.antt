@@ -3,7 +3,7 @@ use Rattle.std.specs.Prelude.{◌≡◌, ◌<◌, ◌⊎◌, ℕ, List, [], ◌�
 use Rattle.type_values.specs.declared.types.FlowType.{FlowType}
 use Rattle.alias_table.specs.Aliases.{Key}
 use Rattle.subtyping.specs.Rows.{Pair, ways}
-use Rattle.subtype_rules.specs.Numbered.{ways_of}
+use Rattle.subtyping.specs.Numbered.{ways_of}
 
 -- pairs keep their numbers
 abbrev pub Grows : List Pair → List Pair → Type 0

@@ -5,8 +5,8 @@ use Rattle.type_values.specs.declared.types.FlowType.TheOpen.{Union, Object, Tup
 use Rattle.alias_table.specs.Aliases.{Key}
 use Rattle.subtyping.specs.Rows.{Pair, Level, ways, is_free, does_open, is_leaf, has_no_ways, left_ways, right_ways, part_ways}
 use Rattle.subtyping.specs.Closed.{IsClosed, IsJustified, IsBelow, HasAll}
-use Rattle.subtype_rules.specs.Numbered.{at, every, some, ways_of, Refuted, refutes, AreRefuted, IsKept}
-use Rattle.subtype_rules.specs.Collected.{StandFor, IsHopeless, IsRow, AreRows}
+use Rattle.subtyping.specs.Numbered.{at, every, some, ways_of, Refuted, refutes, AreRefuted, IsKept}
+use Rattle.subtyping.specs.Collected.{StandFor, IsHopeless, IsRow, AreRows}
 
 -- the pairs that are alive
 abbrev living_pairs : List Bool → List Pair → List Pair

@@ -17,7 +17,7 @@ slice_in (u ∷ types) zero t is = let same : u ≡ t = cc in subst (λ v. Conta
 slice_in (u ∷ types) (suc i) t is = there u t types (slice_in types i t is)
 
 -- what a table's names unfold to
-table_has : (table : AliasTable) (key : Key) → Contains (made.Any ∷ table.types) (unfolded table key)
+pub table_has : (table : AliasTable) (key : Key) → Contains (made.Any ∷ table.types) (unfolded table key)
 table_has table key = by_mark (is_marked table key)
   where
     by_type : (o : Option FlowType) → ((t : FlowType) → o ≡ Some t → Contains table.types t) → Contains (made.Any ∷ table.types) (unwrap_or o made.Any)
