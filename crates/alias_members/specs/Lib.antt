@@ -1,1 +1,2 @@
 pub mod MembersIn
+pub mod Rows

@@ -1,5 +1,5 @@
 -- Rows unfold each name to one type, and a table that was built from them tells it.
-use Rattle.std.proofs.Common.{◌≡◌, ◌⊎◌, inl, inr, Bool, true, false, List, Option, Some, None, unwrap_or, if◌then◌else◌, refl, sym, ap, ◌∙◌}
+use Rattle.std.proofs.Common.{◌≡◌, inl, inr, Bool, true, false, List, Option, Some, None, unwrap_or, if◌then◌else◌, refl, sym, ◌∙◌}
 use Rattle.type_values.specs.declared.types.FlowType.{FlowType}
 use Rattle.type_values.specs.declared.types.FlowType as made
 use Rattle.alias_table.specs.Aliases.{Row, Key, alias_type, IsCyclic}

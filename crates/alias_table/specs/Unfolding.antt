@@ -1,5 +1,5 @@
 -- What the rows of aliases unfold a name to.
-use Rattle.std.specs.Prelude.{◌≡◌, List, Option, Some, None}
+use Rattle.std.specs.Prelude.{◌≡◌, List, Some, None}
 use Rattle.type_values.specs.declared.types.FlowType.{FlowType}
 use Rattle.type_values.specs.declared.types.FlowType as made
 use Rattle.alias_table.specs.Aliases.{Row, Key, alias_type, IsCyclic}

@@ -1,5 +1,6 @@
 -- How expressions begin: behind an open bracket they are read as where any expression may begin.
 use Rattle.std.proofs.Common.{◌≡◌, refl, sym, ◌∙◌, ap, ◌⊎◌, inl, inr, ℕ, suc, Bool, true, false, [], ◌∷◌, codes}
+use Rattle.std.proofs.lemmas.Bool.{false≢true}
 use Rattle.js_token.specs.declared.token.TokenKind.{TokenKind}
 use Rattle.js_token.specs.declared.token.TokenKind.TheVariants.{Name, Number, Str, Punct}
 use Rattle.js_token.specs.declared.punct.Punct.{Punct as Mark}
@@ -15,9 +16,6 @@ use Rattle.code_law.specs.Frames.{Row, array_row, call_row, in_parens, in_row, i
 use Rattle.code_law.specs.Expressions.{want_step, row_step, arrow_step}
 use Rattle.code_law.specs.Statements.{StatementWord, plain_word, statement_word}
 use Rattle.code_law.specs.Machine.{step, resume, run}
-
-no_true : {A : Type 0} → false ≡ true → A
-no_true e = absurd (let f : false ≡ true = e in cc)
 
 abbrev pub is_plain : StatementWord → Bool
 is_plain plain_word = true
@@ -84,14 +82,14 @@ mutual
   leads_form (fields fs c) i h = (Punct OpenBrace, inl refl, λ l. (_, refl))
   leads_form (function_ex (function f t n s b)) i h = (Name _, inr refl, λ l. (_, refl))
   leads_form (postfixed e ls) i h = let d = leads e i (h.1) in (d.0, d.1, λ l. d.2 (spell_links ls l))
-  leads_form (prefixed no_prefix e) i h = no_true (h.0)
+  leads_form (prefixed no_prefix e) i h = absurd (false≢true (h.0))
   leads_form (prefixed (more_prefix ps p x) e) i h = let d = leads_prefixes ps x in (d.0, d.1, λ l. d.2 (spell_ex e l))
   leads_form (chain p e os) i h = let d = leads e i (h.1) in (d.0, d.1, λ l. d.2 (spell_operands os l))
   leads_form (cond hs e) i h = let d = leads_arms hs i (h.0) (h.1) in (d.0, d.1, λ l. d.2 (spell_ex e l))
   leads_form (arrow (sig f t ps c r) b) i h = (Punct OpenParen, inl refl, λ l. (_, refl))
 
   leads_arms : (hs : Arms) (i : ℕ) → has_arms hs ≡ true → FitsArms hs i → Leads (spell_arms hs)
-  leads_arms no_arm i n h = no_true n
+  leads_arms no_arm i n h = absurd (false≢true n)
   leads_arms (more_arm no_arm (arm f t a b)) i n h = let d = leads a i (h.1.3) in (d.0, d.1, λ l. d.2 (Punct Question ∷ spell_ex b (Punct Colon ∷ l)))
   leads_arms (more_arm (more_arm hs y) a) i n h = let d = leads_arms (more_arm hs y) i refl (h.0) in (d.0, d.1, λ l. d.2 (spell_arm a l))
 
@@ -106,8 +104,8 @@ begin_with e i h j k a m f l =
     same x r (inr g) d = ap (λ s. resume (λ k m. run (suc j) k m r) s (x ∷ r)) g
 
 row_opens : (r : Row) (es : Exs) (j : ℕ) (k : Stack) (x : TokenKind) → loose x ≡ true → row_step j k r es x ≡ want_step j (in_row r es ∷ k) x
-row_opens (array_row s) es j k (Punct CloseBracket) h = no_true h
-row_opens (call_row b ls s) es j k (Punct CloseParen) h = no_true h
+row_opens (array_row s) es j k (Punct CloseBracket) h = absurd (false≢true h)
+row_opens (call_row b ls s) es j k (Punct CloseParen) h = absurd (false≢true h)
 row_opens (array_row s) es j k x h = refl
 row_opens (call_row b ls s) es j k x h = refl
 
@@ -132,7 +130,7 @@ apart (Punct Question ∷ l) = not_colon (first l)
 apart _ = true
 
 opens_apart : (x : TokenKind) → loose x ≡ true → not_colon x ≡ true
-opens_apart (Punct Colon) h = no_true h
+opens_apart (Punct Colon) h = absurd (false≢true h)
 opens_apart x h = refl
 
 apart_links : (ls : Links) (y : Link) (l : Tokens) → apart (spell_links ls (spell_link y l)) ≡ true
@@ -167,9 +165,9 @@ apart_operands (more_operand os o) u l = apart_operands os o (spell_operand u l)
 -- a variable behind `(`
 paren_name : (n : Bytes) → IsName n → (i : ℕ) (k : Stack) (s : ℕ) (l : Tokens) → apart l ≡ true → run i k (paren_start s) (Name n ∷ l) ≡ run i (in_parens s ∷ k) want (Name n ∷ l)
 paren_name n h i k s [] a = rw h refl
-paren_name n h i k s (Punct Colon ∷ l) a = no_true a
+paren_name n h i k s (Punct Colon ∷ l) a = absurd (false≢true a)
 paren_name n h i k s (Punct Question ∷ []) a = rw h refl
-paren_name n h i k s (Punct Question ∷ Punct Colon ∷ l) a = no_true a
+paren_name n h i k s (Punct Question ∷ Punct Colon ∷ l) a = absurd (false≢true a)
 paren_name n h i k s (Punct Question ∷ x ∷ l) a = rw h refl
 paren_name n h i k s (x ∷ l) a = rw h refl
 
@@ -197,18 +195,18 @@ mutual
   begin_form (elements es c) i h k s l a = refl
   begin_form (fields fs c) i h k s l a = refl
   begin_form (function_ex (function f t n g b)) i h k s l a = refl
-  begin_form (postfixed e no_link) i h k s l a = no_true (h.2)
+  begin_form (postfixed e no_link) i h k s l a = absurd (false≢true (h.2))
   begin_form (postfixed e (more_link ls y)) i h k s l a = begin_parens e i (h.1) k s (spell_links ls (spell_link y l)) (apart_links ls y l)
-  begin_form (prefixed no_prefix e) i h k s l a = no_true (h.0)
+  begin_form (prefixed no_prefix e) i h k s l a = absurd (false≢true (h.0))
   begin_form (prefixed (more_prefix ps p x) e) i h k s l a = begin_prefixes ps x i k s (spell_ex e l)
-  begin_form (chain p e no_operand) i h k s l a = no_true (h.2)
+  begin_form (chain p e no_operand) i h k s l a = absurd (false≢true (h.2))
   begin_form (chain p e (more_operand os o)) i h k s l a = begin_parens e i (h.1) k s (spell_operands os (spell_operand o l)) (apart_operands os o l)
   begin_form (cond hs e) i h k s l a = begin_arms hs i (h.0) (h.1) k s (spell_ex e l)
   begin_form (arrow (sig f t ps c r) b) i h k s l a = refl
 
   begin_arms : (hs : Arms) (i : ℕ) → has_arms hs ≡ true → FitsArms hs i → (k : Stack) (s : ℕ) (l : Tokens) →
       run i k (paren_start s) (spell_arms hs l) ≡ run i (in_parens s ∷ k) want (spell_arms hs l)
-  begin_arms no_arm i n h k s l = no_true n
+  begin_arms no_arm i n h k s l = absurd (false≢true n)
   begin_arms (more_arm no_arm (arm f t a b)) i n h k s l =
       let d = leads b (suc (stop_ex a i)) (h.1.4) in
       begin_parens a i (h.1.3) k s (Punct Question ∷ spell_ex b (Punct Colon ∷ l)) (ap (λ l. not_colon (first l)) ((d.2 (Punct Colon ∷ l)).1) ∙ opens_apart (d.0) (starts_loose (d.0) (d.1)))

@@ -1,5 +1,6 @@
 -- Each expression's spelling is read as that expression, where a token follows that doesn't go on it.
 use Rattle.std.proofs.Common.{◌≡◌, refl, sym, ◌∙◌, ap, ap₂, ℕ, suc, ◌≤◌, Bool, true, false, Option, Some, None, [], ◌∷◌, codes, arith}
+use Rattle.std.proofs.lemmas.Bool.{false≢true, true≢false}
 use Rattle.js_token.specs.declared.token.TokenKind.{TokenKind}
 use Rattle.js_token.specs.declared.token.TokenKind.TheVariants.{Name, Punct}
 use Rattle.js_token.specs.declared.punct.Punct.TheVariants.{OpenBrace, OpenParen, Semicolon, Assign, CloseBrace, CloseParen, CloseBracket, Comma, Colon, Question}
@@ -17,15 +18,12 @@ use Rattle.code_law.specs.Bodies.{give_body, give_declaration, give_function, en
 use Rattle.code_law.specs.Ladder.{Joint, applies, casts, joins, ends, turn, joint_level, ask, begin, open_chain, join, settle_at, settle, close_row, close_fields, after_field}
 use Rattle.code_law.specs.Expressions.{marked, linked, field_step}
 use Rattle.code_law.specs.Statements.{simple_step, statements_step, is_else, branch_step}
-use Rattle.code_law.specs.Machine.{step, whole, resume, run, read_expression, go_on}
+use Rattle.code_law.specs.Machine.{step, resume, run, go_on}
 use Rattle.code_law.proofs.Ladder.{hold, tier, tier_ex, floor, rank_below, rank_most, tier_least, tier_of, turn_mark, open_first, open_more, join_opens, chain_ends, prefix_ends, last_ends, arrow_ends, ask_first, may_ask, arrow_stands, links_end, type_ends}
 use Rattle.code_law.proofs.Embedded.{c_type}
 use Rattle.code_law.proofs.Begins.{begin_item, begin_body, begin_parens}
 use Rattle.code_law.proofs.Parameters.{c_sig, c_function_sig}
 use Rattle.code_law.proofs.Statements.{TakesSimple, takes_statement, begins_simple, TakesBody, body_taken, else_taken, begin_evaluate, begin_return, stmt_else}
-
-no_true : {A : Type 0} → false ≡ true → A
-no_true e = absurd (let f : false ≡ true = e in cc)
 
 pub run-then : (i : ℕ) (k : Stack) (m : Mode) (l : Tokens) → run i k m l ≡ go_on i (step i k m (first l)) l
 run-then i k m [] = refl
@@ -160,13 +158,13 @@ ends_field _ = false
 ends-turn : (x : TokenKind) → ends_field x ≡ true → turn x ≡ ends
 ends-turn (Punct Comma) h = refl
 ends-turn (Punct CloseBrace) h = refl
-ends-turn x h = no_true h
+ends-turn x h = absurd (false≢true h)
 
 ends-hold : (x : TokenKind) → ends_field x ≡ true → (n : ℕ) → hold (turn x) ≤ n
 ends-hold x h n = rw (ends-turn x h) (let z : 0 ≤ n = omega arith in z)
 
 name_ends : (x : TokenKind) → ends_field x ≡ true → (i : ℕ) (k : Stack) (s : ℕ) (fs : Fields) (a : ℕ) (n : Bytes) → IsName n → field_step i k s fs a n x ≡ after_field i k s (more_field fs (field a i (shorthand n))) x
-name_ends (Punct Colon) e i k s fs a n h = no_true e
+name_ends (Punct Colon) e i k s fs a n h = absurd (false≢true e)
 name_ends x e i k s fs a n h = rw h refl
 
 key_read : (y : Key) (i : ℕ) → FitsKey y i → (k : Stack) (s : ℕ) (fs : Fields) (l : Tokens) → run i k (fields_start s fs) (spell_key y (Punct Colon ∷ l)) ≡ run (suc (suc i)) (in_field s fs y ∷ k) want l
@@ -191,7 +189,7 @@ ask_arms no_arm s i k e f r h = ask_first i k e f r ∙ ap (λ s. go (in_branch 
 ask_arms (more_arm hs a) s i k e f r h = may_ask k s (more_arm hs a) e r
 
 last_tier : (e : Ex) → is_cond e ≡ false → 1 ≤ tier_ex e
-last_tier (ex f t (cond hs e)) h = absurd (let g : true ≡ false = h in cc)
+last_tier (ex f t (cond hs e)) h = absurd (true≢false h)
 last_tier (ex f t x) h = omega arith
 
 start-sig : (g : Sig) (i : ℕ) → FitsSig g i → start_sig g ≡ i
@@ -214,7 +212,7 @@ is_a_value is_value = true
 is_a_value q = false
 
 pub value_statement : is_value ≡ is_statement → ⊥
-value_statement e = let f : true ≡ false = ap is_a_value e in cc
+value_statement e = true≢false (ap is_a_value e)
 
 same_function : (n : Option Bytes) (g : Sig) (f a t e : ℕ) (b d : Block) → f ≡ a → t ≡ e → b ≡ d → function f t n g b ≡ function a e n g d
 same_function n g f a t e b d p q r = cc
@@ -268,7 +266,7 @@ left : (x : SimpleForm) → is_jump x ≡ true → (i : ℕ) (a : Stack) (c : Co
     resume (λ k m. run (suc i) k m l) (simple_step i a (Name (jump_word x))) (Name (jump_word x) ∷ l) ≡ run (suc i) a (after_simple (simple i (suc i) x)) l
 left break_loop j i a c u h l = rw (ap within_loop u ∙ loop_is c h) refl
 left continue_loop j i a c u h l = rw (ap within_loop u ∙ loop_is c h) refl
-left x j i a c u h l = no_true j
+left x j i a c u h l = absurd (false≢true j)
 
 -- what a further branch is read under, and by which mode
 abbrev under : Branches → ℕ → Stmts → Stack → Stack
@@ -312,23 +310,23 @@ mutual
       λ l. let j = stop_function (function f t n g b) i in
       c_function (function f t n g b) i h is_value (λ e. absurd (value_statement e)) k l k (after_links (ex i j (function_ex (function f t n g b))) no_link)
       (ap (λ p. go k (after_links (ex p j (function_ex (function f t n g b))) no_link)) (h.0))
-  c_form (postfixed e no_link) i h k a = no_true (h.2)
+  c_form (postfixed e no_link) i h k a = absurd (false≢true (h.2))
   c_form (postfixed e (more_link ls y)) i h k a =
       λ l s. let j = stop_links (more_link ls y) (stop_ex e i) in
       c_primary e i (h.1) k (let t = tier_least e in let r : 10 ≤ ex_rank e = h.0 in omega arith) (h.0) (spell_links (more_link ls y) l)
       ∙ c_links (more_link ls y) (stop_ex e i) (h.3) e k l
       ∙ links_settle j k e (more_link ls y) l (omega arith) ∙ ap (λ f. go_on j (settle j k (ex f j (postfixed e (more_link ls y))) (first l)) l) (start-of e i (h.1))
-  c_form (prefixed no_prefix e) i h k a = no_true (h.0)
+  c_form (prefixed no_prefix e) i h k a = absurd (false≢true (h.0))
   c_form (prefixed (more_prefix ps p x) e) i h k a =
       λ l s. let q = more_prefix ps p x in let j = stop_prefixes q i in let z = stop_ex e j in let r : 9 ≤ ex_rank e = h.2 in
       prefixes_run q i (h.1) k a (spell_ex e l)
       ∙ c_ex e j (h.3) (in_prefix i q ∷ k) (let t = tier_of e (omega arith) in omega arith) l (omega arith)
       ∙ ap (λ s. go_on z s l) (prefix_ends z k i q e (turn (first l)) (first l))
-  c_form (chain p e no_operand) i h k a = no_true (h.2)
+  c_form (chain p e no_operand) i h k a = absurd (false≢true (h.2))
   c_form (chain p e (more_operand os o)) i h k a =
       λ l s. c_operands (more_operand os o) p e i k (h.0) (start-of e i (h.1))
       (c_ex e i (h.1) k (let t = tier_least e in let r = h.0 in let q = rank_below p in omega arith)) (h.3) a l (omega arith)
-  c_form (cond no_arm e) i h k a = no_true (h.0)
+  c_form (cond no_arm e) i h k a = absurd (false≢true (h.0))
   c_form (cond (more_arm hs y) e) i h k a =
       λ l s. let q = more_arm hs y in let j = stop_arms q i in let z = stop_ex e j in
       c_arms (more_arm hs y) i (h.1) k a (spell_ex e l) ∙ c_ex e j (h.3) (in_last i q ∷ k) (last_tier e (h.2)) l (omega arith)
@@ -361,7 +359,7 @@ mutual
 
   c_row : (es : Exs) (c : Bool) (r : Row) (i : ℕ) → FitsExs es i → CommaFits c (has_exs es) → (k : Stack) (l : Tokens) →
       run i k (row_start r no_ex) (spell_exs es (opt c (Punct Comma) (closer r ∷ l))) ≡ run (suc (bump c (stop_exs es i))) k (close_row (bump c (stop_exs es i)) r es c) l
-  c_row no_ex true r i h c k l = no_true (c refl)
+  c_row no_ex true r i h c k l = absurd (false≢true (c refl))
   c_row no_ex false r i h c k l = row_close r i k no_ex l
   c_row (more_ex es e) true r i h c k l =
       let j = stop_listed es i in let z = stop_ex e j in let m = Punct Comma ∷ closer r ∷ l in
@@ -401,7 +399,7 @@ mutual
 
   c_fields : (fs : Fields) (c : Bool) (s i : ℕ) → FitsFields fs i → CommaFits c (has_fields fs) → (k : Stack) (l : Tokens) →
       run i k (fields_start s no_field) (spell_fields fs (opt c (Punct Comma) (Punct CloseBrace ∷ l))) ≡ run (suc (bump c (stop_fields fs i))) k (close_fields (bump c (stop_fields fs i)) s fs c) l
-  c_fields no_field true s i h c k l = no_true (c refl)
+  c_fields no_field true s i h c k l = absurd (false≢true (c refl))
   c_fields no_field false s i h c k l = refl
   c_fields (more_field fs y) true s i h c k l =
       let m = Punct Comma ∷ Punct CloseBrace ∷ l in c_entries fs s i (h.0) k (spell_field y m) ∙ c_field y (stop_entries fs i) (h.1) fs s k m refl
@@ -525,7 +523,7 @@ mutual
 
   c_branches : (bs : Branches) (c : Context) (i : ℕ) → FitsBranches bs c i → has_branches bs ≡ true → (s : ℕ) (ss : Stmts) (k : Stack) → context k ≡ c → (l : Tokens) →
       run i k (statements_start s ss) (spell_branches bs l) ≡ run (stop_branches bs i) (in_block s ss ∷ k) (after_branch i bs) l
-  c_branches no_branch c i h y s ss k u l = no_true y
+  c_branches no_branch c i h y s ss k u l = absurd (false≢true y)
   c_branches (more_branch bs b) c i h y s ss k u l = c_elses bs c i (h.0) s ss k u (spell_branch b l) ∙ c_branch b c (stop_elses bs i) (h.1) bs i refl s ss k u l
 
   c_elses : (bs : Branches) (c : Context) (i : ℕ) → FitsBranches bs c i → (s : ℕ) (ss : Stmts) (k : Stack) → context k ≡ c → (l : Tokens) →
@@ -551,7 +549,3 @@ mutual
   c_else (else_body b) c j h i bs s ss k u l e =
       c_body b c (suc j) h (in_block s ss ∷ k) (after_else i bs) (in_else i bs ∷ in_block s ss ∷ k) u (else_taken (suc j) (in_block s ss ∷ k) i bs)
       k (statements_start s (more_stmt ss (stmt i (stop_body b (suc j)) (branches bs (else_body b))))) refl l
-
--- what a whole expression's spelling is read as
-pub reads_spelling : (e : Ex) (i : ℕ) → FitsEx e i → read_expression i (spell_ex e []) ≡ whole e []
-reads_spelling e i h = c_ex e i h [] (omega arith) [] (omega arith)

@@ -6,7 +6,8 @@ use Rattle.js_grammar.specs.TypeSpelling.{Tokens, spell}
 use Rattle.js_grammar.specs.TypeFits.{stop, Fits}
 use Rattle.js_grammar.specs.Machine as ty
 use Rattle.js_grammar.specs.Machine.{first, end_mark}
-use Rattle.js_grammar.proofs.Complete.{goes_on, reads_spelling}
+use Rattle.js_grammar.specs.GoesOn.{goes_on_type}
+use Rattle.js_grammar.proofs.Complete.{reads_spelling}
 use Rattle.js_grammar.proofs.Kept.{FitsMode, FitsStep, kept}
 use Rattle.code_law.specs.Frames.{Waiting, Stack, typing}
 use Rattle.code_law.specs.Expressions.{after_type, takes_function, inside}
@@ -36,6 +37,6 @@ module _ (z : ℕ) (k : Stack) (w : Waiting) where
   embedded (x ∷ l) i a m h = token_case i x l (ty.step (takes_function w) i a m x) (kept (takes_function w) z a m i x h) (λ a m g. embedded l (suc i) a m g)
 
   -- a type's spelling is read as that type
-  pub c_type : (t : Ty) → Fits t z → (has_fun t ≡ true → takes_function w ≡ true) → (l : Tokens) → goes_on (takes_function w) (first l) ≡ false →
+  pub c_type : (t : Ty) → Fits t z → (has_fun t ≡ true → takes_function w ≡ true) → (l : Tokens) → goes_on_type (takes_function w) (first l) ≡ false →
       run z k (typing w [] ty.want) (spell t l) ≡ go_on (stop t z) (after_type (stop t z) k w t (first l)) l
   c_type t h a l e = embedded (spell t l) z [] ty.want refl ∙ ap continued (reads_spelling (takes_function w) t z h a l e)

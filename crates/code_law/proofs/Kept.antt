@@ -2,14 +2,14 @@
 use Rattle.std.proofs.Common.{ℕ, ◌∷◌}
 use Rattle.js_token.specs.declared.token.TokenKind.{TokenKind}
 use Rattle.js_grammar.specs.TypeSpelling.{Tokens}
-use Rattle.code_law.specs.Frames.{Mode, want, after_links, after_dot, row_start, fields_start, after_word, after_key, paren_start, paren_word, paren_mark, function_start, parameters_open, parameter_start, parameter_word, parameter_mark, parameters_end, arrow_start, settled, statements_start, after_binder, after_declared, after_return, after_simple, after_if, after_while, want_body, after_branch, after_else, items_start, after_type_word, after_type_as, after_alias, after_import, import_word, import_comma, names_start, after_name, after_as, after_pair, after_list, after_from, after_export, export_type, after_exports, exports_from, after_default, item_end, typing, Stack}
+use Rattle.code_law.specs.Frames.{Mode, want, after_links, after_dot, row_start, fields_start, after_word, after_key, paren_start, paren_word, paren_mark, function_start, parameters_open, parameter_start, parameter_word, parameter_mark, parameters_end, arrow_start, settled, statements_start, after_binder, after_declared, after_return, after_simple, after_if, after_while, want_body, after_branch, after_else, items_start, after_type_word, after_alias, after_import, import_word, import_comma, names_start, after_name, after_as, after_pair, after_list, after_from, after_export, export_type, after_exports, exports_from, after_default, item_end, typing, Stack}
 use Rattle.code_law.specs.Machine.{step}
 use Rattle.code_law.proofs.States.{spell_mode, FitsMode, FitsStep, Stands}
 use Rattle.code_law.proofs.KeptLadder.{k_settle}
 use Rattle.code_law.proofs.KeptExpressions.{k_want, k_links, k_dot, k_row, k_fields, k_field_word, k_key, k_paren, k_paren_word, k_paren_mark, k_arrow}
 use Rattle.code_law.proofs.KeptParameters.{k_open, k_function_start, k_parameter, k_parameter_word, k_parameter_mark, k_end, k_typing}
 use Rattle.code_law.proofs.KeptStatements.{k_statements, k_return, k_semicolon, k_binder, k_declared, k_if_open, k_while_open, k_body_start, k_branch, k_else, body_block, body_simple}
-use Rattle.code_law.proofs.KeptModules.{k_items, k_type_word, k_type_as, k_alias, k_import, k_import_word, k_import_comma, k_names, k_name, k_as, k_pair, k_from, k_source, k_export, k_export_type, k_exports, k_exports_from, k_default, k_end_item}
+use Rattle.code_law.proofs.KeptModules.{k_items, k_type_word, k_alias, k_import, k_import_word, k_import_comma, k_names, k_name, k_as, k_pair, k_from, k_source, k_export, k_export_type, k_exports, k_exports_from, k_default, k_end_item}
 
 -- The token x at i comes behind the tokens q; p are q and it.
 module _ (q p : Tokens) (i : ℕ) (k : Stack) (x : TokenKind) where
@@ -44,7 +44,6 @@ module _ (q p : Tokens) (i : ℕ) (k : Stack) (x : TokenKind) where
   kept (after_else z bs) h r s = k_else q p i k z bs h x s
   kept (items_start is) h r s = k_items q p i k is h x r s
   kept (after_type_word a is) h r s = k_type_word q p i k a is h x s
-  kept (after_type_as a d is) h r s = k_type_as q p i k a d is h x s
   kept (after_alias a w is b n) h r s = k_alias q p i k a w is b n h x s
   kept (after_import a is) h r s = k_import q p i k a is h x s
   kept (import_word a is n) h r s = k_import_word q p i k a is n h x s

@@ -2,6 +2,7 @@
 use Rattle.std.proofs.Common.{◌≡◌, refl, ◌∙◌, ap, subst, ℕ, suc, ◌≤◌, Bool, true, false, ◌∷◌, codes, arith, if◌then◌else◌}
 use Rattle.std.specs.Str.{bytes_eq}
 use Rattle.std.proofs.lemmas.Slice.Eq.{bytes_eq-Decides}
+use Rattle.std.proofs.lemmas.Bool.{false≢true}
 use Rattle.js_token.specs.Words.{is_reserved}
 use Rattle.js_token.specs.declared.token.TokenKind.{TokenKind}
 use Rattle.js_token.specs.declared.token.TokenKind.TheVariants.{Name, Number, Str, Punct}
@@ -22,9 +23,6 @@ use Rattle.code_law.proofs.States.{spell_mode, takes_ex, FitsLinked, FitsStack, 
 use Rattle.code_law.proofs.Stands.{stands_moved}
 use Rattle.code_law.proofs.KeptBodies.{k_primary, k_if}
 use Rattle.code_law.proofs.KeptLadder.{link_more, k_after_field, k_settle}
-
-no_true : {A : Type 0} → false ≡ true → A
-no_true e = absurd (let f : false ≡ true = e in cc)
 
 -- what a word is where an expression may begin
 abbrev IsValue : ValueWord → Bytes → Type 0
@@ -66,8 +64,8 @@ floor_most (in_chain s v f os d o ∷ k) = let h = operand_most v in omega arith
 floor_most k = omega arith
 
 arrow_floor : (k : Stack) → may_arrow k ≡ true → floor k ≤ 1
-arrow_floor (in_prefix s ps ∷ k) e = no_true e
-arrow_floor (in_chain s v f os d o ∷ k) e = no_true e
+arrow_floor (in_prefix s ps ∷ k) e = absurd (false≢true e)
+arrow_floor (in_chain s v f os d o ∷ k) e = absurd (false≢true e)
 arrow_floor k e = omega arith
 
 linked_whole : (i : ℕ) (k : Stack) (b : Ex) (ls : Links) → FitsStack k (start_ex b) → takes_ex k ≡ true → FitsLinked b ls i → FitsWhole k (linked i b ls) i
@@ -170,7 +168,7 @@ module _ (q p : Tokens) (i : ℕ) where
     k_key z fs y h _ s = tt
 
     pub k_paren : (z : ℕ) → FitsMode k (paren_start z) i → (x : TokenKind) → Stands p k (λ l. spell_mode (paren_start z) (x ∷ l)) → FitsStep q p i (paren_step i k z x)
-    k_paren z h (Punct CloseParen) s = k_if q p (may_arrow k) i _ (λ m. ((((h.0, h.1, m), tt, tt), (λ e. no_true e), ap suc (h.2)), s))
+    k_paren z h (Punct CloseParen) s = k_if q p (may_arrow k) i _ (λ m. ((((h.0, h.1, m), tt, tt), (λ e. absurd (false≢true e)), ap suc (h.2)), s))
     k_paren z h (Name n) s = by (is_reserved n) refl
       where
         by : (b : Bool) → is_reserved n ≡ b → FitsStep q p i (if b then want_step i (in_parens z ∷ k) (Name n) else go k (paren_word z i n))

@@ -3,6 +3,7 @@ use Rattle.std.proofs.Common.{◌≡◌, refl, sym, ◌∙◌, ap, subst, ℕ, s
 use Rattle.std.specs.Str.{bytes_eq}
 use Rattle.std.proofs.lemmas.Bool.Decides.{nat_tests}
 use Rattle.std.proofs.lemmas.Slice.Eq.{bytes_eq-Decides}
+use Rattle.std.proofs.lemmas.Bool.{false≢true}
 use Rattle.js_token.specs.declared.token.TokenKind.{TokenKind}
 use Rattle.js_token.specs.declared.token.TokenKind.TheVariants.{Name, Punct}
 use Rattle.js_token.specs.declared.punct.Punct.TheVariants.{OpenBrace, CloseBrace, CloseParen, CloseBracket, Comma, Semicolon, Colon, Question, QuestionQuestion, StrictEqual, StrictNotEqual, LooseEqual, LooseNotEqual, LessThan, GreaterThan, LessOrEqual, GreaterOrEqual, Plus, Minus, Star, Slash, Percent, AndAnd, OrOr}
@@ -21,9 +22,6 @@ use Rattle.code_law.proofs.Typing.{typing_at}
 use Rattle.code_law.proofs.States.{as_token, spell_row, not_brace, not_function, takes_ex, start_row, place_row, FitsLinked, FitsRow, FitsHead, FitsStack, FitsWhole, FitsStep, Stands}
 use Rattle.code_law.proofs.Stands.{begins_not}
 use Rattle.code_law.proofs.KeptBodies.{start-of, k_primary, k_if, k_item, k_declaration, k_end_value}
-
-no_true : {A : Type 0} → false ≡ true → A
-no_true e = absurd (let f : false ≡ true = e in cc)
 
 -- ranks
 
@@ -180,9 +178,9 @@ module _ (q p : Tokens) where
   k_after_item : (i : ℕ) (k : Stack) (r : Row) (es : Exs) (e : Ex) → FitsStack k (start_row r) → FitsRow r k → FitsExs (more_ex es e) (suc (place_row r)) → i ≡ stop_exs (more_ex es e) (suc (place_row r)) → (x : TokenKind) →
       Stands p k (λ l. spell_row r (spell_exs (more_ex es e) (x ∷ l))) → Keeps i (after_item i k r (more_ex es e) x)
   k_after_item i k (array_row s) es e h g f j (Punct CloseBracket) d =
-      let r : 10 ≤ 10 = omega arith in (k_primary k i s (elements (more_ex es e) false) h g r (f, λ c. no_true c) (ap suc j), d)
+      let r : 10 ≤ 10 = omega arith in (k_primary k i s (elements (more_ex es e) false) h g r (f, λ c. absurd (false≢true c)) (ap suc j), d)
   k_after_item i k (call_row b ls s) es e h g f j (Punct CloseParen) d =
-      ((h, g.0, link_more b ls s i (call (more_ex es e) false) (g.1) (f, λ c. no_true c) (ap suc j)), d)
+      ((h, g.0, link_more b ls s i (call (more_ex es e) false) (g.1) (f, λ c. absurd (false≢true c)) (ap suc j)), d)
   k_after_item i k (array_row s) es e h g f j (Punct Comma) d = ((h, g, f, ap suc j), d)
   k_after_item i k (call_row b ls s) es e h g f j (Punct Comma) d = ((h, g, f, ap suc j), d)
   k_after_item i k (array_row s) es e h g f j x d = tt
@@ -191,12 +189,12 @@ module _ (q p : Tokens) where
   pub k_after_field : (i : ℕ) (k : Stack) (s : ℕ) (fs : Fields) (y : Field) → FitsStack k s → takes_ex k ≡ true → FitsFields (more_field fs y) (suc s) → i ≡ stop_fields (more_field fs y) (suc s) → (x : TokenKind) →
       Stands p k (λ l. Punct OpenBrace ∷ spell_fields (more_field fs y) (x ∷ l)) → Keeps i (after_field i k s (more_field fs y) x)
   k_after_field i k s fs y h t f j (Punct CloseBrace) d =
-      let r : 10 ≤ 10 = omega arith in (k_primary k i s (fields (more_field fs y) false) h t r (f, λ c. no_true c) (ap suc j), d)
+      let r : 10 ≤ 10 = omega arith in (k_primary k i s (fields (more_field fs y) false) h t r (f, λ c. absurd (false≢true c)) (ap suc j), d)
   k_after_field i k s fs y h t f j (Punct Comma) d = ((h, t, f, ap suc j), d)
   k_after_field i k s fs y h t f j x d = tt
 
   k_close : (i : ℕ) (k : Stack) (e : Ex) → FitsWhole k e i → (x : TokenKind) → Stands p k (λ l. spell_ex e (x ∷ l)) → Keeps i (close i k e x)
-  k_close i [] e h x d = no_true (h.1)
+  k_close i [] e h x d = absurd (false≢true (h.1))
   k_close i (in_prefix s ps ∷ k) e h x d = k_close i k (ex s i (prefixed ps e)) (prefix_whole i k s ps e h) x (d.1)
   k_close i (in_chain s c f os y o ∷ k) e h x d = k_close i k (ex s i (chain c f (more_operand os (operand y i (right_side o e))))) (chain_whole i k s c f os y o e h) x (d.1)
   k_close i (in_last s hs ∷ k) e h x d = k_close i k (ex s i (cond hs e)) (last_whole i k s hs e h) x (d.1)

@@ -1,7 +1,8 @@
 -- Each step at top level keeps what its state stands for.
-use Rattle.std.proofs.Common.{◌≡◌, refl, sym, ◌∙◌, ap, subst, ℕ, suc, ◌≤◌, arith, Bool, true, false, not, Option, Some, None, List, [], ◌∷◌, ◌++◌, codes, if◌then◌else◌}
+use Rattle.std.proofs.Common.{◌≡◌, refl, sym, ◌∙◌, ap, subst, ℕ, suc, ◌≤◌, arith, ◌&&◌, Bool, true, false, not, Option, Some, None, List, [], ◌∷◌, ◌++◌, codes, if◌then◌else◌}
 use Rattle.std.specs.Str.{bytes_eq}
 use Rattle.std.proofs.lemmas.Slice.Eq.{bytes_eq-Decides}
+use Rattle.std.proofs.lemmas.Bool.{false≢true}
 use Rattle.js_token.specs.Words.{is_reserved}
 use Rattle.js_token.specs.declared.token.TokenKind.{TokenKind}
 use Rattle.js_token.specs.declared.token.TokenKind.TheVariants.{Name, Str, Punct}
@@ -9,26 +10,26 @@ use Rattle.js_token.specs.declared.punct.Punct.TheVariants.{OpenBrace, CloseBrac
 use Rattle.js_grammar.specs.Words.{Bytes, IsName}
 use Rattle.js_grammar.specs.TypeSpelling.{Tokens, opt}
 use Rattle.js_grammar.specs.TypeFits.{bump, CommaFits}
-use Rattle.js_grammar.specs.Machine as ty
-use Rattle.js_grammar.specs.Code.{ex, variable, no_link, no_operand}
-use Rattle.js_grammar.specs.Items.{Importeds, no_imported, more_imported, import_list, Exporteds, no_exported, more_exported, exported, ExportList, export_list, ImportForm, import_default, import_both, import_names, import_types, import_only, export_names, export_from, ItemForm, imports, exports, Items, has_importeds, has_exporteds, base_names, IsNoneOf, AreNames, AreLocal, from_word, type_word, spell_items, spell_item_form, spell_import, spell_export_list, stop_import, stop_importeds, stop_exporteds, FitsImporteds, FitsImportList, FitsExporteds, FitsExportList}
-use Rattle.code_law.specs.Frames.{Wrap, plain_item, exported_item, Opening, opens_names, opens_both, opens_types, opens_exports, Names, importing, exporting, Listing, listing, cast_type, in_simple, in_item, in_default, evaluates, after_type_word, after_type_as, after_alias, after_import, import_word, import_comma, names_start, after_name, after_as, after_pair, after_list, after_from, after_export, export_type, after_exports, exports_from, after_default, item_end, Stack, Step, fault, go}
+use Rattle.js_grammar.specs.Code.{Binder, const, let_word, ex, variable, no_link}
+use Rattle.js_grammar.specs.CodeSpelling.{binder_word}
+use Rattle.js_grammar.specs.Items.{Importeds, no_imported, more_imported, import_list, Exporteds, no_exported, more_exported, exported, ExportList, export_list, ImportForm, import_default, import_both, import_names, import_types, import_only, export_names, export_from, ItemForm, imports, exports, Items, has_importeds, has_exporteds, base_names, IsNoneOf, AreNames, AreLocal, from_word, type_word, spell_items, spell_item_form, spell_import, spell_export_list, stop_import, stop_importeds, stop_exporteds, FitsImporteds, FitsImportList, FitsExporteds, FitsExportList, begins_word, begins_alias}
+use Rattle.code_law.specs.Frames.{Wrap, plain_item, exported_item, Opening, opens_names, opens_both, opens_types, opens_exports, Names, importing, exporting, Listing, listing, in_simple, in_item, in_default, evaluates, after_type_word, after_alias, after_import, import_word, import_comma, names_start, after_name, after_as, after_pair, after_list, after_from, after_export, export_type, after_exports, exports_from, after_default, item_end, Stack, Step, fault, go}
 use Rattle.code_law.specs.Expressions.{want_step}
 use Rattle.code_law.specs.Statements.{StatementWord, binds, begins_function, begins_import, begins_export, plain_word, statement_word, simple_word}
-use Rattle.code_law.specs.Modules.{top_word, items_step, is_none_of, may_alias, type_word_step, type_as_step, alias_step, import_step, from_step, import_word_step, import_comma_step, add_name, has_names, may_name, end_names, names_step, pair_step, name_step, as_step, source_step, end_item, export_word, export_step, export_type_step, are_names, are_local, exports_step, exports_from_step, default_word, default_step}
+use Rattle.code_law.specs.Modules.{top_word, items_step, is_none_of, may_alias, type_word_step, alias_step, import_step, from_step, import_word_step, import_comma_step, add_name, has_names, may_name, end_names, names_step, pair_step, name_step, as_step, source_step, end_item, export_word, export_step, export_type_step, are_names, are_local, exports_step, exports_from_step, default_word, default_step}
 use Rattle.code_law.proofs.StatementWords.{IsStatement, statement_is}
 use Rattle.code_law.proofs.Stands.{stands_moved}
 use Rattle.code_law.proofs.Typing.{typing_at}
 use Rattle.code_law.proofs.KeptBodies.{k_item}
 use Rattle.code_law.proofs.KeptExpressions.{k_want, k_links}
-use Rattle.code_law.proofs.KeptParameters.{k_typing}
 use Rattle.code_law.proofs.States.{import_token, export_token, default_token, as_token, spell_listing, spell_pair, imports_names, spell_opening, spell_begun_names, spell_names, spell_before, spell_short, spell_mode, starts_plain, not_function_word, is_plain_word, Stands, IsBottom, FitsTop, FitsStack, FitsNames, FitsOpening, FitsListing, takes_simple, stop_names, stop_begun_names, begun_end, names_end, stop_before, is_short, FitsMode, FitsStep}
-
-no_true : {A : Type 0} → false ≡ true → A
-no_true e = absurd (let f : false ≡ true = e in cc)
 
 stands_same : (q : Tokens) (k : Stack) (s r : Tokens → Tokens) → ((l : Tokens) → s l ≡ r l) → Stands q k s → Stands q k r
 stands_same q k s r e h = stands_moved q k s r (λ l. sym (e l)) h
+
+binder_apart : (w : Binder) (l : Tokens) → begins_alias (Name (binder_word w) ∷ l) ≡ false
+binder_apart const l = refl
+binder_apart let_word l = refl
 
 at_bottom : (q : Tokens) (k : Stack) (s : Tokens → Tokens) → IsBottom k → Stands q k s → (l : Tokens) → s l ≡ q ++ l
 at_bottom q [] s b h = h
@@ -46,14 +47,14 @@ none_of [] n e = tt
 none_of (w ∷ ws) n e = by (bytes_eq n w) refl (none_of ws n) e
   where
     by : (b : Bool) → bytes_eq n w ≡ b → (is_none_of ws n ≡ true → IsNoneOf ws n) → (if b then false else is_none_of ws n) ≡ true → IsNoneOf (w ∷ ws) n
-    by true h r e = no_true e
-    by false h r e = ((λ d. no_true (sym h ∙ (bytes_eq-Decides n w).1 d)), r e)
+    by true h r e = absurd (false≢true e)
+    by false h r e = ((λ d. absurd (false≢true (sym h ∙ (bytes_eq-Decides n w).1 d))), r e)
 
 alias_name : (n : Bytes) → may_alias n ≡ true → IsName n × IsNoneOf base_names n
 alias_name n e = by (is_reserved n) refl e
   where
     by : (b : Bool) → is_reserved n ≡ b → (if b then false else is_none_of base_names n) ≡ true → IsName n × IsNoneOf base_names n
-    by true h e = no_true e
+    by true h e = absurd (false≢true e)
     by false h e = (h, none_of base_names n e)
 
 names_are : (ns : Exporteds) → are_names ns ≡ true → AreNames ns
@@ -61,14 +62,14 @@ names_are no_exported e = tt
 names_are (more_exported ns (exported f t n w)) e = by (is_reserved n) refl (names_are ns) e
   where
     by : (b : Bool) → is_reserved n ≡ b → (are_names ns ≡ true → AreNames ns) → (if b then false else are_names ns) ≡ true → AreNames ns × IsName n
-    by true h r e = no_true e
+    by true h r e = absurd (false≢true e)
     by false h r e = (r e, h)
 
 local_is : (ns : ExportList) → are_local ns ≡ true → AreLocal ns
 local_is (export_list f t ns c) e = names_are ns e
 
 not_reserved : (b : Bool) → not b ≡ true → b ≡ false
-not_reserved true e = no_true e
+not_reserved true e = absurd (false≢true e)
 not_reserved false e = refl
 
 stop_from : (m : ImportForm) → imports_names m ≡ true → (j : ℕ) → stop_import m j ≡ suc (stop_before m j)
@@ -76,20 +77,20 @@ stop_from (import_default n) e j = refl
 stop_from (import_both n ns) e j = refl
 stop_from (import_names ns) e j = refl
 stop_from (import_types ns) e j = refl
-stop_from import_only e j = no_true e
+stop_from import_only e j = absurd (false≢true e)
 
 spell_from : (m : ImportForm) → imports_names m ≡ true → (l : Tokens) → spell_before m (from_word ∷ l) ≡ spell_import m l
 spell_from (import_default n) e l = refl
 spell_from (import_both n ns) e l = refl
 spell_from (import_names ns) e l = refl
 spell_from (import_types ns) e l = refl
-spell_from import_only e l = no_true e
+spell_from import_only e l = absurd (false≢true e)
 
 spell_ended : (y : ItemForm) → is_short y ≡ true → (l : Tokens) → spell_short y (Punct Semicolon ∷ l) ≡ spell_item_form y l
 spell_ended (imports m s) e l = refl
 spell_ended (exports (export_from o ns s)) e l = refl
 spell_ended (exports (export_names o ns)) e l = refl
-spell_ended y e l = no_true e
+spell_ended y e l = absurd (false≢true e)
 
 -- a list in braces, whose place is z
 import_list_fits : (s i : ℕ) (ns : Importeds) (c : Bool) (z : ℕ) → s ≡ z → FitsImporteds ns (suc s) → i ≡ bump c (stop_importeds ns (suc s)) → CommaFits c (has_importeds ns) → FitsImportList (import_list s (suc i) ns c) z
@@ -224,11 +225,11 @@ module _ (q p : Tokens) (i : ℕ) (k : Stack) where
   k_names r h _ s = tt
 
   pub k_pair : (r : Listing) → FitsMode k (after_pair r) i → (x : TokenKind) → Stands p k (λ l. spell_pair r (x ∷ l)) → FitsStep q p i (pair_step i k r x)
-  k_pair (listing a is o z ns) h (Punct CloseBrace) s = k_end_names a is o z ns false (h.0.0) (h.0.1) (h.0.2) (h.2) (λ e. no_true e) s
+  k_pair (listing a is o z ns) h (Punct CloseBrace) s = k_end_names a is o z ns false (h.0.0) (h.0.1) (h.0.2) (h.2) (λ e. absurd (false≢true e)) s
   k_pair (listing a is o z (importing (more_imported ns n))) h (Punct Comma) s = ((h.0, ap suc (h.2)), s)
-  k_pair (listing a is o z (importing no_imported)) h (Punct Comma) s = no_true (h.1)
+  k_pair (listing a is o z (importing no_imported)) h (Punct Comma) s = absurd (false≢true (h.1))
   k_pair (listing a is o z (exporting (more_exported ns n))) h (Punct Comma) s = ((h.0, ap suc (h.2)), s)
-  k_pair (listing a is o z (exporting no_exported)) h (Punct Comma) s = no_true (h.1)
+  k_pair (listing a is o z (exporting no_exported)) h (Punct Comma) s = absurd (false≢true (h.1))
   k_pair r h _ s = tt
 
   pub k_name : (r : Listing) (b : ℕ) (n : Bytes) → FitsMode k (after_name r b n) i → (x : TokenKind) → Stands p k (λ l. spell_mode (after_name r b n) (x ∷ l)) → FitsStep q p i (name_step i k r b n x)
@@ -285,46 +286,29 @@ module _ (q p : Tokens) (i : ℕ) (k : Stack) where
   k_plain d x h t e s = k_want q p i (in_simple i evaluates ∷ d) x ((t, refl), h) refl ((x, e, λ l. (l, refl)), s)
 
   k_top_word : (is : Items) → FitsTop k i is → (n : Bytes) (w : StatementWord) → statement_word n ≡ w → IsStatement w n → Stands p k (λ l. spell_items is (Name n ∷ l)) → FitsStep q p i (top_word i k is n w)
-  k_top_word is t n (binds w) d e s = ((((t, refl), stack_bottom k (t.0)), refl, refl), (tt, stands_same p k _ _ (λ l. ap (λ n. spell_items is (Name n ∷ l)) e) s))
-  k_top_word is t n begins_function d e s = ((((t, refl), stack_bottom k (t.0)), refl, refl), (tt, stands_same p k _ _ (λ l. ap (λ n. spell_items is (Name n ∷ l)) e) s))
+  k_top_word is t n (binds w) d e s = ((((t, refl), stack_bottom k (t.0)), refl, refl), (binder_apart w, stands_same p k _ _ (λ l. ap (λ n. spell_items is (Name n ∷ l)) e) s))
+  k_top_word is t n begins_function d e s = ((((t, refl), stack_bottom k (t.0)), refl, refl), (λ l. refl, stands_same p k _ _ (λ l. ap (λ n. spell_items is (Name n ∷ l)) e) s))
   k_top_word is t n begins_import d e s = ((t, refl), stands_same p k _ _ (λ l. ap (λ n. spell_items is (Name n ∷ l)) e) s)
   k_top_word is t n begins_export d e s = ((t, refl), stands_same p k _ _ (λ l. ap (λ n. spell_items is (Name n ∷ l)) e) s)
   k_top_word is t n plain_word d e s = by (bytes_eq n (codes "type")) refl
     where
       by : (b : Bool) → bytes_eq n (codes "type") ≡ b → FitsStep q p i (if b then go k (after_type_word i is) else simple_word i (in_item i plain_item is ∷ k) n plain_word)
       by true e = ((t, refl), stands_same p k _ _ (λ l. ap (λ n. spell_items is (Name n ∷ l)) (sym (is_word n (codes "type") e))) s)
-      by false e = k_plain (in_item i plain_item is ∷ k) (Name n) ((t, refl), stack_bottom k (t.0)) refl (ap is_plain_word d) (tt, s)
+      by false e = k_plain (in_item i plain_item is ∷ k) (Name n) ((t, refl), stack_bottom k (t.0)) refl (ap is_plain_word d) (λ l. ap (λ b. b && begins_word l) e, s)
   k_top_word is t n w d e s = tt
 
   pub k_items : (is : Items) → FitsTop k i is → (x : TokenKind) → Stands q k (spell_items is) → Stands p k (λ l. spell_items is (x ∷ l)) → FitsStep q p i (items_step i k is x)
   k_items is t (Punct PlusPlus) r s = (t.1, t.2, at_bottom q k (spell_items is) (t.0) r)
   k_items is t (Name n) r s = k_top_word is t n (statement_word n) refl (statement_is n) s
   k_items is t (Punct OpenBrace) r s = tt
-  k_items is t x r s = k_plain (in_item i plain_item is ∷ k) x ((t, refl), stack_bottom k (t.0)) refl refl (tt, s)
+  k_items is t x r s = k_plain (in_item i plain_item is ∷ k) x ((t, refl), stack_bottom k (t.0)) refl refl (λ l. refl, s)
 
   pub k_type_word : (a : ℕ) (is : Items) → FitsMode k (after_type_word a is) i → (x : TokenKind) → Stands p k (λ l. spell_mode (after_type_word a is) (x ∷ l)) → FitsStep q p i (type_word_step i k a is x)
-  k_type_word a is h (Name n) s = by (bytes_eq n (codes "as")) refl
-    where
-      by : (b : Bool) → bytes_eq n (codes "as") ≡ b → FitsStep q p i (if b then go k (after_type_as a i is) else if may_alias n then go k (after_alias a plain_item is a n) else fault)
-      by true e = ((h.0, h.1, refl), stands_same p k _ _ (λ l. ap (λ n. spell_items is (type_word ∷ Name n ∷ l)) (sym (is_word n (codes "as") e))) s)
-      by false e = k_if q p i (may_alias n) (go k (after_alias a plain_item is a n)) (λ e. (((h.0, refl, refl, (alias_name n e).0, (alias_name n e).1), ap suc (h.1)), s))
+  k_type_word a is h (Name n) s = k_if q p i (may_alias n) (go k (after_alias a plain_item is a n)) (λ e. (((h.0, refl, refl, (alias_name n e).0, (alias_name n e).1), ap suc (h.1)), s))
   k_type_word a is h x s =
       let r : 10 ≤ 10 = omega arith in
       k_links q p i (in_simple a evaluates ∷ in_item a plain_item is ∷ k) (ex a i (variable (codes "type"))) no_link x ((refl, refl), ((h.0, refl), stack_bottom k (h.0.0))) refl
-      (r, (refl, h.1, refl), tt, h.1) ((type_word, refl, λ l. (x ∷ l, refl)), (tt, s))
-
-  pub k_type_as : (a d : ℕ) (is : Items) → FitsMode k (after_type_as a d is) i → (x : TokenKind) → Stands p k (λ l. spell_mode (after_type_as a d is) (x ∷ l)) → FitsStep q p i (type_as_step i k a d is x)
-  k_type_as a d is h (Punct Assign) s =
-      let n = alias_name (codes "as") refl in
-      let y = typing_at true (suc (suc (suc a))) (suc i) (ap suc (h.2 ∙ ap suc (h.1))) in
-      (((h.0, refl, refl, n.0, n.1), y.0, y.1), s)
-  k_type_as a d is h x s =
-      let b = in_simple a evaluates ∷ in_item a plain_item is ∷ k in
-      let r : 6 ≤ 10 = omega arith in
-      let z : 0 ≤ 6 = omega arith in
-      let y = typing_at true (suc d) i (h.2) in
-      k_typing q p i b (cast_type a (ex a d (variable (codes "type"))) no_operand d) [] ty.want (y.0) x
-      (((refl, refl), ((h.0, refl), stack_bottom k (h.0.0))), refl, z, (r, (refl, h.1, refl), tt, h.1)) (y.1) ((type_word, refl, λ l. (as_token ∷ x ∷ l, refl)), (tt, s))
+      (r, (refl, h.1, refl), tt, h.1) ((type_word, refl, λ l. (x ∷ l, refl)), (λ l. refl, s))
 
   k_default_word : (a : ℕ) (is : Items) → FitsMode k (after_default a is) i → (n : Bytes) (w : StatementWord) → statement_word n ≡ w → IsStatement w n → Stands p k (λ l. spell_mode (after_default a is) (Name n ∷ l)) → FitsStep q p i (default_word i k a is n w)
   k_default_word a is h n begins_function d e s =

@@ -1,5 +1,6 @@
 -- Each step of a signature, and each type that is whole, keep what their states stand for.
 use Rattle.std.proofs.Common.{◌≡◌, refl, ◌∙◌, ap, subst, ℕ, suc, Bool, true, false, Option, Some, None, [], ◌∷◌, ◌++◌, if◌then◌else◌}
+use Rattle.std.proofs.lemmas.Bool.{false≢true}
 use Rattle.js_token.specs.Words.{is_reserved}
 use Rattle.js_token.specs.declared.token.TokenKind.{TokenKind}
 use Rattle.js_token.specs.declared.token.TokenKind.TheVariants.{Name, Punct}
@@ -24,11 +25,8 @@ use Rattle.code_law.proofs.Stands.{stands_moved}
 use Rattle.code_law.proofs.KeptLadder.{k_settle}
 use Rattle.code_law.proofs.KeptBodies.{k_item}
 
-no_true : {A : Type 0} → false ≡ true → A
-no_true e = absurd (let f : false ≡ true = e in cc)
-
 not_true : (b : Bool) → (b ≡ true → false ≡ true) → b ≡ false
-not_true true h = no_true (h refl)
+not_true true h = absurd (false≢true (h refl))
 not_true false h = refl
 
 named_stop : (ps : Parameters) (i : ℕ) → stop_named ps i ≡ bump (has_parameters ps) (stop_parameters ps i)
@@ -93,7 +91,7 @@ module _ (q p : Tokens) (i : ℕ) (k : Stack) where
 
   k_after_parameter : (o : Owner) (z : ℕ) (ps : Parameters) (y : Parameter) → FitsGiven o k z (more_parameter ps y) → i ≡ stop_parameters (more_parameter ps y) (suc z) → (x : TokenKind) →
       Stands p k (λ l. spell_owner o (Punct OpenParen ∷ spell_parameters (more_parameter ps y) (x ∷ l))) → FitsStep q p i (after_parameter k o z (more_parameter ps y) x)
-  k_after_parameter o z ps y h j (Punct CloseParen) s = ((h, (λ e. no_true e), ap suc j), s)
+  k_after_parameter o z ps y h j (Punct CloseParen) s = ((h, (λ e. absurd (false≢true e)), ap suc j), s)
   k_after_parameter o z ps y h j (Punct Comma) s = ((h, ap suc j), s)
   k_after_parameter o z ps y h j _ s = tt
 
@@ -103,7 +101,7 @@ module _ (q p : Tokens) (i : ℕ) (k : Stack) where
   k_parameter_word o z ps a n h (Punct Question) s = ((h.0, h.1, h.2, ap suc (h.3)), s)
   k_parameter_word of_arrow z ps a n h _ s = tt
   k_parameter_word (of_function c f m) z ps a n h x s =
-      k_after_parameter (of_function c f m) z ps (parameter a i n false None) (h.0.0, (h.0.1, (h.1, h.3 ∙ ap suc (h.1), h.2, (λ e. no_true e), tt)), tt) (h.3 ∙ ap suc (h.1)) x s
+      k_after_parameter (of_function c f m) z ps (parameter a i n false None) (h.0.0, (h.0.1, (h.1, h.3 ∙ ap suc (h.1), h.2, (λ e. absurd (false≢true e)), tt)), tt) (h.3 ∙ ap suc (h.1)) x s
 
   pub k_parameter_mark : (o : Owner) (z : ℕ) (ps : Parameters) (a : ℕ) (n : Bytes) → FitsMode k (parameter_mark o z ps a n) i → (x : TokenKind) → Stands p k (λ l. spell_mode (parameter_mark o z ps a n) (x ∷ l)) →
       FitsStep q p i (parameter_mark_step k o z ps a n x)
@@ -140,7 +138,7 @@ module _ (q p : Tokens) (i : ℕ) (k : Stack) where
   k_after_type (alias_type a exported_item is b n) t h f u j (Punct Semicolon) s =
       let y = alias b i n t in
       k_item q p i k a is (exports (export_alias y)) (h.0) (h.2, j ∙ ap (λ b. stop t (suc (suc (suc b)))) (h.2), h.3, h.4, subst (λ b. Fits t (suc (suc (suc b)))) (h.2) f) (ap suc (j ∙ ap (λ b. stop t (suc (suc (suc b)))) (h.2))) s
-  k_after_type (alias_type a default_item is b n) t h f u j (Punct Semicolon) s = no_true (h.1)
+  k_after_type (alias_type a default_item is b n) t h f u j (Punct Semicolon) s = absurd (false≢true (h.1))
   k_after_type (alias_type a w is b n) t h f u j _ s = tt
   k_after_type (cast_type z e os d) t h f u j x s =
       let v = operand d i (as_type t) in

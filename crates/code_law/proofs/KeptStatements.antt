@@ -1,5 +1,6 @@
 -- Each step of a statement keeps what its state stands for.
 use Rattle.std.proofs.Common.{◌≡◌, refl, sym, ◌∙◌, ap, subst, ℕ, suc, Bool, true, false, ◌∷◌, if◌then◌else◌}
+use Rattle.std.proofs.lemmas.Bool.{false≢true}
 use Rattle.js_token.specs.Words.{is_reserved}
 use Rattle.js_token.specs.declared.token.TokenKind.{TokenKind}
 use Rattle.js_token.specs.declared.token.TokenKind.TheVariants.{Name, Punct}
@@ -19,9 +20,6 @@ use Rattle.code_law.proofs.States.{spell_mode, is_plain_word, takes_body, takes_
 use Rattle.code_law.proofs.KeptExpressions.{k_want}
 use Rattle.code_law.proofs.KeptBodies.{k_if, k_block, k_end_simple}
 
-no_true : {A : Type 0} → false ≡ true → A
-no_true e = absurd (let f : false ≡ true = e in cc)
-
 in_function_of : (c : Context) → within_function c ≡ true → InFunction c
 in_function_of (inside f l) e = e
 
@@ -35,16 +33,16 @@ any_simple k t = t
 pub body_block : (k : Stack) → takes_body k ≡ true → takes_block k ≡ true
 body_block (in_if s bs a e ∷ k) t = refl
 body_block (in_loop s e ∷ k) t = refl
-body_block k t = no_true t
+body_block k t = absurd (false≢true t)
 
 pub body_simple : (k : Stack) → takes_body k ≡ true → takes_simple k false ≡ true
 body_simple (in_if s bs a e ∷ k) t = refl
 body_simple (in_loop s e ∷ k) t = refl
-body_simple k t = no_true t
+body_simple k t = absurd (false≢true t)
 
 is_else_is : (w : StatementWord) → is_else_word w ≡ true → w ≡ else_word
 is_else_is else_word e = refl
-is_else_is w e = no_true e
+is_else_is w e = absurd (false≢true e)
 
 module _ (q p : Tokens) (i : ℕ) where
   k_simple_word : (k : Stack) → FitsStack k i → takes_simple k false ≡ true → (n : Bytes) (w : StatementWord) → statement_word n ≡ w → IsStatement w n → Stands p k (λ l. Name n ∷ l) → FitsStep q p i (simple_word i k n w)
@@ -78,12 +76,12 @@ module _ (q p : Tokens) (i : ℕ) where
   k_statements k z ss h x s = k_simple_step (in_block z ss ∷ k) ((h.1, h.2, h.3), h.0) refl x (tt, s)
 
   pub k_return : (k : Stack) (z : ℕ) → FitsMode k (after_return z) i → (x : TokenKind) → Stands p k (λ l. spell_mode (after_return z) (x ∷ l)) → FitsStep q p i (return_step i k z x)
-  k_return k z h (Punct Semicolon) s = k_end_simple q p i k z return_bare false (h.1) (λ b. no_true b) (h.0) (refl, h.3, h.2) s
+  k_return k z h (Punct Semicolon) s = k_end_simple q p i k z return_bare false (h.1) (λ b. absurd (false≢true b)) (h.0) (refl, h.3, h.2) s
   k_return k z h x s = k_want q p i (in_simple z returns ∷ k) x ((h.1, (h.2, h.3)), h.0) refl (tt, s)
 
   pub k_semicolon : (k : Stack) (y : Simple) → FitsMode k (after_simple y) i → (x : TokenKind) → Stands p k (λ l. spell_mode (after_simple y) (x ∷ l)) → FitsStep q p i (semicolon_step i k y x)
   k_semicolon k (simple f t y) h (Punct Semicolon) s =
-      subst (λ t. FitsStep q p i (end_simple i k (simple f t y))) (h.3 ∙ sym (h.2.1)) (k_end_simple q p i k f y false (h.1) (λ b. no_true b) (h.0) (refl, h.3, h.2.2) s)
+      subst (λ t. FitsStep q p i (end_simple i k (simple f t y))) (h.3 ∙ sym (h.2.1)) (k_end_simple q p i k f y false (h.1) (λ b. absurd (false≢true b)) (h.0) (refl, h.3, h.2.2) s)
   k_semicolon k y h _ s = tt
 
   pub k_binder : (k : Stack) (z : ℕ) (w : Binder) → FitsMode k (after_binder z w) i → (x : TokenKind) → Stands p k (λ l. spell_mode (after_binder z w) (x ∷ l)) → FitsStep q p i (binder_step k z w x)
@@ -116,13 +114,13 @@ module _ (q p : Tokens) (i : ℕ) where
       let y = stmt z i (branches bs no_else) in
       let e = h.0.0.2 in
       k_statements k a (more_stmt ss y) (h.0.1, h.0.0.0, (h.0.0.1, subst (FitsStmt y (context k)) e (refl, h.4, (h.2, h.3, tt))), h.4 ∙ ap (stop_branches bs) e) x (s.1)
-  k_end_branches k z bs h x s = no_true (h.1)
+  k_end_branches k z bs h x s = absurd (false≢true (h.1))
 
   k_is_else : (k : Stack) (z : ℕ) (bs : Branches) → FitsMode k (after_branch z bs) i → (x : TokenKind) → is_else x ≡ true → Stands p k (λ l. spell_mode (after_branch z bs) (x ∷ l)) → FitsStep q p i (go k (after_else z bs))
-  k_is_else k z no_branch h x e s = no_true (h.2)
+  k_is_else k z no_branch h x e s = absurd (false≢true (h.2))
   k_is_else k z (more_branch bs b) h (Name n) e s =
       ((h.0, h.1, refl, h.3, ap suc (h.4)), subst (λ n. Stands p k (λ l. spell_branches (more_branch bs b) (Name n ∷ l))) (subst (λ w. IsStatement w n) (is_else_is (statement_word n) e) (statement_is n)) s)
-  k_is_else k z bs h x e s = no_true e
+  k_is_else k z bs h x e s = absurd (false≢true e)
 
   pub k_branch : (k : Stack) (z : ℕ) (bs : Branches) → FitsMode k (after_branch z bs) i → (x : TokenKind) → Stands p k (λ l. spell_mode (after_branch z bs) (x ∷ l)) → FitsStep q p i (branch_step i k z bs x)
   k_branch k z bs h x s = by (is_else x) refl

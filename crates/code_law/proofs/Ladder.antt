@@ -6,7 +6,7 @@ use Rattle.js_token.specs.declared.token.TokenKind.TheVariants.{Punct}
 use Rattle.js_token.specs.declared.punct.Punct.TheVariants.{OpenParen, OpenBracket, Dot, Arrow as ArrowMark, Bar}
 use Rattle.js_grammar.specs.Code.{Prefixes, Level, nullish_level, or_level, and_level, equal_level, relation_level, sum_level, product_level, rank, operand_rank, Operator, nullish, or, and, strict_equal, strict_not_equal, loose_equal, loose_not_equal, less, greater, less_or_equal, greater_or_equal, add, subtract, multiply, divide, remainder, Ex, ex, ExForm, prefixed, chain, cond, arrow, form_rank, ex_rank, Links, Operands, no_operand, more_operand, operand, right_side, Arms, no_arm, Sig, arrow_value}
 use Rattle.js_grammar.specs.CodeSpelling.{mark_of}
-use Rattle.js_grammar.proofs.Complete.{goes_on}
+use Rattle.js_grammar.specs.GoesOn.{goes_on_type}
 use Rattle.code_law.specs.Frames.{in_prefix, in_chain, in_last, in_branch, in_arrow, Stack, go, want, start_ex, start_sig}
 use Rattle.code_law.specs.Ladder.{Joint, applies, Turn, joins, asks, sticks, ends, turn, joint_level, ask_test, ask, begin, open_chain, join, settle_at, settle}
 use Rattle.code_law.specs.Expressions.{may_arrow, links_step, linked}
@@ -159,7 +159,7 @@ links_end (Punct OpenParen) i k b ls h = absurd (omega arith)
 links_end x i k b ls h = refl
 
 -- a token that doesn't go on a chain doesn't go on a type at its end
-pub type_ends : (x : TokenKind) → hold (turn x) ≤ 10 → goes_on true x ≡ false
+pub type_ends : (x : TokenKind) → hold (turn x) ≤ 10 → goes_on_type true x ≡ false
 type_ends (Punct OpenBracket) h = absurd (omega arith)
 type_ends (Punct ArrowMark) h = absurd (omega arith)
 type_ends (Punct Bar) h = absurd (omega arith)

@@ -9,6 +9,7 @@ pub mod Begins
 pub mod Parameters
 pub mod Statements
 pub mod Complete
+pub mod Fronts
 pub mod Names
 pub mod Top
 pub mod Modules

@@ -2,6 +2,7 @@
 use Rattle.std.proofs.Common.{◌≡◌, refl, sym, ◌∙◌, ap, ap₂, subst, ◌⊎◌, inl, inr, ℕ, suc, Bool, true, false, List, [], ◌∷◌, codes, arith, if◌then◌else◌}
 use Rattle.std.specs.Str.{bytes_eq}
 use Rattle.std.proofs.lemmas.Slice.Eq.{bytes_eq-Decides}
+use Rattle.std.proofs.lemmas.Bool.{false≢true, true≢false}
 use Rattle.js_token.specs.declared.token.TokenKind.{TokenKind}
 use Rattle.js_token.specs.declared.token.TokenKind.TheVariants.{Name, Str, Punct}
 use Rattle.js_token.specs.declared.punct.Punct.TheVariants.{Comma, Semicolon, Assign}
@@ -25,15 +26,12 @@ use Rattle.code_law.proofs.Complete.{c_ex, c_function, c_declaration, behind_bin
 use Rattle.code_law.proofs.Names.{c_importeds, c_exporteds}
 use Rattle.code_law.proofs.Top.{begin_top}
 
-no_true : {A : Type 0} → false ≡ true → A
-no_true e = absurd (let f : false ≡ true = e in cc)
-
 abbrev is_a_default : FunctionKind → Bool
 is_a_default is_default = true
 is_a_default q = false
 
 default_statement : is_default ≡ is_statement → ⊥
-default_statement e = let f : true ≡ false = ap is_a_default e in cc
+default_statement e = true≢false (ap is_a_default e)
 
 -- the value behind `export default`
 default_opens : (e : Ex) → BeginsNot (Name (codes "function")) e → (i a : ℕ) (k : Stack) (is : Items) (x : TokenKind) → Starts x → BeginsNot x e ⊎ (step i k (after_default a is) x ≡ want_step i (in_default a is ∷ k) x)
@@ -42,7 +40,7 @@ default_opens e n i a k is (Name m) (inl o) = inr (plain (statement_word m) o)
   where
     plain : (w : StatementWord) → is_plain w ≡ true → default_word i k a is m w ≡ want_step i (in_default a is ∷ k) (Name m)
     plain plain_word h = refl
-    plain w h = no_true h
+    plain w h = absurd (false≢true h)
 default_opens e n i a k is x (inl o) = inr refl
 
 none_of : (ws : List Bytes) (n : Bytes) → IsNoneOf ws n → is_none_of ws n ≡ true
@@ -76,11 +74,8 @@ module _ (k : Stack) (i : ℕ) (is : Items) where
   binder_export const l = refl
   binder_export let_word l = refl
 
-  alias_read : (n : Bytes) → may_alias n ≡ true → (l : Tokens) (b : Bool) → bytes_eq n (codes "as") ≡ b →
-      run (suc i) k (after_type_word i is) (Name n ∷ Punct Assign ∷ l) ≡ run (suc (suc (suc i))) k (typing (alias_type i plain_item is i n) [] ty.want) l
-  alias_read n y l true e = let q : codes "as" ≡ n = sym ((bytes_eq-Decides n (codes "as")).0 e) in
-      subst (λ n. run (suc i) k (after_type_word i is) (Name n ∷ Punct Assign ∷ l) ≡ run (suc (suc (suc i))) k (typing (alias_type i plain_item is i n) [] ty.want) l) q refl
-  alias_read n y l false e = rw (e, y) refl
+  alias_read : (n : Bytes) → may_alias n ≡ true → (l : Tokens) → run (suc i) k (after_type_word i is) (Name n ∷ Punct Assign ∷ l) ≡ run (suc (suc (suc i))) k (typing (alias_type i plain_item is i n) [] ty.want) l
+  alias_read n y l = rw y refl
 
   c_import_names : (ns : ImportList) (j : ℕ) → FitsImportList ns j → (l : Tokens) → run j k (after_import i is) (spell_import_list ns (from_word ∷ l)) ≡ run (stop_import_list ns j) k (after_list i is (import_names ns)) (from_word ∷ l)
   c_import_names (import_list f t ns c) j h l =
@@ -156,7 +151,7 @@ module _ (k : Stack) (i : ℕ) (is : Items) where
       let y = function f t n g b in c_function y i (h.1) is_statement (λ q. h.0) (in_item i plain_item is ∷ k) l k (with_item (stop_function y i) (function_item y)) refl
   c_item_form (alias_item (alias f t n v)) h l =
       let p = suc (suc (suc i)) in let z = stop v p in
-      alias_read n (alias_named n (h.2) (h.3)) (spell v (Punct Semicolon ∷ l)) (bytes_eq n (codes "as")) refl ∙ c_type p k (alias_type i plain_item is i n) v (h.4) (λ g. refl) (Punct Semicolon ∷ l) refl
+      alias_read n (alias_named n (h.2) (h.3)) (spell v (Punct Semicolon ∷ l)) ∙ c_type p k (alias_type i plain_item is i n) v (h.4) (λ g. refl) (Punct Semicolon ∷ l) refl
       ∙ ap (λ y. run (suc z) k (with_item (suc z) (alias_item y)) l) (ap₂ (λ f t. alias f t n v) (sym (h.0)) (sym (h.1)))
   c_item_form (does_item (simple f t return_bare)) h l = absurd (h.0)
   c_item_form (does_item (simple f t (return_value e))) h l = absurd (h.0)
@@ -164,14 +159,14 @@ module _ (k : Stack) (i : ℕ) (is : Items) where
   c_item_form (does_item (simple f t break_loop)) h l = absurd (h.0)
   c_item_form (does_item (simple f t continue_loop)) h l = absurd (h.0)
   c_item_form (does_item (simple f t (assign d e))) h l =
-      let a = in_item i plain_item is ∷ k in let n = Punct Semicolon ∷ l in let p = Punct Assign ∷ spell_ex e n in let q = h.1.2 in let z = stop_ex d i in let j = stop_ex e (suc z) in
-      begin_top i k is d (q.2) (q.1) p refl ∙ c_ex d i (q.2) (in_simple i evaluates ∷ a) (omega arith) p (omega arith) ∙ target_read d (q.0) i z a (spell_ex e n)
+      let a = in_item i plain_item is ∷ k in let n = Punct Semicolon ∷ l in let p = Punct Assign ∷ spell_ex e n in let q = h.2.2 in let z = stop_ex d i in let j = stop_ex e (suc z) in
+      begin_top i k is d (q.2) (q.1) p (h.1 l) ∙ c_ex d i (q.2) (in_simple i evaluates ∷ a) (omega arith) p (omega arith) ∙ target_read d (q.0) i z a (spell_ex e n)
       ∙ c_ex e (suc z) (q.3) (in_simple i (assigns d) ∷ a) (omega arith) n (omega arith)
-      ∙ ap (λ y. run (suc j) k (with_item (suc j) (does_item y)) l) (ap₂ (λ f t. simple f t (assign d e)) (sym (h.1.0)) (sym (h.1.1)))
+      ∙ ap (λ y. run (suc j) k (with_item (suc j) (does_item y)) l) (ap₂ (λ f t. simple f t (assign d e)) (sym (h.2.0)) (sym (h.2.1)))
   c_item_form (does_item (simple f t (evaluate e))) h l =
-      let a = in_item i plain_item is ∷ k in let n = Punct Semicolon ∷ l in let q = h.1.2 in let z = stop_ex e i in
-      begin_top i k is e (q.1) (q.0) n refl ∙ c_ex e i (q.1) (in_simple i evaluates ∷ a) (omega arith) n (omega arith)
-      ∙ ap (λ y. run (suc z) k (with_item (suc z) (does_item y)) l) (ap₂ (λ f t. simple f t (evaluate e)) (sym (h.1.0)) (sym (h.1.1)))
+      let a = in_item i plain_item is ∷ k in let n = Punct Semicolon ∷ l in let q = h.2.2 in let z = stop_ex e i in
+      begin_top i k is e (q.1) (q.0) n (h.1 l) ∙ c_ex e i (q.1) (in_simple i evaluates ∷ a) (omega arith) n (omega arith)
+      ∙ ap (λ y. run (suc z) k (with_item (suc z) (does_item y)) l) (ap₂ (λ f t. simple f t (evaluate e)) (sym (h.2.0)) (sym (h.2.1)))
 
 c_item : (y : Item) (i : ℕ) → FitsItem y i → (k : Stack) (is : Items) (l : Tokens) → run i k (items_start is) (spell_item y l) ≡ run (stop_item y i) k (items_start (more_item is y)) l
 c_item (item f t x) i h k is l =

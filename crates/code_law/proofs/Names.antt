@@ -1,5 +1,6 @@
 -- Lists of names in braces are read as such.
 use Rattle.std.proofs.Common.{◌≡◌, refl, sym, ◌∙◌, ap, ap₂, ℕ, suc, Bool, true, false, Some, None, ◌∷◌, not}
+use Rattle.std.proofs.lemmas.Bool.{false≢true}
 use Rattle.js_token.specs.declared.token.TokenKind.{TokenKind}
 use Rattle.js_token.specs.declared.token.TokenKind.TheVariants.{Name, Punct}
 use Rattle.js_token.specs.declared.punct.Punct.TheVariants.{CloseBrace, Comma}
@@ -14,16 +15,13 @@ use Rattle.code_law.specs.Modules.{may_name, add_name, end_names, pair_step, nam
 use Rattle.code_law.specs.Machine.{run, go_on}
 use Rattle.code_law.proofs.Complete.{run-then}
 
-no_true : {A : Type 0} → false ≡ true → A
-no_true e = absurd (let f : false ≡ true = e in cc)
-
 abbrev ends_name : TokenKind → Bool
 ends_name (Punct Comma) = true
 ends_name (Punct CloseBrace) = true
 ends_name _ = false
 
 name_ends : (x : TokenKind) → ends_name x ≡ true → (i : ℕ) (k : Stack) (q : Listing) (p : ℕ) (n : Bytes) → may_name q n ≡ true → name_step i k q p n x ≡ pair_step i k (add_name q p i n None) x
-name_ends (Name m) h i k q p n y = no_true h
+name_ends (Name m) h i k q p n y = absurd (false≢true h)
 name_ends x h i k q p n y = rw y refl
 
 named : (n : Bytes) → IsName n → not (is_reserved n) ≡ true
@@ -59,7 +57,7 @@ module _ (k : Stack) (a : ℕ) (is : Items) (q : Opening) (s : ℕ) where
   pub c_importeds : (ns : Importeds) (c : Bool) (i : ℕ) → FitsImporteds ns i → CommaFits c (has_importeds ns) → (l : Tokens) →
       run i k (names_start (imports_so_far no_imported)) (spell_importeds ns (opt c (Punct Comma) (Punct CloseBrace ∷ l)))
       ≡ go_on (bump c (stop_importeds ns i)) (end_names (bump c (stop_importeds ns i)) k (imports_so_far ns) c) (Punct CloseBrace ∷ l)
-  c_importeds no_imported true i h c l = no_true (c refl)
+  c_importeds no_imported true i h c l = absurd (false≢true (c refl))
   c_importeds no_imported false i h c l = refl
   c_importeds (more_imported ns y) true i h c l =
       let p = Punct Comma ∷ Punct CloseBrace ∷ l in c_begun_imports ns i (h.0) (spell_imported y p) ∙ c_imported y (stop_begun_imports ns i) (h.1) ns p refl
@@ -85,7 +83,7 @@ module _ (k : Stack) (a : ℕ) (is : Items) (q : Opening) (s : ℕ) where
   pub c_exporteds : (ns : Exporteds) (c : Bool) (i : ℕ) → FitsExporteds ns i → CommaFits c (has_exporteds ns) → (l : Tokens) →
       run i k (names_start (exports_so_far no_exported)) (spell_exporteds ns (opt c (Punct Comma) (Punct CloseBrace ∷ l)))
       ≡ go_on (bump c (stop_exporteds ns i)) (end_names (bump c (stop_exporteds ns i)) k (exports_so_far ns) c) (Punct CloseBrace ∷ l)
-  c_exporteds no_exported true i h c l = no_true (c refl)
+  c_exporteds no_exported true i h c l = absurd (false≢true (c refl))
   c_exporteds no_exported false i h c l = refl
   c_exporteds (more_exported ns y) true i h c l =
       let p = Punct Comma ∷ Punct CloseBrace ∷ l in c_begun_exports ns i (h.0) (spell_exported y p) ∙ c_exported y (stop_begun_exports ns i) (h.1) ns p refl

@@ -1,5 +1,6 @@
 -- Parameters and results are read as such.
 use Rattle.std.proofs.Common.{◌≡◌, refl, sym, ◌∙◌, ap, ap₂, ℕ, suc, Bool, true, false, Option, Some, None, [], ◌∷◌}
+use Rattle.std.proofs.lemmas.Bool.{false≢true}
 use Rattle.js_token.specs.declared.token.TokenKind.{TokenKind}
 use Rattle.js_token.specs.declared.token.TokenKind.TheVariants.{Name, Punct}
 use Rattle.js_token.specs.declared.punct.Punct.TheVariants.{OpenBrace, CloseParen, Comma, Colon, Question, Arrow as ArrowMark}
@@ -13,14 +14,11 @@ use Rattle.js_grammar.specs.Code.{Parameter, parameter, Parameters, no_parameter
 use Rattle.js_grammar.specs.CodeSpelling.{spell_annotation, spell_parameter, spell_named, spell_parameters, spell_sig, spell_name}
 use Rattle.js_grammar.specs.CodePlaces.{stop_annotation, stop_parameter, stop_named, stop_parameters, stop_sig, stop_name}
 use Rattle.js_grammar.specs.CodeFits.{FitsAnnotation, FitsParameter, FitsParameters, FitsSig, AllTyped, IsPlainResult, IsArrowSig, FitsName, is_some}
-use Rattle.js_grammar.proofs.Complete.{goes_on}
+use Rattle.js_grammar.specs.GoesOn.{goes_on_type}
 use Rattle.code_law.specs.Frames.{FunctionKind, is_value, is_statement, is_default, Owner, of_arrow, of_function, parameter_type, result_type, in_function, Mode, want, paren_start, function_start, parameters_open, parameter_start, parameter_word, parameters_end, arrow_start, statements_start, typing, Stack}
 use Rattle.code_law.specs.Expressions.{may_arrow, after_parameter, parameter_word_step}
 use Rattle.code_law.specs.Machine.{run, step, go_on}
 use Rattle.code_law.proofs.Embedded.{c_type}
-
-no_true : {A : Type 0} → false ≡ true → A
-no_true e = absurd (let f : false ≡ true = e in cc)
 
 -- where a further parameter may begin
 abbrev begun : Owner → ℕ → Parameters → Mode
@@ -50,15 +48,15 @@ is_separator (Punct CloseParen) = true
 is_separator (Punct Comma) = true
 is_separator _ = false
 
-separator_goes : (x : TokenKind) → is_separator x ≡ true → goes_on true x ≡ false
+separator_goes : (x : TokenKind) → is_separator x ≡ true → goes_on_type true x ≡ false
 separator_goes (Punct CloseParen) h = refl
 separator_goes (Punct Comma) h = refl
-separator_goes x h = no_true h
+separator_goes x h = absurd (false≢true h)
 
 word_ends : (x : TokenKind) → is_separator x ≡ true → (i : ℕ) (k : Stack) (q : FunctionKind) (b : ℕ) (m : Option Bytes) (s : ℕ) (ps : Parameters) (a : ℕ) (n : Bytes) →
     parameter_word_step i k (of_function q b m) s ps a n x ≡ after_parameter k (of_function q b m) s (more_parameter ps (parameter a i n false None)) x
-word_ends (Punct Colon) h i k q b m s ps a n = no_true h
-word_ends (Punct Question) h i k q b m s ps a n = no_true h
+word_ends (Punct Colon) h i k q b m s ps a n = absurd (false≢true h)
+word_ends (Punct Question) h i k q b m s ps a n = absurd (false≢true h)
 word_ends x h i k q b m s ps a n = refl
 
 run-then : (i : ℕ) (k : Stack) (m : Mode) (l : Tokens) → run i k m l ≡ go_on i (step i k m (first l)) l
@@ -82,8 +80,8 @@ module _ (k : Stack) where
 
   c_parameter : (w : Owner) → MayStand w k → (p : Parameter) (ps : Parameters) (i : ℕ) → FitsParameter p i → TypedFor w p → (s : ℕ) (l : Tokens) → is_separator (first l) ≡ true →
       run i k (begun w s ps) (spell_parameter p l) ≡ go_on (stop_parameter p i) (after_parameter k w s (more_parameter ps p) (first l)) l
-  c_parameter of_arrow may (parameter f t n o None) ps i h y s l e = no_true y
-  c_parameter (of_function q b m) may (parameter f t n true None) ps i h y s l e = no_true (h.3 refl)
+  c_parameter of_arrow may (parameter f t n o None) ps i h y s l e = absurd (false≢true y)
+  c_parameter (of_function q b m) may (parameter f t n true None) ps i h y s l e = absurd (false≢true (h.3 refl))
   c_parameter (of_function q b m) may (parameter f t n false None) ps i h y s l e =
       word_read q b m ps n (h.2) i s l ∙ run-then (suc i) k (parameter_word (of_function q b m) s ps i n) l
       ∙ ap (λ s. go_on (suc i) s l) (word_ends (first l) e (suc i) k q b m s ps i n)
@@ -115,7 +113,7 @@ module _ (k : Stack) where
 
   c_parameters : (w : Owner) → MayStand w k → (ps : Parameters) (c : Bool) (i : ℕ) → FitsParameters ps i → AllTypedFor w ps → CommaFits c (has_parameters ps) → (s : ℕ) (l : Tokens) →
       run i k (begun w s no_parameter) (spell_parameters ps (opt c (Punct Comma) (Punct CloseParen ∷ l))) ≡ run (suc (bump c (stop_parameters ps i))) k (parameters_end w s ps c) l
-  c_parameters w may no_parameter true i h y c s l = no_true (c refl)
+  c_parameters w may no_parameter true i h y c s l = absurd (false≢true (c refl))
   c_parameters w may no_parameter false i h y c s l = empty_read w may s i l
   c_parameters w may (more_parameter ps p) true i h y c s l =
       let b = typed_last w ps p y in let j = stop_named ps i in let z = stop_parameter p j in
@@ -128,7 +126,7 @@ module _ (k : Stack) where
   c_arrow_result : (ps : Parameters) (c : Bool) (r : Option Ty) (i j : ℕ) → FitsAnnotation r j → IsPlainResult r → (l : Tokens) →
       run j k (parameters_end of_arrow i ps c) (spell_annotation r (Punct ArrowMark ∷ l)) ≡ run (suc (stop_annotation r j)) k (arrow_start (sig i (stop_annotation r j) ps c r)) l
   c_arrow_result ps c None i j h y l = refl
-  c_arrow_result ps c (Some t) i j h y l = c_type (suc j) k (result_type of_arrow i ps c) t h (λ g. let a : false ≡ true = sym y ∙ g in no_true a) (Punct ArrowMark ∷ l) refl
+  c_arrow_result ps c (Some t) i j h y l = c_type (suc j) k (result_type of_arrow i ps c) t h (λ g. absurd (false≢true (sym y ∙ g))) (Punct ArrowMark ∷ l) refl
 
   c_function_result : (q : FunctionKind) (b : ℕ) (m : Option Bytes) (ps : Parameters) (c : Bool) (r : Option Ty) (i j : ℕ) → FitsAnnotation r j → (l : Tokens) →
       run j k (parameters_end (of_function q b m) i ps c) (spell_annotation r (Punct OpenBrace ∷ l))
@@ -152,7 +150,7 @@ module _ (k : Stack) where
 
   function_name : (q : FunctionKind) (n : Option Bytes) → FitsName n → (q ≡ is_statement → is_some n ≡ true) → (b i : ℕ) (g : Sig) (l : Tokens) →
       run i k (function_start q b) (spell_name n (spell_sig g l)) ≡ run (stop_name n i) k (parameters_open (of_function q b n)) (spell_sig g l)
-  function_name is_statement None h y b i g l = no_true (y refl)
+  function_name is_statement None h y b i g l = absurd (false≢true (y refl))
   function_name is_value None h y b i (sig f t ps c r) l = refl
   function_name is_default None h y b i (sig f t ps c r) l = refl
   function_name is_statement (Some n) h y b i g l = rw h refl

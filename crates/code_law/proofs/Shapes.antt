@@ -1,7 +1,8 @@
 -- The shapes of the states that are reached: what each stack waits for.
 use Rattle.std.proofs.Common.{◌≡◌, refl, ℕ, Bool, true, false, [], ◌∷◌}
+use Rattle.std.proofs.lemmas.Bool.{false≢true}
 use Rattle.js_grammar.specs.TypeSpelling.{Tokens}
-use Rattle.code_law.specs.Frames.{array_row, call_row, plain_item, FunctionKind, is_value, is_statement, is_default, opens_names, opens_both, opens_types, opens_exports, importing, exporting, Listing, listing, Owner, of_arrow, of_function, Waiting, parameter_type, result_type, declared_type, alias_type, cast_type, in_prefix, in_chain, in_last, in_branch, in_parens, in_row, in_index, in_field, in_arrow, in_body, in_simple, in_declaration, in_if_test, in_loop_test, in_if, in_else, in_loop, in_function, in_block, in_item, in_default, Mode, want, after_links, after_dot, row_start, fields_start, after_word, after_key, paren_start, paren_word, paren_mark, function_start, parameters_open, parameter_start, parameter_word, parameter_mark, parameters_end, arrow_start, settled, statements_start, after_binder, after_declared, after_return, after_simple, after_if, after_while, want_body, after_branch, after_else, items_start, after_type_word, after_type_as, after_alias, after_import, import_word, import_comma, names_start, after_name, after_as, after_pair, after_list, after_from, after_export, export_type, after_exports, exports_from, after_default, item_end, typing, Stack, start_ex, start_sig, start_simple}
+use Rattle.code_law.specs.Frames.{array_row, call_row, plain_item, FunctionKind, is_value, is_statement, is_default, opens_names, opens_both, opens_types, opens_exports, importing, exporting, Listing, listing, Owner, of_arrow, of_function, Waiting, parameter_type, result_type, declared_type, alias_type, cast_type, in_prefix, in_chain, in_last, in_branch, in_parens, in_row, in_index, in_field, in_arrow, in_body, in_simple, in_declaration, in_if_test, in_loop_test, in_if, in_else, in_loop, in_function, in_block, in_item, in_default, Mode, want, after_links, after_dot, row_start, fields_start, after_word, after_key, paren_start, paren_word, paren_mark, function_start, parameters_open, parameter_start, parameter_word, parameter_mark, parameters_end, arrow_start, settled, statements_start, after_binder, after_declared, after_return, after_simple, after_if, after_while, want_body, after_branch, after_else, items_start, after_type_word, after_alias, after_import, import_word, import_comma, names_start, after_name, after_as, after_pair, after_list, after_from, after_export, export_type, after_exports, exports_from, after_default, item_end, typing, Stack, start_ex, start_sig, start_simple}
 use Rattle.code_law.specs.Expressions.{takes_function}
 use Rattle.code_law.proofs.Typing.{Typing}
 use Rattle.code_law.proofs.States.{takes_ex, takes_statement, takes_body, takes_block, takes_simple, takes_declaration, may_define, is_top_verb, IsBottom, FitsStack, FitsOwner, FitsListing, FitsWaiting, type_start, FitsMode}
@@ -114,9 +115,6 @@ Shaped k (after_pair q) i = Takes item_hole k × Matches q
 Shaped k (typing w a m) i = Takes (waiting_hole w) k × (start : ℕ) × (q : Tokens) × Typing (takes_function w) start i a m q
 Shaped k m i = Takes item_hole k
 
-no_true : {A : Type 0} → false ≡ true → A
-no_true e = absurd (let f : false ≡ true = e in cc)
-
 abbrev test : Hole → Stack → Bool
 test value_hole k = takes_ex k
 test simple_hole k = takes_simple k true
@@ -171,7 +169,7 @@ takes block_hole (in_loop s e ∷ k) i f t = takes statement_hole k s (f.1) (f.0
 takes named_hole (in_block s ss ∷ k) i f t = takes block_hole k s (f.1) (f.0.0)
 takes named_hole (in_item a w is ∷ k) i f t = bottom k (f.0.0.0)
 takes default_hole (in_item a w is ∷ k) i f t = bottom k (f.0.0.0)
-takes h k i f t = no_true t
+takes h k i f t = absurd (false≢true t)
 
 takes_defined : (c : FunctionKind) (k : Stack) (i : ℕ) → FitsStack k i → may_define c k ≡ true → Takes (function_hole c) k
 takes_defined is_value k i f t = takes value_hole k i f t
@@ -235,7 +233,6 @@ shape k (after_branch s bs) i h = takes statement_hole k s (h.0) (h.1)
 shape k (after_else s bs) i h = takes statement_hole k s (h.0) (h.1)
 shape k (items_start is) i h = bottom k (h.0)
 shape k (after_type_word a is) i h = bottom k (h.0.0)
-shape k (after_type_as a d is) i h = bottom k (h.0.0)
 shape k (after_alias a w is p n) i h = bottom k (h.0.0.0)
 shape k (after_import a is) i h = bottom k (h.0.0)
 shape k (import_word a is n) i h = bottom k (h.0.0)

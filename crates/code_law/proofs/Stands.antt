@@ -1,12 +1,14 @@
 -- What stands above a stack may go on, and may be written otherwise.
-use Rattle.std.proofs.Common.{◌≡◌, refl, sym, ◌∙◌, ap, true, false, [], ◌∷◌, ◌++◌, Bool, ℕ}
+use Rattle.std.proofs.Common.{◌≡◌, refl, sym, ◌∙◌, ap, false, [], ◌∷◌, ◌++◌, Bool, ℕ}
 use Rattle.std.proofs.lemmas.List.{append_assoc}
+use Rattle.std.proofs.lemmas.Bool.{true≢false}
 use Rattle.js_token.specs.declared.token.TokenKind.{TokenKind}
 use Rattle.js_grammar.specs.TypeSpelling.{Tokens}
 use Rattle.js_grammar.specs.Code.{Ex}
 use Rattle.js_grammar.specs.CodeSpelling.{spell_ex}
 use Rattle.js_grammar.specs.CodeFits.{BeginsNot, FitsEx}
-use Rattle.code_law.specs.Frames.{Frame, in_arrow, in_simple, in_default, evaluates, Stack}
+use Rattle.js_grammar.specs.Items.{begins_alias}
+use Rattle.code_law.specs.Frames.{Frame, in_arrow, in_simple, in_item, in_default, plain_item, evaluates, Stack}
 use Rattle.code_law.proofs.States.{spell_frame, Opens, Claim, Stands}
 use Rattle.code_law.proofs.Begins.{leads}
 
@@ -17,6 +19,7 @@ claim_more : (f : Frame) (s r h : Tokens → Tokens) → ((l : Tokens) → r l �
 claim_more (in_simple i evaluates) s r h e c = opens_more _ s r h e c
 claim_more (in_arrow g) s r h e c = opens_more _ s r h e c
 claim_more (in_default a is) s r h e c = opens_more _ s r h e c
+claim_more (in_item a plain_item is) s r h e c = λ l. ap begins_alias (e l) ∙ c (h l)
 claim_more f s r h e c = tt
 
 -- equal spellings stand for each other
@@ -38,4 +41,4 @@ begins_not p e i f h o y n l q =
     let d = leads e i f in
     let a : d.0 ≡ y = heads (sym ((d.2 []).1) ∙ q) in
     let b : o.0 ≡ d.0 = heads (sym ((o.2 []).1) ∙ (d.2 (h [])).1) in
-    let t : true ≡ false = sym (o.1) ∙ ap p (b ∙ a) ∙ n in cc
+    true≢false (sym (o.1) ∙ ap p (b ∙ a) ∙ n)

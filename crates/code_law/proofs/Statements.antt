@@ -1,5 +1,6 @@
 -- How statements begin, and what the words before them say.
 use Rattle.std.proofs.Common.{◌≡◌, refl, sym, ◌∙◌, ap, subst, ◌⊎◌, inl, inr, ℕ, suc, Bool, true, false, ◌∷◌, codes}
+use Rattle.std.proofs.lemmas.Bool.{false≢true}
 use Rattle.js_token.specs.declared.token.TokenKind.{TokenKind}
 use Rattle.js_token.specs.declared.token.TokenKind.TheVariants.{Name, Number, Str, Punct}
 use Rattle.js_token.specs.declared.punct.Punct.TheVariants.{OpenBrace, CloseBrace, Semicolon, Assign}
@@ -15,9 +16,6 @@ use Rattle.code_law.specs.Expressions.{want_step}
 use Rattle.code_law.specs.Statements.{StatementWord, binds, begins_function, if_word, else_word, while_word, return_word, throw_word, break_word, continue_word, plain_word, statement_word, simple_word, simple_step, block_word, is_else_word, is_else, after_else_word}
 use Rattle.code_law.specs.Machine.{step, run}
 use Rattle.code_law.proofs.Begins.{is_plain, opens_mark, opens, Starts, loose, starts_loose, leads, begin_with}
-
-no_true : {A : Type 0} → false ≡ true → A
-no_true e = absurd (let f : false ≡ true = e in cc)
 
 -- the words with which a simple statement may begin
 abbrev pub is_simple : StatementWord → Bool
@@ -40,29 +38,29 @@ abbrev pub TakesSimple : ℕ → Stack → Mode → Stack → Type 0
 TakesSimple i k m a = (x : TokenKind) → begins_simple x ≡ true → step i k m x ≡ simple_step i a x
 
 simple_block : (w : StatementWord) (i : ℕ) (k : Stack) (n : Bytes) → is_simple w ≡ true → block_word i k n w ≡ simple_word i k n w
-simple_block (binds b) i k n h = no_true h
-simple_block begins_function i k n h = no_true h
-simple_block if_word i k n h = no_true h
-simple_block while_word i k n h = no_true h
+simple_block (binds b) i k n h = absurd (false≢true h)
+simple_block begins_function i k n h = absurd (false≢true h)
+simple_block if_word i k n h = absurd (false≢true h)
+simple_block while_word i k n h = absurd (false≢true h)
 simple_block w i k n h = refl
 
 simple_else : (w : StatementWord) (i : ℕ) (k : Stack) (s : ℕ) (bs : Branches) (n : Bytes) → is_simple w ≡ true → after_else_word i k s bs n w ≡ simple_word i (in_else s bs ∷ k) n w
-simple_else if_word i k s bs n h = no_true h
+simple_else if_word i k s bs n h = absurd (false≢true h)
 simple_else w i k s bs n h = refl
 
 pub takes_statement : (i : ℕ) (k : Stack) (s : ℕ) (ss : Stmts) → TakesSimple i k (statements_start s ss) (in_block s ss ∷ k)
 takes_statement i k s ss (Name n) h = simple_block (statement_word n) i (in_block s ss ∷ k) n h
-takes_statement i k s ss (Punct CloseBrace) h = no_true h
-takes_statement i k s ss (Punct OpenBrace) h = no_true h
+takes_statement i k s ss (Punct CloseBrace) h = absurd (false≢true h)
+takes_statement i k s ss (Punct OpenBrace) h = absurd (false≢true h)
 takes_statement i k s ss x h = refl
 
 takes_body : (i : ℕ) (k : Stack) → TakesSimple i k want_body k
-takes_body i k (Punct OpenBrace) h = no_true h
+takes_body i k (Punct OpenBrace) h = absurd (false≢true h)
 takes_body i k x h = refl
 
 takes_else : (i : ℕ) (k : Stack) (s : ℕ) (bs : Branches) → TakesSimple i k (after_else s bs) (in_else s bs ∷ k)
 takes_else i k s bs (Name n) h = simple_else (statement_word n) i k s bs n h
-takes_else i k s bs (Punct OpenBrace) h = no_true h
+takes_else i k s bs (Punct OpenBrace) h = absurd (false≢true h)
 takes_else i k s bs x h = refl
 
 -- a mode that reads a body under a stack, which waits for one
@@ -79,7 +77,7 @@ else_taken i k s bs = (takes_else i k s bs, refl, λ z b. refl, λ z y. refl)
 
 plain_only : (w : StatementWord) → is_plain w ≡ true → w ≡ plain_word
 plain_only plain_word h = refl
-plain_only w h = no_true h
+plain_only w h = absurd (false≢true h)
 
 -- an expression's first token is a brace, or begins a simple statement that is evaluated
 simple_or : (x : TokenKind) → opens x ≡ true → (x ≡ Punct OpenBrace) ⊎ ((begins_simple x ≡ true) × ((i : ℕ) (k : Stack) → simple_step i k x ≡ want_step i (in_simple i evaluates ∷ k) x))
@@ -102,7 +100,7 @@ begin_evaluate e i h p k a m t l = begin_with e i h i k (in_simple i evaluates �
     start x (inl o) = take x (simple_or x o)
 
 return_opens : (x : TokenKind) → loose x ≡ true → (i : ℕ) (k : Stack) (s : ℕ) → step i k (after_return s) x ≡ want_step i (in_simple s returns ∷ k) x
-return_opens (Punct Semicolon) h i k s = no_true h
+return_opens (Punct Semicolon) h i k s = absurd (false≢true h)
 return_opens x h i k s = refl
 
 pub begin_return : (e : Ex) (i : ℕ) → FitsEx e i → (k : Stack) (s : ℕ) (l : Tokens) → run i k (after_return s) (spell_ex e l) ≡ run i (in_simple s returns ∷ k) want (spell_ex e l)
@@ -111,7 +109,7 @@ begin_return e i h k s l = begin_with e i h i k (in_simple s returns ∷ k) (aft
 -- no statement begins with `else`
 
 plain_else : (w : StatementWord) → is_plain w ≡ true → is_else_word w ≡ false
-plain_else else_word h = no_true h
+plain_else else_word h = absurd (false≢true h)
 plain_else w h = refl
 
 start_else : (x : TokenKind) → Starts x → is_else x ≡ false
@@ -137,7 +135,7 @@ stmt_else (stmt f t (does (simple a z break_loop))) c i h l = refl
 stmt_else (stmt f t (does (simple a z continue_loop))) c i h l = refl
 stmt_else (stmt f t (does (simple a z (assign d e)))) c i h l = ex_else d i (h.2.2.2) (Punct Assign ∷ spell_ex e (Punct Semicolon ∷ l))
 stmt_else (stmt f t (does (simple a z (evaluate e)))) c i h l = ex_else e i (h.2.2.1) (Punct Semicolon ∷ l)
-stmt_else (stmt f t (branches no_branch e)) c i h l = no_true (h.2.0)
+stmt_else (stmt f t (branches no_branch e)) c i h l = absurd (false≢true (h.2.0))
 stmt_else (stmt f t (branches (more_branch bs (branch a z d b)) e)) c i h l = elses_else bs (spell_branch (branch a z d b) (spell_else e l)) refl
 stmt_else (stmt f t (loop e b)) c i h l = refl
 stmt_else (stmt f t (nested (block a z ss))) c i h l = refl

@@ -11,8 +11,8 @@ use Rattle.js_grammar.specs.Code.{Level, relation_level, rank, operand_rank, lev
 use Rattle.js_grammar.specs.CodeSpelling.{mark_of, binder_word, spell_prefixes, spell_annotation, spell_name, spell_sig, spell_named, spell_parameters, spell_ex, spell_listed, spell_links, spell_operands, spell_entries, spell_arms, spell_stmts, spell_simple, spell_branches, spell_elses}
 use Rattle.js_grammar.specs.CodePlaces.{stop_prefixes, stop_annotation, stop_name, stop_named, stop_parameters, stop_sig, stop_ex, stop_listed, stop_links, stop_operands, stop_entries, stop_arms, stop_stmts, stop_simple, stop_branches, stop_elses}
 use Rattle.js_grammar.specs.CodeFits.{Context, BeginsPlain, InFunction, FitsPrefixes, FitsAnnotation, FitsName, is_some, FitsParameters, FitsSig, AllTyped, IsArrowSig, FitsEx, FitsExs, FitsLinks, FitsOperands, FitsFields, FitsArms, FitsStmts, FitsSimple, FitsBranches}
-use Rattle.js_grammar.specs.Items.{ImportForm, import_default, import_both, import_names, import_types, import_only, export_names, export_from, ItemForm, imports, exports, Items, from_word, type_word, spell_begun_imports, spell_importeds, spell_begun_exports, spell_exporteds, spell_import_list, spell_export_list, spell_import, spell_items, stop_begun_imports, stop_importeds, stop_begun_exports, stop_exporteds, stop_import_list, stop_export_list, stop_import, stop_item_form, stop_items, FitsImporteds, FitsExporteds, FitsExportList, FitsImport, base_names, IsNoneOf, FitsItemForm, FitsItems}
-use Rattle.code_law.specs.Frames.{Row, array_row, call_row, FunctionKind, is_value, is_statement, is_default, Wrap, plain_item, exported_item, default_item, Opening, opens_names, opens_both, opens_types, opens_exports, Names, importing, exporting, Listing, listing, Owner, of_arrow, of_function, Verb, returns, throws, assigns, evaluates, Waiting, parameter_type, result_type, declared_type, alias_type, cast_type, Frame, in_prefix, in_chain, in_last, in_branch, in_parens, in_row, in_index, in_field, in_arrow, in_body, in_simple, in_declaration, in_if_test, in_loop_test, in_if, in_else, in_loop, in_function, in_block, in_item, in_default, Mode, want, after_links, after_dot, row_start, fields_start, after_word, after_key, paren_start, paren_word, paren_mark, function_start, parameters_open, parameter_start, parameter_word, parameter_mark, parameters_end, arrow_start, settled, statements_start, after_binder, after_declared, after_return, after_simple, after_if, after_while, want_body, after_branch, after_else, items_start, after_type_word, after_type_as, after_alias, after_import, import_word, import_comma, names_start, after_name, after_as, after_pair, after_list, after_from, after_export, export_type, after_exports, exports_from, after_default, item_end, typing, Stack, Step, fault, go, done, done_items, start_ex, start_sig, start_simple, context}
+use Rattle.js_grammar.specs.Items.{ImportForm, import_default, import_both, import_names, import_types, import_only, export_names, export_from, ItemForm, imports, exports, Items, from_word, type_word, spell_begun_imports, spell_importeds, spell_begun_exports, spell_exporteds, spell_import_list, spell_export_list, spell_import, spell_items, stop_begun_imports, stop_importeds, stop_begun_exports, stop_exporteds, stop_import_list, stop_export_list, stop_import, stop_item_form, stop_items, FitsImporteds, FitsExporteds, FitsExportList, FitsImport, base_names, IsNoneOf, begins_alias, FitsItemForm, FitsItems}
+use Rattle.code_law.specs.Frames.{Row, array_row, call_row, FunctionKind, is_value, is_statement, is_default, Wrap, plain_item, exported_item, default_item, Opening, opens_names, opens_both, opens_types, opens_exports, Names, importing, exporting, Listing, listing, Owner, of_arrow, of_function, Verb, returns, throws, assigns, evaluates, Waiting, parameter_type, result_type, declared_type, alias_type, cast_type, Frame, in_prefix, in_chain, in_last, in_branch, in_parens, in_row, in_index, in_field, in_arrow, in_body, in_simple, in_declaration, in_if_test, in_loop_test, in_if, in_else, in_loop, in_function, in_block, in_item, in_default, Mode, want, after_links, after_dot, row_start, fields_start, after_word, after_key, paren_start, paren_word, paren_mark, function_start, parameters_open, parameter_start, parameter_word, parameter_mark, parameters_end, arrow_start, settled, statements_start, after_binder, after_declared, after_return, after_simple, after_if, after_while, want_body, after_branch, after_else, items_start, after_type_word, after_alias, after_import, import_word, import_comma, names_start, after_name, after_as, after_pair, after_list, after_from, after_export, export_type, after_exports, exports_from, after_default, item_end, typing, Stack, Step, fault, go, done, done_items, start_ex, start_sig, start_simple, context}
 use Rattle.code_law.specs.Expressions.{may_arrow, takes_function}
 use Rattle.code_law.specs.Statements.{StatementWord, begins_function, plain_word, statement_word}
 use Rattle.code_law.specs.Modules.{has_names}
@@ -162,7 +162,6 @@ spell_mode (after_branch s bs) l = spell_branches bs l
 spell_mode (after_else s bs) l = spell_elses bs l
 spell_mode (items_start is) l = spell_items is l
 spell_mode (after_type_word a is) l = spell_items is (type_word ∷ l)
-spell_mode (after_type_as a d is) l = spell_items is (type_word ∷ as_token ∷ l)
 spell_mode (after_alias a w is p n) l = spell_items is (spell_wrap w (type_word ∷ Name n ∷ l))
 spell_mode (after_import a is) l = spell_items is (import_token ∷ l)
 spell_mode (import_word a is n) l = spell_items is (import_token ∷ Name n ∷ l)
@@ -181,7 +180,7 @@ spell_mode (after_default a is) l = spell_items is (export_token ∷ default_tok
 spell_mode (item_end a is y) l = spell_items is (spell_short y l)
 spell_mode (typing w a m) l = spell_waiting w (typed.so_far a m l)
 
--- What some frames ask of the first token above them.
+-- What some frames ask of the first tokens above them.
 
 abbrev pub not_brace : TokenKind → Bool
 not_brace (Punct OpenBrace) = false
@@ -212,6 +211,7 @@ abbrev pub Claim : Frame → (Tokens → Tokens) → Type 0
 Claim (in_simple i evaluates) s = Opens starts_plain s
 Claim (in_arrow g) s = Opens not_brace s
 Claim (in_default a is) s = Opens not_function s
+Claim (in_item a plain_item is) s = (l : Tokens) → begins_alias (s l) ≡ false
 Claim f s = Unit {0}
 
 -- the tokens q are the spelling of a stack, and of s above it; each frame's claim on what stands above it holds
@@ -498,7 +498,6 @@ FitsMode k (after_branch s bs) i =
 FitsMode k (after_else s bs) i = FitsStack k s × (takes_statement k ≡ true) × (has_branches bs ≡ true) × FitsBranches bs (context k) s × (i ≡ stop_elses bs s)
 FitsMode k (items_start is) i = FitsTop k i is
 FitsMode k (after_type_word a is) i = FitsTop k a is × (i ≡ suc a)
-FitsMode k (after_type_as a d is) i = FitsTop k a is × (d ≡ suc a) × (i ≡ suc d)
 FitsMode k (after_alias a w is p n) i = FitsAliasAt k a w is p n × (i ≡ suc (suc p))
 FitsMode k (after_import a is) i = FitsTop k a is × (i ≡ suc a)
 FitsMode k (import_word a is n) i = FitsTop k a is × IsName n × (i ≡ suc (suc a))

@@ -7,7 +7,7 @@ use Rattle.js_grammar.specs.TypeSpelling.{Tokens}
 use Rattle.js_grammar.specs.Machine as ty
 use Rattle.js_grammar.specs.Code.{Parameters, no_parameter, no_stmt, Exs, Sig, ex, number, no_link}
 use Rattle.js_grammar.specs.Items.{Items, ImportForm, ItemForm, ExportList}
-use Rattle.code_law.specs.Frames.{Row, array_row, call_row, opens_names, opens_both, opens_types, opens_exports, importing, exporting, Listing, listing, Owner, of_arrow, of_function, Waiting, parameter_type, result_type, declared_type, alias_type, cast_type, in_branch, in_parens, in_field, in_arrow, in_declaration, in_if_test, in_loop_test, in_if, in_else, in_loop, in_function, in_default, Mode, want, after_links, after_dot, row_start, fields_start, after_word, after_key, paren_start, paren_word, paren_mark, function_start, parameters_open, parameter_start, parameter_word, parameter_mark, parameters_end, arrow_start, settled, statements_start, after_binder, after_declared, after_return, after_simple, after_if, after_while, want_body, after_branch, after_else, items_start, after_type_word, after_type_as, after_alias, after_import, import_word, import_comma, names_start, after_name, after_as, after_pair, after_list, after_from, after_export, export_type, after_exports, exports_from, after_default, item_end, typing, Stack}
+use Rattle.code_law.specs.Frames.{Row, array_row, call_row, opens_names, opens_both, opens_types, opens_exports, importing, exporting, Listing, listing, Owner, of_arrow, of_function, Waiting, parameter_type, result_type, declared_type, alias_type, cast_type, in_branch, in_parens, in_field, in_arrow, in_declaration, in_if_test, in_loop_test, in_if, in_else, in_loop, in_function, in_default, Mode, want, after_links, after_dot, row_start, fields_start, after_word, after_key, paren_start, paren_word, paren_mark, function_start, parameters_open, parameter_start, parameter_word, parameter_mark, parameters_end, arrow_start, settled, statements_start, after_binder, after_declared, after_return, after_simple, after_if, after_while, want_body, after_branch, after_else, items_start, after_type_word, after_alias, after_import, import_word, import_comma, names_start, after_name, after_as, after_pair, after_list, after_from, after_export, export_type, after_exports, exports_from, after_default, item_end, typing, Stack}
 use Rattle.code_law.specs.Expressions.{takes_function}
 use Rattle.code_law.proofs.Shapes.{value_hole, body_hole, block_hole, item_hole, owner_hole, waiting_hole, Takes, Matches, Shaped}
 use Rattle.code_law.proofs.Closing.{Completes, by_token, by_paren, by_bracket, by_brace, by_colon, by_semicolon, Closes, after_closed, settles, wants, statements, bodies, items, closes, simples, branched, blocks}
@@ -127,7 +127,6 @@ viable k (after_branch s bs) i h = branched k h i s bs
 viable k (after_else s bs) i h = by_token i k (after_else s bs) (Punct OpenBrace) (statements (in_else s bs ∷ k) (blocks (in_else s bs ∷ k) h) (suc i) i no_stmt)
 viable k (items_start is) i h = items k h i is
 viable k (after_type_word a is) i h = by_token i k (after_type_word a is) (Punct Semicolon) (items k h (suc i) _)
-viable k (after_type_as a d is) i h = by_token i k (after_type_as a d is) (Punct Assign) (v_typed (alias_type a _ is a _) k h (suc i))
 viable k (after_alias a w is p n) i h = by_token i k (after_alias a w is p n) (Punct Assign) (v_typed (alias_type a w is p n) k h (suc i))
 viable k (after_import a is) i h = by_token i k (after_import a is) (Str []) (v_item k h (suc i) a is _)
 viable k (import_word a is n) i h = by_token i k (import_word a is n) (Name (codes "from")) (v_source k h (suc i) a is _)

@@ -1,15 +1,15 @@
 -- What reading a module within the limit of nesting answers.
-use Rattle.std.proofs.Common.{◌≡◌, refl, sym, ◌∙◌, ap, subst, ℕ, suc, ◌≤◌, nat_lt, arith, Bool, true, false, [], ◌∷◌, ◌++◌, append_assoc, append-nil}
-use Rattle.std.proofs.lemmas.Bool.Decides.{nat_tests}
+use Rattle.std.proofs.Common.{◌≡◌, refl, sym, ◌∙◌, ap, subst, ℕ, suc, ◌≤◌, Bool, true, false, [], ◌∷◌, ◌++◌, append_assoc, append-nil}
 use Rattle.js_token.specs.declared.token.TokenKind.{TokenKind}
 use Rattle.js_grammar.specs.TypeSpelling.{Tokens}
-use Rattle.js_grammar.specs.Nesting.{Nest, nest, no_nest, height, max_nesting, StaysWithin, WithinLimit}
+use Rattle.js_grammar.specs.Nesting.{Nest, nest, no_nest, height, max_nesting, is_deep, StaysWithin, WithinLimit}
+use Rattle.js_grammar.proofs.Limit.{deep_not, shallow, stays_front}
 use Rattle.js_grammar.specs.Machine.{end_mark}
 use Rattle.js_grammar.specs.Items.{no_item}
 use Rattle.code_law.specs.Frames.{Mode, items_start, Stack, Step, fault, go, done, done_items}
 use Rattle.code_law.specs.Machine.{step, Outcome, faulty, whole, whole_items, resume, run, read_module}
 use Rattle.code_law.specs.Reads.{Spells, IsStuck, IsFault, module_with, items_of, Says}
-use Rattle.code_law.specs.Within.{is_deep, run_within, read_within, IsStuckWithin, IsFaultWithin, SaysWithin, ReadsEachWithin, ReadsOnlyWithin}
+use Rattle.code_law.specs.Within.{run_within, read_within, IsStuckWithin, IsFaultWithin, SaysWithin, ReadsEachWithin, ReadsOnlyWithin}
 use Rattle.code_law.proofs.Main.{each_module, only_modules}
 
 -- what a run up to the limit is, where b stands behind it
@@ -29,12 +29,6 @@ record Cut (n : Nest) (l : Tokens) : Type 0 where
   within : StaysWithin n front
   past : (x : TokenKind) (r : Tokens) → rest ≡ x ∷ r → StaysWithin n (front ++ x ∷ []) → ⊥
   runs : (i : ℕ) (k : Stack) (m : Mode) → run_within i n k m l ≡ onto rest (run i k m front)
-
-deep_not : (n : Nest) → is_deep n ≡ true → height n ≤ max_nesting → ⊥
-deep_not n e h = absurd (let t : nat_lt max_nesting (height n) ≡ false = grind (arith, nat_tests) in cc)
-
-shallow : (n : Nest) → is_deep n ≡ false → height n ≤ max_nesting
-shallow n e = grind (arith, nat_tests)
 
 deep_onto : (x : TokenKind) (l : Tokens) (s : Step) → faulty (x ∷ l) ≡ onto (x ∷ l) (resume (λ k m. faulty []) s [])
 deep_onto x l fault = refl
@@ -83,11 +77,6 @@ cut n [] = record {
   runs = λ i k m. refl;
 }
 cut n (x ∷ l) = cut_at n x l (is_deep (nest n x)) refl (cut (nest n x) l)
-
--- what is within the limit is so in front
-stays_front : (a b : Tokens) (n : Nest) → StaysWithin n (a ++ b) → StaysWithin n a
-stays_front [] b n h = tt
-stays_front (x ∷ a) b n h = (h.0, stays_front a b (nest n x) (h.1))
 
 abbrev Past : Tokens → Tokens → Type 0
 Past a b = (x : TokenKind) (r : Tokens) → b ≡ x ∷ r → WithinLimit (a ++ x ∷ []) → ⊥

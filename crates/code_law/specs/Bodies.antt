@@ -7,6 +7,7 @@ use Rattle.js_grammar.specs.Code.{Ex, ex, function_ex, arrow, no_link, Function,
 use Rattle.js_grammar.specs.Items.{export_declaration, export_function, export_default_function, exports, declares_item, function_item, does_item, item, Items, more_item, ItemForm}
 use Rattle.code_law.specs.Frames.{FunctionKind, is_value, is_statement, is_default, Wrap, plain_item, exported_item, default_item, in_item, items_start, Verb, returns, throws, assigns, evaluates, in_body, in_simple, in_if, in_else, in_loop, in_function, in_block, want, after_links, settled, statements_start, after_branch, Stack, Step, fault, go, start_sig, start_function, start_block, start_simple}
 
+-- a whole statement stands in a block
 abbrev pub give_stmt : Stack → Stmt → Step
 give_stmt (in_block s ss ∷ k) y = go k (statements_start s (more_stmt ss y))
 give_stmt k y = fault
@@ -18,9 +19,11 @@ give_body i (in_if s bs a e ∷ k) b = go k (after_branch s (more_branch bs (bra
 give_body i (in_else s bs ∷ k) b = give_stmt k (stmt s i (branches bs (else_body b)))
 give_body i k b = fault
 
+-- a whole item that began at a place, behind the items before it
 abbrev pub give_item : ℕ → Stack → ℕ → Items → ItemForm → Step
 give_item i k a is x = go k (items_start (more_item is (item a i x)))
 
+-- an item from what is declared, and what stands before it
 abbrev pub wrap_declaration : Wrap → Declaration → ItemForm
 wrap_declaration plain_item d = declares_item d
 wrap_declaration w d = exports (export_declaration d)
@@ -53,6 +56,7 @@ end_simple i (in_block s ss ∷ k) y = give_stmt (in_block s ss ∷ k) (stmt (st
 end_simple i (in_item a w is ∷ k) y = give_item (suc i) k a is (does_item y)
 end_simple i k y = give_body (suc i) k (simple_body y)
 
+-- what becomes of a whole expression
 abbrev pub verb_form : Verb → Ex → SimpleForm
 verb_form returns e = return_value e
 verb_form throws e = throw_value e

@@ -122,9 +122,8 @@ pub data Mode : Type 0 where
   after_branch : ℕ → Branches → Mode
   after_else : ℕ → Branches → Mode
   items_start : Items → Mode
-  -- behind `type` at a place, where an item begins; and behind `as` after it
+  -- behind `type` at a place, where an item begins
   after_type_word : ℕ → Items → Mode
-  after_type_as : ℕ → ℕ → Items → Mode
   after_alias : ℕ → Wrap → Items → ℕ → Bytes → Mode
   after_import : ℕ → Items → Mode
   import_word : ℕ → Items → Bytes → Mode

@@ -23,6 +23,7 @@ pub data Turn : Type 0 where
   sticks : Turn
   ends : Turn
 
+-- what each token is so
 abbrev pub turn : TokenKind → Turn
 turn (Name n) = if bytes_eq n (codes "as") then joins casts else ends
 turn (Punct QuestionQuestion) = joins (applies nullish)
@@ -130,6 +131,7 @@ join i (in_chain s q f os d o ∷ k) e p w =
     else join i k (ex s i (chain q f (more_operand os (operand d i (right_side o e))))) p w
 join i k e p w = open_chain i k e p w
 
+-- an expression is whole, and the token behind it is so
 abbrev pub settle_at : ℕ → Stack → Ex → Turn → TokenKind → Step
 settle_at i k e (joins w) x = join i k e (joint_level w) w
 settle_at i k e asks x = ask i k e

@@ -5,6 +5,7 @@ pub mod Expressions
 pub mod Statements
 pub mod Modules
 pub mod Machine
+pub mod GoesOn
 pub mod Law
 pub mod Reads
 pub mod Within

@@ -6,12 +6,13 @@ use Rattle.js_grammar.specs.Machine as ty
 use Rattle.js_grammar.specs.Machine.{end_mark}
 use Rattle.js_grammar.specs.Code.{Ex}
 use Rattle.js_grammar.specs.Items.{Items, no_item}
-use Rattle.code_law.specs.Frames.{Mode, want, after_links, after_dot, row_start, fields_start, after_word, after_key, paren_start, paren_word, paren_mark, function_start, parameters_open, parameter_start, parameter_word, parameter_mark, parameters_end, arrow_start, settled, statements_start, after_binder, after_declared, after_return, after_simple, after_if, after_while, want_body, after_branch, after_else, items_start, after_type_word, after_type_as, after_alias, after_import, import_word, import_comma, names_start, after_name, after_as, after_pair, after_list, after_from, after_export, export_type, after_exports, exports_from, after_default, item_end, typing, Stack, Step, fault, go, done, done_items}
+use Rattle.code_law.specs.Frames.{Mode, want, after_links, after_dot, row_start, fields_start, after_word, after_key, paren_start, paren_word, paren_mark, function_start, parameters_open, parameter_start, parameter_word, parameter_mark, parameters_end, arrow_start, settled, statements_start, after_binder, after_declared, after_return, after_simple, after_if, after_while, want_body, after_branch, after_else, items_start, after_type_word, after_alias, after_import, import_word, import_comma, names_start, after_name, after_as, after_pair, after_list, after_from, after_export, export_type, after_exports, exports_from, after_default, item_end, typing, Stack, Step, fault, go, done, done_items}
 use Rattle.code_law.specs.Ladder.{settle}
 use Rattle.code_law.specs.Expressions.{want_step, links_step, dot_step, row_step, fields_step, field_step, key_step, paren_step, paren_word_step, paren_mark_step, function_step, open_step, parameter_step, parameter_word_step, parameter_mark_step, end_step, arrow_step, takes_function, inside}
 use Rattle.code_law.specs.Statements.{statements_step, binder_step, declared_step, return_step, semicolon_step, if_step, while_step, body_step, branch_step, else_step}
-use Rattle.code_law.specs.Modules.{items_step, type_word_step, type_as_step, alias_step, import_step, import_word_step, import_comma_step, names_step, name_step, as_step, pair_step, from_step, source_step, export_step, export_type_step, exports_step, exports_from_step, default_step, end_item}
+use Rattle.code_law.specs.Modules.{items_step, type_word_step, alias_step, import_step, import_word_step, import_comma_step, names_step, name_step, as_step, pair_step, from_step, source_step, export_step, export_type_step, exports_step, exports_from_step, default_step, end_item}
 
+-- what a token at a place does in a state
 abbrev pub step : ℕ → Stack → Mode → TokenKind → Step
 step i k want x = want_step i k x
 step i k (after_links b ls) x = links_step i k b ls x
@@ -43,7 +44,6 @@ step i k (after_branch s bs) x = branch_step i k s bs x
 step i k (after_else s bs) x = else_step i k s bs x
 step i k (items_start is) x = items_step i k is x
 step i k (after_type_word a is) x = type_word_step i k a is x
-step i k (after_type_as a d is) x = type_as_step i k a d is x
 step i k (after_alias a w is p n) x = alias_step k a w is p n x
 step i k (after_import a is) x = import_step i k a is x
 step i k (import_word a is n) x = import_word_step i k a is n x
@@ -68,12 +68,14 @@ pub data Outcome : Type 0 where
   whole : Ex → Tokens → Outcome
   whole_items : Items → Tokens → Outcome
 
+-- how reading goes on behind a step, where these tokens are left
 abbrev pub resume : (Stack → Mode → Outcome) → Step → Tokens → Outcome
 resume r fault l = faulty l
 resume r (go k m) l = r k m
 resume r (done e) l = whole e l
 resume r (done_items is) l = whole_items is l
 
+-- reading from a state on, where the end of the tokens is read as a token of its own
 abbrev pub run : ℕ → Stack → Mode → Tokens → Outcome
 run i k m [] = resume (λ k m. faulty []) (step i k m end_mark) []
 run i k m (x ∷ l) = resume (λ k m. run (suc i) k m l) (step i k m x) (x ∷ l)
@@ -86,6 +88,7 @@ read_expression i l = run i [] want l
 abbrev pub read_module : Tokens → Outcome
 read_module l = run 0 [] (items_start no_item) l
 
+-- reading from a step on, where the first of these tokens was its token
 abbrev pub go_on : ℕ → Step → Tokens → Outcome
 go_on i s [] = resume (λ k m. faulty []) s []
 go_on i s (x ∷ l) = resume (λ k m. run (suc i) k m l) s (x ∷ l)

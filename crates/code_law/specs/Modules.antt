@@ -6,12 +6,11 @@ use Rattle.js_token.specs.declared.token.TokenKind.{TokenKind}
 use Rattle.js_token.specs.declared.token.TokenKind.TheVariants.{Name, Str, Punct}
 use Rattle.js_token.specs.declared.punct.Punct.TheVariants.{OpenBrace, CloseBrace, Comma, Semicolon, Assign, PlusPlus}
 use Rattle.js_grammar.specs.Words.{Bytes}
-use Rattle.js_grammar.specs.Machine as ty
-use Rattle.js_grammar.specs.Code.{ex, variable, no_link, no_operand}
+use Rattle.js_grammar.specs.Code.{ex, variable, no_link}
 use Rattle.js_grammar.specs.Items.{no_imported, more_imported, imported, import_list, Exporteds, no_exported, more_exported, exported, ExportList, export_list, ImportForm, import_default, import_both, import_names, import_types, import_only, export_names, export_from, ItemForm, imports, exports, Items, has_importeds, has_exporteds, base_names}
-use Rattle.code_law.specs.Frames.{is_statement, is_default, Wrap, plain_item, exported_item, default_item, opens_names, opens_both, opens_types, opens_exports, importing, exporting, Listing, listing, alias_type, cast_type, evaluates, in_simple, in_item, in_default, function_start, after_binder, after_type_word, after_type_as, after_alias, after_import, import_word, import_comma, names_start, after_name, after_as, after_pair, after_list, after_from, after_export, export_type, after_exports, exports_from, after_default, item_end, Stack, Step, fault, go, done_items}
+use Rattle.code_law.specs.Frames.{is_statement, is_default, Wrap, plain_item, exported_item, default_item, opens_names, opens_both, opens_types, opens_exports, importing, exporting, Listing, listing, alias_type, evaluates, in_simple, in_item, in_default, function_start, after_binder, after_type_word, after_alias, after_import, import_word, import_comma, names_start, after_name, after_as, after_pair, after_list, after_from, after_export, export_type, after_exports, exports_from, after_default, item_end, Stack, Step, fault, go, done_items}
 use Rattle.code_law.specs.Bodies.{give_item}
-use Rattle.code_law.specs.Expressions.{want_step, links_step, typed, inside}
+use Rattle.code_law.specs.Expressions.{want_step, links_step, typed}
 use Rattle.code_law.specs.Statements.{StatementWord, binds, begins_function, begins_import, begins_export, plain_word, statement_word, simple_word, simple_step}
 
 abbrev pub top_word : ℕ → Stack → Items → Bytes → StatementWord → Step
@@ -32,18 +31,14 @@ abbrev pub is_none_of : List Bytes → Bytes → Bool
 is_none_of [] n = true
 is_none_of (w ∷ ws) n = if bytes_eq n w then false else is_none_of ws n
 
+-- whether the word may name an alias
 abbrev pub may_alias : Bytes → Bool
 may_alias n = if is_reserved n then false else is_none_of base_names n
 
--- `type` before a name begins an alias; it is a variable else, and so it is before `as` and a type
+-- `type` before a name begins an alias; it is a variable else
 abbrev pub type_word_step : ℕ → Stack → ℕ → Items → TokenKind → Step
-type_word_step i k a is (Name n) = if bytes_eq n (codes "as") then go k (after_type_as a i is) else if may_alias n then go k (after_alias a plain_item is a n) else fault
+type_word_step i k a is (Name n) = if may_alias n then go k (after_alias a plain_item is a n) else fault
 type_word_step i k a is x = links_step i (in_simple a evaluates ∷ in_item a plain_item is ∷ k) (ex a i (variable (codes "type"))) no_link x
-
-abbrev pub type_as_step : ℕ → Stack → ℕ → ℕ → Items → TokenKind → Step
-type_as_step i k a d is (Punct Assign) = typed k (alias_type a plain_item is a (codes "as"))
-type_as_step i k a d is x =
-    let w = cast_type a (ex a d (variable (codes "type"))) no_operand d in inside i (in_simple a evaluates ∷ in_item a plain_item is ∷ k) w (ty.step true i [] ty.want x) x
 
 abbrev pub alias_step : Stack → ℕ → Wrap → Items → ℕ → Bytes → TokenKind → Step
 alias_step k a w is p n (Punct Assign) = typed k (alias_type a w is p n)
@@ -114,6 +109,7 @@ abbrev pub source_step : Stack → ℕ → Items → ImportForm → TokenKind �
 source_step k a is m (Str s) = go k (item_end a is (imports m s))
 source_step k a is m _ = fault
 
+-- the semicolon at i ends the item
 abbrev pub end_item : ℕ → Stack → ℕ → Items → ItemForm → TokenKind → Step
 end_item i k a is x (Punct Semicolon) = give_item (suc i) k a is x
 end_item i k a is x _ = fault
@@ -136,6 +132,7 @@ export_type_step i k a is p (Name n) = if may_alias n then go k (after_alias a e
 export_type_step i k a is p (Punct OpenBrace) = go k (names_start (listing a is (opens_exports true) i (exporting no_exported)))
 export_type_step i k a is p _ = fault
 
+-- whether no exported word is reserved
 abbrev pub are_names : Exporteds → Bool
 are_names no_exported = true
 are_names (more_exported ns (exported f t n w)) = if is_reserved n then false else are_names ns

@@ -45,6 +45,7 @@ reserved_statement n =
 abbrev pub statement_word : Bytes → StatementWord
 statement_word n = if is_reserved n then reserved_statement n else plain_word
 
+-- the word at i begins a simple statement, the stack below it being given
 abbrev pub simple_word : ℕ → Stack → Bytes → StatementWord → Step
 simple_word i k n return_word = if within_function (context k) then go k (after_return i) else fault
 simple_word i k n throw_word = go (in_simple i throws ∷ k) want
@@ -58,6 +59,7 @@ simple_step i k (Name n) = simple_word i k n (statement_word n)
 simple_step i k (Punct OpenBrace) = fault
 simple_step i k x = want_step i (in_simple i evaluates ∷ k) x
 
+-- the word at i begins a statement
 abbrev pub block_word : ℕ → Stack → Bytes → StatementWord → Step
 block_word i k n (binds w) = go k (after_binder i w)
 block_word i k n begins_function = go k (function_start is_statement i)

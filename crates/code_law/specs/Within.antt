@@ -1,17 +1,14 @@
 -- Reading a module within the limit of nesting: the token that would pass it is a fault.
-use Rattle.std.specs.Prelude.{◌≡◌, ℕ, suc, nat_lt, Bool, [], ◌∷◌, ◌++◌, if◌then◌else◌}
+use Rattle.std.specs.Prelude.{◌≡◌, ℕ, suc, [], ◌∷◌, ◌++◌, if◌then◌else◌}
 use Rattle.js_grammar.specs.TypeSpelling.{Tokens}
-use Rattle.js_grammar.specs.Nesting.{Nest, nest, no_nest, height, max_nesting, WithinLimit}
+use Rattle.js_grammar.specs.Nesting.{Nest, nest, no_nest, is_deep, WithinLimit}
 use Rattle.js_grammar.specs.Machine.{end_mark}
 use Rattle.js_grammar.specs.Items.{no_item, Module}
 use Rattle.code_law.specs.Frames.{Mode, items_start, Stack}
 use Rattle.code_law.specs.Machine.{step, Outcome, faulty, whole, whole_items, resume}
 use Rattle.code_law.specs.Reads.{Spells, Begins, module_with, items_of}
 
--- whether more is open than the limit allows
-abbrev pub is_deep : Nest → Bool
-is_deep n = nat_lt max_nesting (height n)
-
+-- reading from a state on, up to the limit
 abbrev pub run_within : ℕ → Nest → Stack → Mode → Tokens → Outcome
 run_within i n k m [] = resume (λ k m. faulty []) (step i k m end_mark) []
 run_within i n k m (x ∷ l) = if is_deep (nest n x) then faulty (x ∷ l) else resume (λ k m. run_within (suc i) (nest n x) k m l) (step i k m x) (x ∷ l)

@@ -2,14 +2,15 @@
 //! contracts of functions that do nothing.
 #![tactic(auto)]
 
-ghost use Rattle.code_law.specs.Law.{SameSpellingSameExpression, SameSpellingSameModule};
+ghost use Rattle.code_law.specs.Law.{SameSpellingSameExpression, SameFrontSameExpression, SameSpellingSameModule};
 ghost use Rattle.code_law.specs.Reads.{ReadsEachModule, ReadsOnlyModules};
 ghost use Rattle.code_law.specs.Within.{ReadsEachWithin, ReadsOnlyWithin};
 
-/// Two expressions of the grammar that begin at one place and have one spelling are equal, their
-/// numbers too.
+/// Two expressions of the grammar that begin at one place and have one spelling are equal, their numbers too; and so are two
+/// that stand in front of one list of tokens, where neither is followed by a token that can go on it.
 pub fn one_expression()
-    ensures { SameSpellingSameExpression }
+    ensures alone { SameSpellingSameExpression }
+    ensures in_front { SameFrontSameExpression }
 {}
 
 /// Two modules of the grammar with one spelling are equal, their numbers too.

@@ -1,8 +1,4 @@
 pub mod Lists
+pub mod Names
 pub mod Overlays
-pub mod Lengths
-pub mod WorldLaw
-pub mod Worlds
-pub mod Numbers
-pub mod StandsLaw
 pub mod TransactionLaws

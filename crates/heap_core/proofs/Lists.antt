@@ -1,5 +1,5 @@
 -- What stands where in a list.
-use Rattle.std.proofs.Common.{◌≡◌, ◌≢◌, ◌⊎◌, ℕ, zero, suc, ◌+◌, ◌<◌, ◌≤◌, List, [], ◌∷◌, ◌++◌, length, set, get_or, slice_get, drop, refl, sym, ap, inl, inr, ⊎_elim, arith, Some}
+use Rattle.std.proofs.Common.{◌≡◌, ◌≢◌, ◌⊎◌, ℕ, zero, suc, ◌+◌, ◌<◌, ◌≤◌, List, [], ◌∷◌, ◌++◌, length, set, get_or, slice_get, take, drop, refl, sym, ap, inl, inr, ⊎_elim, arith, Some}
 use Rattle.heap_core.specs.PlainLaws.{none_some}
 
 module _ {A : Type 0} where
@@ -56,3 +56,9 @@ module _ {A : Type 0} where
   put_else (x ∷ xs) zero (suc n) a ne = refl
   put_else (x ∷ xs) (suc i) zero a ne = refl
   put_else (x ∷ xs) (suc i) (suc n) a ne = put_else xs i n a (λ e. ne (ap suc e))
+
+  pub take_all : (xs : List A) (i : ℕ) → length xs ≤ i → take i xs ++ [] ≡ xs
+  take_all [] zero h = refl
+  take_all [] (suc i) h = refl
+  take_all (y ∷ ys) zero h = absurd (omega arith)
+  take_all (y ∷ ys) (suc i) h = ap (λ (l : List A). y ∷ l) (take_all ys i (omega arith))

@@ -1,26 +1,14 @@
 -- What the calls of a plain heap do to its lists.
-use Rattle.std.proofs.Common.{◌≡◌, ℕ, zero, suc, ◌<◌, ◌≤◌, ◌+◌, ◌-◌, subst, ◌≢◌, Bool, true, false, cond, List, [], ◌∷◌, ◌++◌, length, set, slice_get, drop, replicate, refl, sym, ap, ◌∙◌, ⊎_elim, arith, Option, Some, None}
-use Rattle.std.specs.Prelude.{is_some, unwrap_or, eqb, ◌||◌}
-use Rattle.std.proofs.lemmas.Bool.Decides.{nat_tests}
+use Rattle.std.proofs.Common.{◌≡◌, ℕ, zero, suc, ◌<◌, ◌≤◌, ◌+◌, ◌-◌, subst, Bool, true, false, cond, List, [], ◌∷◌, ◌++◌, length, set, slice_get, drop, replicate, refl, sym, ap, ◌∙◌, ⊎_elim, arith, Option, Some, None}
+use Rattle.std.specs.Prelude.{is_some, unwrap_or, Result, Ok, Err, IfOk}
 use Rattle.std.specs.Arc.{arc_value}
 use Rattle.std.specs.declared.sync.Arc.{Arc}
 use Rattle.std.proofs.lemmas.List.{replicate_more, map-append}
-use Rattle.heap_core.specs.Meaning.{none_of, stamped, opening, names}
+use Rattle.heap_core.specs.Meaning.{none_of, stamped, opening, names, after_rollback}
 use Rattle.heap_core.specs.Plain.{values, overlaid, staged_of, meaning_of}
 use Rattle.heap_core.specs.PlainLaws.{none_some}
 use Rattle.heap_core.proofs.Lists.{at_put, at_more, drop_step}
-
--- the numbers that are listed
-pub names-skip : (e : ℕ) (ks : List ℕ) (k : ℕ) → k ≢ e → names (e ∷ ks) k ≡ true → names ks k ≡ true
-names-skip e ks k ne h = grind (arith, nat_tests)
-
-pub names-append : (ks : List ℕ) (e k : ℕ) → names ks k ≡ true → names (ks ++ e ∷ []) k ≡ true
-names-append [] e k h = absurd (let z : false ≡ true = h in cc)
-names-append (j ∷ ks) e k h = elim (eqb j k) as (λ b. b || names ks k ≡ true → b || names (ks ++ e ∷ []) k ≡ true) [ true ↦ λ _. refl | false ↦ λ t. names-append ks e k t ] h
-
-pub names-last : (ks : List ℕ) (e : ℕ) → names (ks ++ e ∷ []) e ≡ true
-names-last [] e = grind (arith, nat_tests)
-names-last (j ∷ ks) e = elim (eqb j e) as (λ b. b || names (ks ++ e ∷ []) e ≡ true) [ true ↦ refl | false ↦ names-last ks e ]
+use Rattle.heap_core.proofs.Names.{names-skip, names-append, names-last}
 
 -- a number below a bound is listed, unless one was
 pub within_more : (ks more : List ℕ) (e n : ℕ) (b : Bool) → ((i k : ℕ) → slice_get ks i ≡ Some k → k < n) → e < n → more ≡ cond b ks (ks ++ e ∷ []) → (i k : ℕ) → slice_get more i ≡ Some k → k < n
@@ -29,6 +17,22 @@ within_more ks more e n b within below is i k h =
       | true ↦ λ same. within i k (ap (λ (l : List ℕ). slice_get l i) (sym same) ∙ h)
       | false ↦ λ longer. ⊎_elim (λ t. within i k t.1) (λ t. let is : e ≡ k = t.1 in omega arith) (at_more ks e k i (ap (λ (l : List ℕ). slice_get l i) (sym longer) ∙ h))
     ] is
+
+-- no version is past the heap's
+pub stamped-bounded : (v w : ℕ) (bs : List Bool) (ns : List ℕ) → w ≤ v → ((e n : ℕ) → slice_get ns e ≡ Some n → n ≤ w) → (e n : ℕ) → slice_get (stamped v bs ns) e ≡ Some n → n ≤ v
+stamped-bounded v w [] ns up below e n at = let b = below e n at in omega arith
+stamped-bounded v w (b ∷ bs) [] up below e n at = absurd (none_some n at)
+stamped-bounded v w (true ∷ bs) (k ∷ ns) up below zero n at = let is : v ≡ n = (let z : Some v ≡ Some n = at in cc) in omega arith
+stamped-bounded v w (false ∷ bs) (k ∷ ns) up below zero n at = let b = below zero n at in omega arith
+stamped-bounded v w (b ∷ bs) (k ∷ ns) up below (suc e) n at = stamped-bounded v w bs ns up (λ i m h. below (suc i) m h) e n at
+
+pub zeros-bounded : (ns : List ℕ) (k : ℕ) → ns ≡ replicate k 0 → (e n : ℕ) → slice_get ns e ≡ Some n → n ≤ 0
+zeros-bounded ns k is e n at = zeros k e n (ap (λ (l : List ℕ). slice_get l e) (sym is) ∙ at)
+  where
+    zeros : (k e n : ℕ) → slice_get (replicate k 0) e ≡ Some n → n ≤ 0
+    zeros zero e n h = absurd (none_some n h)
+    zeros (suc k) zero n h = let is : 0 ≡ n = (let z : Some 0 ≡ Some n = h in cc) in omega arith
+    zeros (suc k) (suc e) n h = zeros k e n h
 
 module _ {P Z : Type 0} where
   pub staged_of-set : (xs : List (Option (Arc P Z))) (e : ℕ) (x : Option (Arc P Z)) → staged_of (set xs e x) ≡ set (staged_of xs) e (is_some x)
@@ -68,18 +72,18 @@ module _ {P Z : Type 0} where
   overlaid-set (c ∷ cs) (y ∷ ys) zero x h s = refl
   overlaid-set (c ∷ cs) (y ∷ ys) (suc e) x h s = ap (λ (l : List P). arc_value (unwrap_or y c) ∷ l) (overlaid-set cs ys e x (omega arith) (omega arith))
 
-  -- a staged payload that is committed is still the latest
-  pub overlaid-moved : (cs : List (Arc P Z)) (xs : List (Option (Arc P Z))) (e : ℕ) (x : Arc P Z) → slice_get xs e ≡ Some (Some x) → length xs ≡ length cs → overlaid (set cs e x) (set xs e None) ≡ overlaid cs xs
-  overlaid-moved cs [] e x h s = absurd (none_some (Some x) h)
-  overlaid-moved [] (y ∷ ys) e x h s = absurd (omega arith)
-  overlaid-moved (c ∷ cs) (y ∷ ys) zero x h s = let is : y ≡ Some x = (let k : Some y ≡ Some (Some x) = h in cc) in ap (λ (o : Option (Arc P Z)). arc_value (unwrap_or o c) ∷ overlaid cs ys) (sym is)
-  overlaid-moved (c ∷ cs) (y ∷ ys) (suc e) x h s = ap (λ (l : List P). arc_value (unwrap_or y c) ∷ l) (overlaid-moved cs ys e x h (omega arith))
+  -- a payload that is moved over the committed one is still the latest
+  pub overlaid-moved : (cs : List (Arc P Z)) (xs : List (Option (Arc P Z))) (e : ℕ) (c : Arc P Z) (x : Option (Arc P Z)) → slice_get cs e ≡ Some c → slice_get xs e ≡ Some x → overlaid (set cs e (unwrap_or x c)) (set xs e None) ≡ overlaid cs xs
+  overlaid-moved [] xs e c x h k = absurd (none_some c h)
+  overlaid-moved (d ∷ cs) [] e c x h k = absurd (none_some x k)
+  overlaid-moved (d ∷ cs) (y ∷ ys) zero c x h k = let a : c ≡ d = (let q : Some d ≡ Some c = h in cc) in let b : x ≡ y = (let q : Some y ≡ Some x = k in cc) in λ j. arc_value (unwrap_or (b j) (a j)) ∷ overlaid cs ys
+  overlaid-moved (d ∷ cs) (y ∷ ys) (suc e) c x h k = ap (λ (l : List P). arc_value (unwrap_or y d) ∷ l) (overlaid-moved cs ys e c x h k)
 
-  pub stamped-moved : (v : ℕ) (xs : List (Option (Arc P Z))) (ns : List ℕ) (e : ℕ) (x : Arc P Z) → slice_get xs e ≡ Some (Some x) → length xs ≡ length ns → stamped v (staged_of (set xs e None)) (set ns e v) ≡ stamped v (staged_of xs) ns
-  stamped-moved v [] ns e x h s = absurd (none_some (Some x) h)
-  stamped-moved v (y ∷ ys) [] e x h s = absurd (omega arith)
-  stamped-moved v (y ∷ ys) (n ∷ ns) zero x h s = let is : y ≡ Some x = (let k : Some y ≡ Some (Some x) = h in cc) in ap (λ (o : Option (Arc P Z)). cond (is_some o) v n ∷ stamped v (staged_of ys) ns) (sym is)
-  stamped-moved v (y ∷ ys) (n ∷ ns) (suc e) x h s = ap (λ (l : List ℕ). cond (is_some y) v n ∷ l) (stamped-moved v ys ns e x h (omega arith))
+  pub stamped-moved : (v : ℕ) (xs : List (Option (Arc P Z))) (ns : List ℕ) (e n : ℕ) (x : Option (Arc P Z)) → slice_get ns e ≡ Some n → slice_get xs e ≡ Some x → stamped v (staged_of (set xs e None)) (set ns e (cond (is_some x) v n)) ≡ stamped v (staged_of xs) ns
+  stamped-moved v [] ns e n x h k = absurd (none_some x k)
+  stamped-moved v (y ∷ ys) [] e n x h k = absurd (none_some n h)
+  stamped-moved v (y ∷ ys) (m ∷ ns) zero n x h k = let a : n ≡ m = (let q : Some m ≡ Some n = h in cc) in let b : x ≡ y = (let q : Some y ≡ Some x = k in cc) in λ j. cond (is_some (b j)) v (a j) ∷ stamped v (staged_of ys) ns
+  stamped-moved v (y ∷ ys) (m ∷ ns) (suc e) n x h k = ap (λ (l : List ℕ). cond (is_some y) v m ∷ l) (stamped-moved v ys ns e n x h k)
 
   -- where nothing is staged
   pub overlaid-none : (cs : List (Arc P Z)) (xs : List (Option (Arc P Z))) → ((k : ℕ) → k < length xs → slice_get xs k ≡ Some None) → overlaid cs xs ≡ values cs
@@ -96,17 +100,21 @@ module _ {P Z : Type 0} where
       let is : x ≡ None = (let k : Some x ≡ Some None = none 0 (omega arith) in cc) in
       (λ j. cond (is_some (is j)) v n ∷ stamped-none v xs ns (λ k h. none (suc k) (omega arith)) j)
 
-  pub staged_of-none : (xs : List (Option (Arc P Z))) → ((k : ℕ) → k < length xs → slice_get xs k ≡ Some None) → staged_of xs ≡ none_of (staged_of xs)
-  staged_of-none [] none = refl
-  staged_of-none (x ∷ xs) none =
+  pub staged_of_none : (xs : List (Option (Arc P Z))) → ((k : ℕ) → k < length xs → slice_get xs k ≡ Some None) → staged_of xs ≡ none_of (staged_of xs)
+  staged_of_none [] none = refl
+  staged_of_none (x ∷ xs) none =
       let is : x ≡ None = (let k : Some x ≡ Some None = none 0 (omega arith) in cc) in
-      (λ j. is_some (is j) ∷ staged_of-none xs (λ k h. none (suc k) (omega arith)) j)
+      (λ j. is_some (is j) ∷ staged_of_none xs (λ k h. none (suc k) (omega arith)) j)
 
   pub overlaid-at : (cs : List (Arc P Z)) (xs : List (Option (Arc P Z))) (e : ℕ) (c : Arc P Z) (x : Option (Arc P Z)) → slice_get cs e ≡ Some c → slice_get xs e ≡ Some x → slice_get (overlaid cs xs) e ≡ Some (arc_value (unwrap_or x c))
   overlaid-at [] xs e c x h k = absurd (none_some c h)
   overlaid-at (d ∷ cs) [] e c x h k = absurd (none_some x k)
   overlaid-at (d ∷ cs) (y ∷ ys) zero c x h k = let a : d ≡ c = (let q : Some d ≡ Some c = h in cc) in let b : y ≡ x = (let q : Some y ≡ Some x = k in cc) in (λ j. Some (arc_value (unwrap_or (b j) (a j))))
   overlaid-at (d ∷ cs) (y ∷ ys) (suc e) c x h k = overlaid-at cs ys e c x h k
+
+  pub latest-at : {E : Type 0} (r : Result (Arc P Z) E) (cs : List (Arc P Z)) (xs : List (Option (Arc P Z))) (e : ℕ) (c : Arc P Z) (x : Option (Arc P Z)) → slice_get cs e ≡ Some c → slice_get xs e ≡ Some x → IfOk r (λ p. arc_value p ≡ arc_value (unwrap_or x c)) → IfOk r (λ p. slice_get (overlaid cs xs) e ≡ Some (arc_value p))
+  latest-at (Ok p) cs xs e c x h k is = overlaid-at cs xs e c x h k ∙ ap Some (sym is)
+  latest-at (Err f) cs xs e c x h k is = tt
 
   -- what is staged shows that a transaction is open
   pub open_where_staged : (b : Bool) (xs : List (Option (Arc P Z))) (e : ℕ) → (b ≡ false → staged_of xs ≡ none_of (staged_of xs)) → slice_get (staged_of xs) e ≡ Some true → b ≡ true
@@ -132,6 +140,10 @@ module _ {P Z : Type 0} where
       let is : y ≡ None = (let k : Some y ≡ Some None = empty 0 (omega arith) in cc) in
       (λ j. is_some (is j) ∷ staged_of-same xs ys (omega arith) (λ k h. empty (suc k) (omega arith)) j)
 
+  -- a heap whose payloads that pended were dropped is rolled back
+  pub cleared : (version : ℕ) (is_open : Bool) (cs : List (Arc P Z)) (xs ys : List (Option (Arc P Z))) (ns : List ℕ) → length ys ≡ length xs → ((k : ℕ) → k < length ys → slice_get ys k ≡ Some None) → meaning_of version false cs ys ns ≡ after_rollback (meaning_of version is_open cs xs ns)
+  cleared version is_open cs xs ys ns same empty = λ j. record { version = version; is_open = false; committed = values cs; latest = overlaid-none cs ys empty j; versions = ns; staged = staged_of-same xs ys (sym same) empty j }
+
   pub values-at : (cs : List (Arc P Z)) (e : ℕ) (c : Arc P Z) → slice_get cs e ≡ Some c → slice_get (values cs) e ≡ Some (arc_value c)
   values-at [] e c h = absurd (none_some c h)
   values-at (d ∷ cs) zero c h = let same : d ≡ c = (let q : Some d ≡ Some c = h in cc) in ap (λ (z : Arc P Z). Some (arc_value z)) same
@@ -144,8 +156,8 @@ module _ {P Z : Type 0} where
   never_pends (Some x ∷ xs) none zero h = (let z : Some (Some x) ≡ Some None = none 0 (omega arith) in cc)
   never_pends (x ∷ xs) none (suc k) h = never_pends xs (λ e l. none (suc e) (omega arith)) k h
 
-  pub listed-none : (xs : List (Option (Arc P Z))) (ks : List ℕ) → ((e : ℕ) → e < length xs → slice_get xs e ≡ Some None) → (k : ℕ) → slice_get (staged_of xs) k ≡ Some true → names ks k ≡ true
-  listed-none xs ks none k h = absurd (never_pends xs none k h)
+  pub listed_none : (xs : List (Option (Arc P Z))) (ks : List ℕ) → ((e : ℕ) → e < length xs → slice_get xs e ≡ Some None) → (k : ℕ) → slice_get (staged_of xs) k ≡ Some true → names ks k ≡ true
+  listed_none xs ks none k h = absurd (never_pends xs none k h)
 
   -- a heap that has just been opened
   abbrev pub nothing : ℕ → List (Option (Arc P Z))

@@ -1,7 +1,4 @@
 pub mod Meaning
 pub mod Plain
 pub mod PlainLaws
-pub mod World
-pub mod Seen
-pub mod Stands
 pub mod Transactions

@@ -19,7 +19,7 @@ module _ {P Z : Type 0} where
   abbrev pub staged_of : List (Option (Arc P Z)) → List Bool
   staged_of xs = map is_some xs
 
--- a plain heap as data
 module _ {P : Type 0} where
+  -- a plain heap as data
   abbrev pub meaning_of : {Z : Type 0} → ℕ → Bool → List (Arc P Z) → List (Option (Arc P Z)) → List ℕ → Meaning P
   meaning_of version is_open cs xs ns = record { version = version; is_open = is_open; committed = values cs; latest = overlaid cs xs; versions = ns; staged = staged_of xs }

@@ -1,5 +1,5 @@
 //! The heap of one thread: the committed payloads, and those that are staged over them.
-ghost use Rattle.std.specs.Prelude.{◌≡◌, ℕ, ◌+◌, ◌^◌, ◌<◌, true, false, length, Some, slice_get};
+ghost use Rattle.std.specs.Prelude.{◌≡◌, ℕ, ◌+◌, ◌^◌, ◌<◌, ◌≤◌, true, false, length, Some, slice_get};
 ghost use Rattle.heap_core.specs.Meaning.{AllFit, none_of, names};
 ghost use Rattle.heap_core.specs.Plain.{values, staged_of};
 ghost use Rattle.heap_core.specs.PlainLaws.{AllFit-prop};
@@ -20,11 +20,12 @@ pub struct PlainHeap<P: Program> {
     committed: Vec<Arc<P>>,
     pending: Vec<Option<Arc<P>>>,
     versions: Vec<u32>,
-    // the numbers of the entities that pend, so that a commit looks at no others
+    // the numbers of the entities that pend: a commit looks at no others
     staged: Vec<u32>,
     ghost some_entity: { 0 < length committed.items },
     ghost as_many: { (length pending.items ≡ length committed.items) × (length versions.items ≡ length committed.items) },
     ghost fit: { AllFit P.fits (values committed.items) } by { AllFit-prop P.fits P.fits_once (values committed.items) },
+    ghost bounded: { (e n : ℕ) → slice_get versions.items e ≡ Some n → n ≤ version },
     ghost closed: { is_open ≡ false → staged_of pending.items ≡ none_of (staged_of pending.items) },
     ghost room: { is_open ≡ true → version + 1 < 2 ^ 31 },
     ghost listed: { (e : ℕ) → slice_get (staged_of pending.items) e ≡ Some true → names staged.items e ≡ true },

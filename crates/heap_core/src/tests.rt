@@ -1,9 +1,8 @@
-//! The worked rows, each public call once, and a second writer: one entity that tells its states, and that may wait.
+//! Each public call once, and a second writer: one entity that tells its states, and that may wait.
 ghost use Rattle.std.specs.Prelude.{refl};
 
 mod rows;
 mod teller;
-mod worlds;
 
 use crate::traits::Program;
 

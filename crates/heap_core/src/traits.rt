@@ -23,6 +23,7 @@ pub trait HeapWriter<P: Program> {
     /// The type of the part that no call of the trait changes, as the heap that the writer came from.
     type Part;
 
+    /// What no call changes.
     ghost part: { Self → Self.Part };
 
     /// The version, whether a transaction is open, and what each entity holds.
@@ -100,6 +101,7 @@ pub trait HeapReader<P: Program> {
     /// The type of the part that no call of the trait changes.
     type Part;
 
+    /// What no call changes.
     ghost part: { Self → Self.Part };
 
     /// The version that is read.

@@ -1,5 +1,6 @@
 -- Each tree's spelling is read as that tree, where a token follows that can't go on it.
 use Rattle.std.proofs.Common.{◌≡◌, refl, sym, ◌∙◌, ap, ap₂, ℕ, suc, Bool, true, false, [], ◌∷◌, if◌then◌else◌}
+use Rattle.std.proofs.lemmas.Bool.{false≢true}
 use Rattle.js_token.specs.declared.token.TokenKind.{TokenKind}
 use Rattle.js_token.specs.declared.token.TokenKind.TheVariants.{Name, Number, Punct}
 use Rattle.js_token.specs.declared.punct.Punct.TheVariants.{CloseBrace, CloseParen, OpenBracket, CloseBracket, Ellipsis, Comma, Colon, Question, Arrow, GreaterThan, Bar}
@@ -7,15 +8,9 @@ use Rattle.js_grammar.specs.Words.{Bytes, IsName, IsTypeName, is_type_number}
 use Rattle.js_grammar.specs.Types.{Places, no_place, more_place, Sign, unsigned, plus, minus, word_key, text_key, Key, key, bare, comma, dots, Ty, ty, Pres, no_pre, more_pre, Pre, pre, Core, fun, post, Base, base, Form, name, str, num, null, void, truth, array, paren, tuple, object, Params, no_param, more_param, Param, plain, named, Types, no_type, more_type, Props, no_prop, more_prop, Prop, prop, has_params, has_props, is_fun_core, is_fun_pre, has_fun}
 use Rattle.js_grammar.specs.TypeSpelling.{Tokens, opt, marks, brackets, spell_sign, spell_key, spell, spell_barred, spell_pre, spell_core, spell_base, spell_form, spell_params, spell_begun, spell_param, spell_elements, spell_rows, spell_prop}
 use Rattle.js_grammar.specs.TypeFits.{bump, stop_marks, stop_brackets, stop_sign, stop, stop_barred, stop_pre, stop_core, stop_base, stop_form, stop_params, stop_begun, stop_param, stop_elements, stop_rows, stop_prop, FitsMarks, FitsBrackets, FitsKey, CommaFits, Fits, FitsBarred, FitsPre, FitsCore, FitsBase, FitsForm, FitsParams, FitsParam, FitsTypes, FitsProps, FitsProp}
+use Rattle.js_grammar.specs.GoesOn.{goes_on_type}
 use Rattle.js_grammar.specs.Machine.{Open, open_at, in_array, in_group, in_named, in_result, in_tuple, in_prop, Mode, want, want_pre, after_base, group_start, group_name, closed, tuple_start, object_start, after_sign, after_key, Stack, Step, fault, go, done, end_mark, can_fun, fresh, start_base, after_param, after_prop, give, after_pres, after_core, base_step, word_step, want_step, name_rest, name_step, ending_of, step, Outcome, faulty, whole, resume, run, read_tokens, first, go_on}
 use Rattle.js_grammar.proofs.Words.{name_word}
-
--- the tokens that can go on a type, `=>` where a function type may stand
-abbrev pub goes_on : Bool → TokenKind → Bool
-goes_on can (Punct OpenBracket) = true
-goes_on can (Punct Bar) = true
-goes_on can (Punct Arrow) = can
-goes_on can _ = false
 
 -- those that can go on a member of a union: a bar only goes on a function type
 abbrev pub pre_goes_on : Bool → Bool → TokenKind → Bool
@@ -33,19 +28,13 @@ names_on _ = false
 abbrev pub MayStand : Bool → Stack → Bool → Type 0
 MayStand can k is_fun = is_fun ≡ true → can_fun can k ≡ true
 
-true-false : {b : Bool} → b ≡ true → b ≡ false → ⊥
-true-false p q = cc
-
-no_true : {A : Type 0} → false ≡ true → A
-no_true e = absurd (let f : false ≡ true = e in cc)
-
-pre-of_fun : (can : Bool) (x : TokenKind) → pre_goes_on can true x ≡ false → goes_on can x ≡ false
+pre-of_fun : (can : Bool) (x : TokenKind) → pre_goes_on can true x ≡ false → goes_on_type can x ≡ false
 pre-of_fun can (Punct OpenBracket) e = e
 pre-of_fun can (Punct Bar) e = e
 pre-of_fun can (Punct Arrow) e = e
 pre-of_fun can _ e = refl
 
-pre-of : (can is_fun : Bool) (x : TokenKind) → goes_on can x ≡ false → pre_goes_on can is_fun x ≡ false
+pre-of : (can is_fun : Bool) (x : TokenKind) → goes_on_type can x ≡ false → pre_goes_on can is_fun x ≡ false
 pre-of can is_fun (Punct OpenBracket) e = cc
 pre-of can is_fun (Punct Bar) e = cc
 pre-of can is_fun (Punct Arrow) e = e
@@ -66,7 +55,7 @@ is_separator (Punct CloseBrace) = true
 is_separator (Punct Comma) = true
 is_separator _ = false
 
-separator-goes : (can : Bool) (x : TokenKind) → is_separator x ≡ true → goes_on can x ≡ false
+separator-goes : (can : Bool) (x : TokenKind) → is_separator x ≡ true → goes_on_type can x ≡ false
 separator-goes can (Punct OpenBracket) e = cc
 separator-goes can (Punct Bar) e = cc
 separator-goes can (Punct Arrow) e = cc
@@ -265,7 +254,7 @@ module _ (can : Bool) where
   after_fun (Punct Bar) c i f lead ps k l e = cc
   after_fun _ c i f lead ps k l e = refl
 
-  after_last : (x : TokenKind) (c : Bool) (i f : ℕ) (lead : Bool) (ps : Pres) (k : Stack) (l : Tokens) → goes_on c x ≡ false →
+  after_last : (x : TokenKind) (c : Bool) (i f : ℕ) (lead : Bool) (ps : Pres) (k : Stack) (l : Tokens) → goes_on_type c x ≡ false →
       Then i (after_pres can i k f lead ps x) l ≡ Then i (give can i k (ty f i lead ps) x) l
   after_last (Punct Bar) c i f lead ps k l e = cc
   after_last _ c i f lead ps k l e = refl
@@ -316,7 +305,7 @@ module _ (can : Bool) where
   mark_read false i k u s g a v y l = refl
 
   object_end : (g : Props) → has_props g ≡ true → ending_of g ≡ comma
-  object_end no_prop e = no_true e
+  object_end no_prop e = absurd (false≢true e)
   object_end (more_prop g p) e = refl
 
   object_comma : (i : ℕ) (u : Open) (s : ℕ) (g : Props) (k : Stack) (l : Tokens) → has_props g ≡ true →
@@ -324,7 +313,7 @@ module _ (can : Bool) where
   object_comma i u s g k l e = ap (λ d. Run (suc i) k (after_base u (base s (suc i) (object g d)) no_place) l) (object_end g e)
 
   mutual
-    c_ty : (t : Ty) (i : ℕ) → Fits t i → (k : Stack) (l : Tokens) → MayStand can k (has_fun t) → goes_on (can_fun can k) (first l) ≡ false →
+    c_ty : (t : Ty) (i : ℕ) → Fits t i → (k : Stack) (l : Tokens) → MayStand can k (has_fun t) → goes_on_type (can_fun can k) (first l) ≡ false →
         Run i k want (spell t l) ≡ Then (stop t i) (give can (stop t i) k t (first l)) l
     c_ty (ty f t lead no_pre) i h k l a e = absurd (h.2)
     c_ty (ty f t true (more_pre ps p)) i h k l a e =
@@ -340,7 +329,7 @@ module _ (can : Bool) where
         Run i k (want_pre (open_at f lead no_pre i no_place)) (spell_barred ps l) ≡ Run (stop_barred ps i) k (want_pre (open_at f lead ps (stop_barred ps i) no_place)) l
     c_barred no_pre f lead i h k l = refl
     c_barred (more_pre ps p) f lead i h k l =
-        c_barred ps f lead i (h.0) k (spell_pre p (Punct Bar ∷ l)) ∙ c_pre p f lead ps (stop_barred ps i) (h.1) k (Punct Bar ∷ l) (λ g. absurd (true-false g (h.2))) (h.2)
+        c_barred ps f lead i (h.0) k (spell_pre p (Punct Bar ∷ l)) ∙ c_pre p f lead ps (stop_barred ps i) (h.1) k (Punct Bar ∷ l) (λ g. absurd (false≢true (sym (h.2) ∙ g))) (h.2)
 
     c_pre : (p : Pre) (f : ℕ) (lead : Bool) (m : Pres) (i : ℕ) → FitsPre p i → (k : Stack) (l : Tokens) → MayStand can k (is_fun_pre p) → pre_goes_on (can_fun can k) (is_fun_pre p) (first l) ≡ false →
         Run i k (want_pre (open_at f lead m i no_place)) (spell_pre p l) ≡ Then (stop_pre p i) (after_pres can (stop_pre p i) k f lead (more_pre m p) (first l)) l
@@ -382,7 +371,7 @@ module _ (can : Bool) where
         begin_param t (suc i) h u i no_param k (Punct CloseParen ∷ l) refl ∙ c_ty t (suc i) h (in_group u i no_param ∷ k) (Punct CloseParen ∷ l) (λ f. refl) refl
         ∙ run-go_on z k (closed u i (more_param no_param (plain t)) false) l
         ∙ closed_single (can_fun can k) (first l) z u i t k l refl e ∙ sym (run-go_on z k (after_base u (base i z (paren t)) no_place) l)
-    c_form (tuple no_type true) u i h k l e = no_true (h.1 refl)
+    c_form (tuple no_type true) u i h k l e = absurd (false≢true (h.1 refl))
     c_form (tuple no_type false) (open_at f lead m p q) i h k l e = refl
     c_form (tuple (more_type g t) true) (open_at f lead m p q) i h k l e = c_elements g (open_at f lead m p q) i (suc i) (h.0.0) k (spell t (Punct Comma ∷ Punct CloseBracket ∷ l))
         ∙ begin_element t (stop_elements g (suc i)) (h.0.1) (open_at f lead m p q) i g k (Punct Comma ∷ Punct CloseBracket ∷ l)
@@ -399,7 +388,7 @@ module _ (can : Bool) where
 
     c_group : (g : Params) (c : Bool) (u : Open) (s i : ℕ) → FitsParams g i → CommaFits c (has_params g) → (k : Stack) (l : Tokens) → can_fun can k ≡ true →
         Run i k (group_start u s no_param) (spell_params g (opt c (Punct Comma) (Punct CloseParen ∷ l))) ≡ Run (suc (bump c (stop_params g i))) k (closed u s g c) l
-    c_group no_param true u s i h j k l c = no_true (j refl)
+    c_group no_param true u s i h j k l c = absurd (false≢true (j refl))
     c_group no_param false u s i h j k l c = no_params_close i u s k l c
     c_group (more_param g p) true u s i h j k l c =
         c_begun g u s i (h.0) k (spell_param p (Punct Comma ∷ Punct CloseParen ∷ l)) c ∙ c_param p (stop_begun g i) u s g (h.1) k (Punct Comma ∷ Punct CloseParen ∷ l) c refl
@@ -439,7 +428,7 @@ module _ (can : Bool) where
     c_rows (more_prop g p) u s i h k l = c_rows g u s i (h.0) k (spell_prop p (Punct Comma ∷ l)) ∙ c_prop p (stop_rows g i) (h.1) u s g k (Punct Comma ∷ l) refl
 
   -- what a whole type's spelling is read as
-  pub reads_spelling : (t : Ty) (i : ℕ) → Fits t i → MayStand can [] (has_fun t) → (l : Tokens) → goes_on (can_fun can []) (first l) ≡ false → read_tokens can i (spell t l) ≡ whole t l
+  pub reads_spelling : (t : Ty) (i : ℕ) → Fits t i → MayStand can [] (has_fun t) → (l : Tokens) → goes_on_type (can_fun can []) (first l) ≡ false → read_tokens can i (spell t l) ≡ whole t l
   reads_spelling t i h a l e = c_ty t i h [] l a e ∙ whole_done (stop t i) t l
     where
       whole_done : (j : ℕ) (t : Ty) (l : Tokens) → Then j (done t) l ≡ whole t l

@@ -1,5 +1,6 @@
 -- Each state that is reached holds whole trees of the grammar at their places, and can be completed.
 use Rattle.std.proofs.Common.{◌≡◌, refl, ◌∙◌, ap, subst, ℕ, suc, Bool, true, false, [], ◌∷◌, if◌then◌else◌}
+use Rattle.std.proofs.lemmas.Bool.{false≢true}
 use Rattle.js_token.specs.Words.{is_reserved}
 use Rattle.js_token.specs.declared.token.TokenKind.{TokenKind}
 use Rattle.js_token.specs.declared.token.TokenKind.TheVariants.{Name, Number, Str, Punct}
@@ -9,9 +10,6 @@ use Rattle.js_grammar.specs.Types.{Places, no_place, Sign, unsigned, Key, bare, 
 use Rattle.js_grammar.specs.TypeFits.{bump, stop_marks, stop_brackets, stop_sign, stop, stop_barred, stop_core, stop_base, stop_form, stop_params, stop_begun, stop_param, stop_types, stop_elements, stop_props, stop_rows, stop_prop, FitsMarks, FitsBrackets, FitsKey, CommaFits, Fits, FitsBarred, FitsPre, FitsCore, FitsBase, FitsForm, FitsParams, FitsParam, FitsTypes, FitsProps, FitsProp}
 use Rattle.js_grammar.specs.Machine.{TypeWord, type_name, null_word, void_word, truth_of, array_word, other_word, type_word, Open, open_at, Frame, in_array, in_group, in_named, in_result, in_tuple, in_prop, Mode, want, want_pre, after_base, after_bracket, after_array, group_start, group_name, group_mark, closed, tuple_start, object_start, after_dots, after_sign, after_key, after_mark, Stack, Step, fault, go, done, can_fun, fresh, start_base, finish, after_param, after_type, after_element, after_prop, give, base_step, word_step, pre_step, want_step, bracket_step, array_step, close_at, start_step, name_rest, name_step, mark_step, single, closed_step, tuple_step, key_step, object_step, dots_step, colon_step, marked_step, step}
 use Rattle.js_grammar.proofs.Words.{IsWord, word_is}
-
-no_true : {A : Type 0} → false ≡ true → A
-no_true e = absurd (let f : false ≡ true = e in cc)
 
 -- where a form begins that waits in the union
 abbrev pub start_open : Open → ℕ
@@ -124,7 +122,7 @@ module _ (can : Bool) (start : ℕ) where
 
   k_after_type : (i : ℕ) (k : Stack) (u : Open) (s : ℕ) (g : Types) (t : Ty) → FitsStack k (start_open u) → FitsOpen u s → FitsTypes (more_type g t) (suc s) → i ≡ stop_types (more_type g t) (suc s) →
       (x : TokenKind) → FitsStep i (after_type i k u s (more_type g t) x)
-  k_after_type i k u s g t hk hu hg j (Punct CloseBracket) = k_form i k u s (tuple (more_type g t) false) hk hu (hg, λ e. no_true e) (ap suc j)
+  k_after_type i k u s g t hk hu hg j (Punct CloseBracket) = k_form i k u s (tuple (more_type g t) false) hk hu (hg, λ e. absurd (false≢true e)) (ap suc j)
   k_after_type i k u s g t hk hu hg j (Punct Comma) = (hk, hu, hg, ap suc j)
   k_after_type i k u s g t hk hu hg j _ = tt
 
@@ -182,7 +180,7 @@ module _ (can : Bool) (start : ℕ) where
       (hk, ((hu.0, h, refl), ap suc (h.1), tt, ap suc (h.1)))
   k_base i k (open_at f lead m p q) b bs hk hu hb hbs j x =
       let c = post (start_base b) i b bs in
-      k_give k (finish i (open_at f lead m p q) c) f i hk (at_core k i (open_at f lead m p q) c (start_base b) hu (refl, j, hb, hbs) j (λ e. no_true e)) (stop_finish i (open_at f lead m p q) c (start_base b) hu j) x
+      k_give k (finish i (open_at f lead m p q) c) f i hk (at_core k i (open_at f lead m p q) c (start_base b) hu (refl, j, hb, hbs) j (λ e. absurd (false≢true e))) (stop_finish i (open_at f lead m p q) c (start_base b) hu j) x
 
   k_word : (i : ℕ) (k : Stack) (u : Open) (n : Bytes) (w : TypeWord) → IsWord w n → FitsStack k (start_open u) → FitsOpen u i → FitsStep i (word_step i k u n w)
   k_word i k u n type_name h hk hu = k_form i k u i (name n) hk hu h refl
@@ -198,7 +196,7 @@ module _ (can : Bool) (start : ℕ) where
   k_pre i k (open_at f lead m p q) hk hu (Str n) = k_form i k (open_at f lead m p q) i (str n) hk hu tt refl
   k_pre i k (open_at f lead m p q) hk hu (Number n) =
       k_if (is_type_number n) i (go k (after_base (open_at f lead m p q) (base i (suc i) (num n)) no_place)) (λ e. k_form i k (open_at f lead m p q) i (num n) hk hu e refl)
-  k_pre i k (open_at f lead m p q) hk hu (Punct OpenParen) = (hk, hu, (tt, λ e. no_true e), refl)
+  k_pre i k (open_at f lead m p q) hk hu (Punct OpenParen) = (hk, hu, (tt, λ e. absurd (false≢true e)), refl)
   k_pre i k (open_at f lead m p q) hk hu (Punct OpenBracket) = (hk, hu, tt, refl)
   k_pre i k (open_at f lead m p q) hk hu (Punct OpenBrace) = (hk, hu, tt, refl)
   k_pre i k (open_at f lead m p q) hk hu (Punct _) = tt
@@ -230,7 +228,7 @@ module _ (can : Bool) (start : ℕ) where
   comma_group c (more_param g q) p h = h
 
   k_close_at : (b : Bool) (i : ℕ) (k : Stack) (u : Open) (s : ℕ) (g : Params) → can_fun can k ≡ b → FitsStack k (start_open u) → FitsOpen u s → FitsBegun (can_fun can k) g (suc s) → i ≡ stop_begun g (suc s) → FitsStep i (close_at b k u s g)
-  k_close_at true i k u s no_param e hk hu hg j = (hk, hu, (tt, (λ e. no_true e), e), ap suc j)
+  k_close_at true i k u s no_param e hk hu hg j = (hk, hu, (tt, (λ e. absurd (false≢true e)), e), ap suc j)
   k_close_at false i k u s no_param e hk hu hg j = tt
   k_close_at b i k u s (more_param g p) e hk hu hg j = (hk, hu, (hg.0, (λ e. refl), comma_group (can_fun can k) g p (hg.1 refl)), ap suc j)
 

@@ -1,14 +1,18 @@
 -- Reading answers a type exactly where one stands, and else the place of the fault.
-use Rattle.std.proofs.Common.{◌≡◌, refl, sym, ◌∙◌, ap, subst, ℕ, suc, Bool, true, false, [], ◌∷◌, ◌++◌, append_assoc, append-nil, if◌then◌else◌}
+use Rattle.std.proofs.Common.{◌≡◌, refl, sym, ◌∙◌, ap, subst, ℕ, suc, ◌+◌, Bool, true, false, [], ◌∷◌, ◌++◌, length, append_assoc, append-nil, arith, if◌then◌else◌}
+use Rattle.std.proofs.lemmas.List.{length-append}
+use Rattle.std.proofs.lemmas.Bool.{false≢true}
 use Rattle.js_token.specs.declared.token.TokenKind.{TokenKind}
 use Rattle.js_token.specs.declared.token.TokenKind.TheVariants.{Punct}
 use Rattle.js_token.specs.declared.punct.Punct.TheVariants.{OpenBracket, Arrow, Bar}
 use Rattle.js_grammar.specs.Words.{Bytes}
 use Rattle.js_grammar.specs.Types.{Places, no_place, Ty, ty, more_pre, pre, fun, post, Base, base, paren, Params, no_param, more_param, plain, named}
 use Rattle.js_grammar.specs.TypeSpelling.{Tokens, spell}
+use Rattle.js_grammar.specs.TypeFits.{stop}
 use Rattle.js_grammar.specs.Machine.{TypeWord, type_name, null_word, void_word, truth_of, array_word, other_word, type_word, Open, open_at, in_array, in_group, in_named, in_result, in_tuple, in_prop, Mode, want, want_pre, after_base, after_bracket, after_array, group_start, group_name, group_mark, closed, tuple_start, object_start, after_dots, after_sign, after_key, after_mark, Stack, Step, fault, go, done, end_mark, can_fun, start_base, finish, give, base_step, name_rest, single, closed_step, step, Outcome, faulty, whole, resume, run, read_tokens}
 use Rattle.js_grammar.specs.Reads.{IsType, Begins, BeginsWithin, IsGreatest, Finds, Faults}
-use Rattle.js_grammar.specs.Nesting.{Nest, nest, no_nest, StaysWithin, WithinLimit}
+use Rattle.js_grammar.specs.Nesting.{no_nest, WithinLimit}
+use Rattle.js_grammar.proofs.Limit.{stays_front}
 use Rattle.js_grammar.proofs.Complete.{reads_spelling}
 use Rattle.js_grammar.proofs.Sound.{so_far, Follows, sound}
 use Rattle.js_grammar.proofs.Kept.{FitsMode, FitsStep, kept}
@@ -24,19 +28,16 @@ is_fault fault = true
 is_fault (go k m) = false
 is_fault (done t) = false
 
-no_true : {A : Type 0} → false ≡ true → A
-no_true e = absurd (let f : false ≡ true = e in cc)
-
 -- where the tokens' end completes a type, no token is a fault
 module _ (can : Bool) (i : ℕ) where
   e_give : (k : Stack) (t : Ty) (x : TokenKind) → is_done (give can i k t end_mark) ≡ true → is_fault (give can i k t x) ≡ false
   e_give [] t x e = refl
-  e_give (in_array u s o ∷ k) t x e = no_true e
-  e_give (in_group u s g ∷ k) t x e = no_true e
-  e_give (in_named u s g a n o ∷ k) t x e = no_true e
+  e_give (in_array u s o ∷ k) t x e = absurd (false≢true e)
+  e_give (in_group u s g ∷ k) t x e = absurd (false≢true e)
+  e_give (in_named u s g a n o ∷ k) t x e = absurd (false≢true e)
   e_give (in_result u s g c ∷ k) t x e = e_give k (finish i u (fun s i g c t)) x e
-  e_give (in_tuple u s g ∷ k) t x e = no_true e
-  e_give (in_prop u s g a v y o ∷ k) t x e = no_true e
+  e_give (in_tuple u s g ∷ k) t x e = absurd (false≢true e)
+  e_give (in_prop u s g a v y o ∷ k) t x e = absurd (false≢true e)
 
   e_base : (k : Stack) (u : Open) (b : Base) (bs : Places) (x : TokenKind) → is_done (base_step can i k u b bs end_mark) ≡ true → is_fault (base_step can i k u b bs x) ≡ false
   e_base k (open_at f lead m p q) b bs (Punct OpenBracket) e = refl
@@ -45,10 +46,10 @@ module _ (can : Bool) (i : ℕ) where
 
   e_single : (k : Stack) (u : Open) (s : ℕ) (g : Params) (c : Bool) (x : TokenKind) → is_done (single can i k u s g c end_mark) ≡ true → is_fault (single can i k u s g c x) ≡ false
   e_single k u s (more_param no_param (plain t)) false x e = e_base k u (base s i (paren t)) no_place x e
-  e_single k u s (more_param no_param (plain t)) true x e = no_true e
-  e_single k u s (more_param no_param (named a d n o t)) c x e = no_true e
-  e_single k u s (more_param (more_param g q) p) c x e = no_true e
-  e_single k u s no_param c x e = no_true e
+  e_single k u s (more_param no_param (plain t)) true x e = absurd (false≢true e)
+  e_single k u s (more_param no_param (named a d n o t)) c x e = absurd (false≢true e)
+  e_single k u s (more_param (more_param g q) p) c x e = absurd (false≢true e)
+  e_single k u s no_param c x e = absurd (false≢true e)
 
   e_arrow : (b : Bool) (k : Stack) (u : Open) (s : ℕ) (g : Params) (c : Bool) → is_done (single can i k u s g c end_mark) ≡ true → is_fault (if b then go (in_result u s g c ∷ k) want else single can i k u s g c (Punct Arrow)) ≡ false
   e_arrow true k u s g c e = refl
@@ -59,29 +60,29 @@ module _ (can : Bool) (i : ℕ) where
   e_closed k u s g c x e = e_single k u s g c x e
 
   e_name : (w : TypeWord) (k : Stack) (u : Open) (s : ℕ) (g : Params) (a : ℕ) (n : Bytes) → is_done (name_rest can i k u s g a n w end_mark) ≡ true → ⊥
-  e_name type_name k u s g a n e = no_true e
-  e_name (array_word o) k u s g a n e = no_true e
-  e_name null_word k u s g a n e = no_true e
-  e_name void_word k u s g a n e = no_true e
-  e_name (truth_of b) k u s g a n e = no_true e
-  e_name other_word k u s g a n e = no_true e
+  e_name type_name k u s g a n e = absurd (false≢true e)
+  e_name (array_word o) k u s g a n e = absurd (false≢true e)
+  e_name null_word k u s g a n e = absurd (false≢true e)
+  e_name void_word k u s g a n e = absurd (false≢true e)
+  e_name (truth_of b) k u s g a n e = absurd (false≢true e)
+  e_name other_word k u s g a n e = absurd (false≢true e)
 
   ended : (k : Stack) (m : Mode) (x : TokenKind) → is_done (step can i k m end_mark) ≡ true → is_fault (step can i k m x) ≡ false
-  ended k want x e = no_true e
-  ended k (want_pre (open_at f lead m p q)) x e = no_true e
+  ended k want x e = absurd (false≢true e)
+  ended k (want_pre (open_at f lead m p q)) x e = absurd (false≢true e)
   ended k (after_base u b bs) x e = e_base k u b bs x e
-  ended k (after_bracket u b bs j) x e = no_true e
-  ended k (after_array u s o) x e = no_true e
-  ended k (group_start u s g) x e = no_true e
+  ended k (after_bracket u b bs j) x e = absurd (false≢true e)
+  ended k (after_array u s o) x e = absurd (false≢true e)
+  ended k (group_start u s g) x e = absurd (false≢true e)
   ended k (group_name u s g a n) x e = absurd (e_name (type_word n) k u s g a n e)
-  ended k (group_mark u s g a n) x e = no_true e
+  ended k (group_mark u s g a n) x e = absurd (false≢true e)
   ended k (closed u s g c) x e = e_closed k u s g c x e
-  ended k (tuple_start u s g) x e = no_true e
-  ended k (object_start u s g) x e = no_true e
-  ended k (after_dots u s g) x e = no_true e
-  ended k (after_sign u s g a v) x e = no_true e
-  ended k (after_key u s g a v y) x e = no_true e
-  ended k (after_mark u s g a v y) x e = no_true e
+  ended k (tuple_start u s g) x e = absurd (false≢true e)
+  ended k (object_start u s g) x e = absurd (false≢true e)
+  ended k (after_dots u s g) x e = absurd (false≢true e)
+  ended k (after_sign u s g a v) x e = absurd (false≢true e)
+  ended k (after_key u s g a v y) x e = absurd (false≢true e)
+  ended k (after_mark u s g a v y) x e = absurd (false≢true e)
 
 not_whole : (l : Tokens) (t : Ty) (r : Tokens) → faulty l ≡ whole t r → ⊥
 not_whole l t r e = cc
@@ -97,18 +98,23 @@ done_end fault t e = absurd (not_whole [] t [] e)
 done_end (go k m) t e = absurd (not_whole [] t [] e)
 done_end (done s) t e = refl
 
+-- a further token, a further place
+count_more : (start i : ℕ) (q : Tokens) (x : TokenKind) → i ≡ start + length q → suc i ≡ start + length (q ++ x ∷ [])
+count_more start i q x e = let a : length (q ++ x ∷ []) ≡ length q + 1 = length-append q (x ∷ []) in omega arith
+
 module _ (can : Bool) (start : ℕ) where
   -- what reading answers without a limit of nesting
-  abbrev Longest : Tokens → Tokens → Type 0
+  abbrev pub Longest : Tokens → Tokens → Type 0
   Longest q rest = (x : TokenKind) (r : Tokens) → rest ≡ x ∷ r → Begins can start (q ++ x ∷ []) → ⊥
 
-  abbrev Answers : Tokens → Outcome → Type 0
-  Answers l (whole t rest) = (q : Tokens) × (l ≡ q ++ rest) × IsType can start t × ((w : Tokens) → spell t w ≡ q ++ w) × Longest q rest
+  abbrev pub Answers : Tokens → Outcome → Type 0
+  Answers l (whole t rest) = (q : Tokens) × (l ≡ q ++ rest) × IsType can start t × ((w : Tokens) → spell t w ≡ q ++ w) × Longest q rest × (stop t start ≡ start + length q)
   Answers l (faulty rest) = (q : Tokens) × (l ≡ q ++ rest) × Begins can start q × Longest q rest × ((t : Ty) → IsType can start t → spell t [] ≡ q → ⊥)
 
   -- the state that the tokens q lead to, up to the place i
   record Reached (q : Tokens) (i : ℕ) (k : Stack) (m : Mode) : Type 0 where
     fits : FitsMode can start k m i
+    counts : i ≡ start + length q
     spelled : (w : Tokens) → so_far k m w ≡ q ++ w
     runs : (w : Tokens) → run can start [] want (q ++ w) ≡ run can i k m w
 
@@ -130,7 +136,7 @@ module _ (can : Bool) (start : ℕ) where
   at_end : (q : Tokens) (i : ℕ) (k : Stack) (m : Mode) → Reached q i k m → (s : Step) → step can i k m end_mark ≡ s → Follows (so_far k m) end_mark s → FitsStep can start i s → Answers (q ++ []) (resume (λ k m. faulty []) s [])
   at_end q i k m r fault e f h = (q, refl, begins q i k m r, longest_end q, λ t j d. not_whole [] t [] (sym (ap (λ s. resume (λ k m. faulty []) s []) e) ∙ ends_at q i k m r t j d))
   at_end q i k m r (go k' m') e f h = (q, refl, begins q i k m r, longest_end q, λ t j d. not_whole [] t [] (sym (ap (λ s. resume (λ k m. faulty []) s []) e) ∙ ends_at q i k m r t j d))
-  at_end q i k m r (done t) e f h = (q, refl, h.0, (λ w. f w ∙ r.spelled w), longest_end q)
+  at_end q i k m r (done t) e f h = (q, refl, h.0, (λ w. f w ∙ r.spelled w), longest_end q, sym (h.1) ∙ r.counts)
 
   at_token : (q : Tokens) (i : ℕ) (k : Stack) (m : Mode) → Reached q i k m → (x : TokenKind) (l : Tokens) → ((q : Tokens) (i : ℕ) (k : Stack) (m : Mode) → Reached q i k m → Answers (q ++ l) (run can i k m l)) →
       (s : Step) → step can i k m x ≡ s → Follows (so_far k m) x s → FitsStep can start i s → Answers (q ++ x ∷ l) (resume (λ k m. run can (suc i) k m l) s (x ∷ l))
@@ -145,6 +151,7 @@ module _ (can : Bool) (start : ℕ) where
       subst (λ z. Answers z (run can (suc i) k' m' l)) (append_assoc q (x ∷ []) l)
       (ih (q ++ x ∷ []) (suc i) k' m' (record {
         fits = h;
+        counts = count_more start i q x (r.counts);
         spelled = λ w. f w ∙ r.spelled (x ∷ w) ∙ sym (append_assoc q (x ∷ []) w);
         runs = λ w. ap (run can start [] want) (append_assoc q (x ∷ []) w) ∙ r.runs (x ∷ w) ∙ ap (λ s. resume (λ k m. run can (suc i) k m w) s (x ∷ w)) e;
       }))
@@ -154,19 +161,15 @@ module _ (can : Bool) (start : ℕ) where
     h.0,
     (λ w. f w ∙ r.spelled w),
     (λ y w j. subst (λ z. Begins can start (q ++ z ∷ []) → ⊥) (heads j) (past q i k m r x (λ w t' j. whole_rest t t' x w (sym (ap (λ s. resume (λ k m. run can (suc i) k m w) s (x ∷ w)) e) ∙ j)))),
+    sym (h.1) ∙ r.counts,
   )
 
   reads : (l q : Tokens) (i : ℕ) (k : Stack) (m : Mode) → Reached q i k m → Answers (q ++ l) (run can i k m l)
   reads [] q i k m r = at_end q i k m r (step can i k m end_mark) refl (sound can i k m end_mark) (kept can start k m i end_mark (r.fits))
   reads (x ∷ l) q i k m r = at_token q i k m r x l (reads l) (step can i k m x) refl (sound can i k m x) (kept can start k m i x (r.fits))
 
-  all_reads : (l : Tokens) → Answers l (read_tokens can start l)
-  all_reads l = reads l [] start [] want (record { fits = refl; spelled = λ w. refl; runs = λ w. refl })
-
--- what is within the limit is so in front
-stays_front : (a b : Tokens) (n : Nest) → StaysWithin n (a ++ b) → StaysWithin n a
-stays_front [] b n h = tt
-stays_front (x ∷ a) b n h = (h.0, stays_front a b (nest n x) (h.1))
+  pub all_reads : (l : Tokens) → Answers l (read_tokens can start l)
+  all_reads l = reads l [] start [] want (record { fits = refl; counts = omega arith; spelled = λ w. refl; runs = λ w. refl })
 
 -- a is within the limit, and with the next token of b it is not
 abbrev pub EndsWithin : Tokens → Tokens → Type 0

@@ -1,6 +1,7 @@
 -- Each state that is reached can be completed: some tokens make a type of what is written.
 use Rattle.std.proofs.Common.{◌≡◌, refl, sym, ◌∙◌, ap, subst, ℕ, suc, Bool, true, false, [], ◌∷◌, if◌then◌else◌}
 use Rattle.std.specs.Prelude.{codes}
+use Rattle.std.proofs.lemmas.Bool.{false≢true}
 use Rattle.js_token.specs.Words.{is_reserved}
 use Rattle.std.specs.Str.{bytes_eq}
 use Rattle.js_token.specs.declared.token.TokenKind.TheVariants.{Name, Str, Punct}
@@ -13,9 +14,6 @@ use Rattle.js_grammar.specs.Machine.{TypeWord, reserved_word, type_name, null_wo
 use Rattle.js_grammar.proofs.Words.{IsWord, word_is}
 use Rattle.js_grammar.proofs.Sound.{spell_open, spell_frame, spell_stack, so_far}
 use Rattle.js_grammar.proofs.Kept.{start_open, start_frame, FitsOpen, FitsBegun, FitsGroup, FitsFrame, FitsStack, FitsMode, FitsAt, at_core, fits_fun, fits_named, fits_prop, fresh_open}
-
-no_true : {A : Type 0} → false ≡ true → A
-no_true e = absurd (let f : false ≡ true = e in cc)
 
 abbrev null_base : ℕ → Base
 null_base i = base i (suc i) null
@@ -53,7 +51,7 @@ module _ (can : Bool) (start : ℕ) where
   fits_lone s j x h e = (refl, e, (refl, e, h), tt)
 
   at_lone : (k : Stack) (u : Open) (s : ℕ) (x : Form) → FitsOpen u s → FitsForm x s → FitsAt can start k (finish (stop_form x s) u (lone s (stop_form x s) x)) (start_open u)
-  at_lone k u s x hu hx = at_core can start k (stop_form x s) u (lone s (stop_form x s) x) s hu (fits_lone s (stop_form x s) x hx refl) refl (λ e. no_true e)
+  at_lone k u s x hu hx = at_core can start k (stop_form x s) u (lone s (stop_form x s) x) s hu (fits_lone s (stop_form x s) x hx refl) refl (λ e. absurd (false≢true e))
 
   -- a function type with result `null`
   abbrev null_fun : ℕ → Params → Bool → Core
@@ -116,7 +114,7 @@ module _ (can : Bool) (start : ℕ) where
   v_core k i u c s hk hu hc j m = closes k i u c _ (λ l. l) (λ l. refl) (v_stack k (finish i u c) (start_open u) hk (at_core can start k i u c s hu hc j m))
 
   v_form : (k : Stack) (u : Open) (s : ℕ) (x : Form) → FitsStack can start k (start_open u) → FitsOpen u s → FitsForm x s → Completes (λ l. spell_stack k (spell_open u (spell_form x l)))
-  v_form k u s x hk hu hx = v_core k (stop_form x s) u (lone s (stop_form x s) x) s hk hu (fits_lone s (stop_form x s) x hx refl) refl (λ e. no_true e)
+  v_form k u s x hk hu hx = v_core k (stop_form x s) u (lone s (stop_form x s) x) s hk hu (fits_lone s (stop_form x s) x hx refl) refl (λ e. absurd (false≢true e))
 
   v_fun : (k : Stack) (u : Open) (s : ℕ) (g : Params) (c : Bool) → FitsStack can start k (start_open u) → FitsOpen u s → FitsParams g (suc s) → CommaFits c (has_params g) → can_fun can k ≡ true → Completes (so_far k (closed u s g c))
   v_fun k u s g c hk hu hg hc e =
@@ -143,23 +141,23 @@ module _ (can : Bool) (start : ℕ) where
       extend _ (λ l. spell_stack k (spell_open u (Punct OpenParen ∷ spell_begun g (Name n ∷ l)))) (λ l. Punct LessThan ∷ l)
       (λ l. ap (λ n. spell_stack k (spell_open u (Punct OpenParen ∷ spell_begun g (Name n ∷ Punct LessThan ∷ l)))) (sym h))
       (v_in (in_group u s g ∷ k) (in_array (fresh a) a o) (suc (suc a)) (fresh_open can start a, refl) ((hu, hg, j), hk))
-  v_name null_word k u s g a n h e r hk hu hg j = no_true (sym r ∙ ap is_reserved h)
-  v_name void_word k u s g a n h e r hk hu hg j = no_true (sym r ∙ ap is_reserved h)
-  v_name (truth_of true) k u s g a n h e r hk hu hg j = no_true (sym r ∙ ap is_reserved h)
-  v_name (truth_of false) k u s g a n h e r hk hu hg j = no_true (sym r ∙ ap is_reserved h)
+  v_name null_word k u s g a n h e r hk hu hg j = absurd (false≢true (sym r ∙ ap is_reserved h))
+  v_name void_word k u s g a n h e r hk hu hg j = absurd (false≢true (sym r ∙ ap is_reserved h))
+  v_name (truth_of true) k u s g a n h e r hk hu hg j = absurd (false≢true (sym r ∙ ap is_reserved h))
+  v_name (truth_of false) k u s g a n h e r hk hu hg j = absurd (false≢true (sym r ∙ ap is_reserved h))
   v_name other_word k u s g a n h e r hk hu hg j = absurd (not_other n r e)
 
   v_object : (k : Stack) (u : Open) (s : ℕ) (g : Props) → FitsStack can start k (start_open u) → FitsOpen u s → FitsProps g (suc s) → Completes (λ l. spell_stack k (spell_open u (Punct OpenBrace ∷ spell_rows g l)))
   v_object k u s g hk hu hg = extend _ (λ l. spell_stack k (spell_open u (Punct OpenBrace ∷ spell_rows g l))) (λ l. Punct Ellipsis ∷ Punct CloseBrace ∷ l) (λ l. refl) (v_form k u s (object g dots) hk hu (hg, tt))
 
   pub viable : (k : Stack) (m : Mode) (i : ℕ) → FitsMode can start k m i → Completes (so_far k m)
-  viable k want i h = extend _ (so_far k want) (λ l. Name (codes "null") ∷ l) (λ l. refl) (v_stack k (null_at i) i h (null_fits i, λ e. no_true e))
+  viable k want i h = extend _ (so_far k want) (λ l. Name (codes "null") ∷ l) (λ l. refl) (v_stack k (null_at i) i h (null_fits i, λ e. absurd (false≢true e)))
   viable k (want_pre u) i h = extend _ (so_far k (want_pre u)) (λ l. Name (codes "null") ∷ l) (λ l. refl) (v_form k u i null (h.0) (h.1) tt)
-  viable k (after_base u b bs) i h = v_core k i u (post (start_base b) i b bs) (start_base b) (h.0) (h.1) (refl, h.4, h.2, h.3) (h.4) (λ e. no_true e)
+  viable k (after_base u b bs) i h = v_core k i u (post (start_base b) i b bs) (start_base b) (h.0) (h.1) (refl, h.4, h.2, h.3) (h.4) (λ e. absurd (false≢true e))
   viable k (after_bracket u b bs j) i h =
       extend _ (so_far k (after_bracket u b bs j)) (λ l. Punct CloseBracket ∷ l) (λ l. refl)
       (v_core k (suc (suc j)) u (post (start_base b) (suc (suc j)) b (more_place bs j)) (start_base b) (h.0) (h.1)
-      (refl, ap (λ j. suc (suc j)) (h.4), h.2, (h.3, h.4)) (ap (λ j. suc (suc j)) (h.4)) (λ e. no_true e))
+      (refl, ap (λ j. suc (suc j)) (h.4), h.2, (h.3, h.4)) (ap (λ j. suc (suc j)) (h.4)) (λ e. absurd (false≢true e)))
   viable k (after_array u s o) i h = extend _ (so_far k (after_array u s o)) (λ l. Punct LessThan ∷ l) (λ l. refl) (v_in k (in_array u s o) (suc (suc s)) (h.1, refl) (h.0))
   viable k (group_start u s g) i h = v_in k (in_group u s g) i (h.1, h.2, h.3) (h.0)
   viable k (group_name u s g a n) i h = v_name (type_word n) k u s g a n (word_is n) refl (h.4) (h.0) (h.1) (h.2) (h.3)

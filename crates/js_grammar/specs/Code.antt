@@ -245,6 +245,7 @@ operand_rank relation_level = 6
 operand_rank sum_level = 7
 operand_rank product_level = 8
 
+-- how tight prefixes, links and what stands alone bind
 abbrev pub prefixed_rank : ℕ
 prefixed_rank = 8
 
@@ -254,6 +255,7 @@ postfixed_rank = 9
 abbrev pub primary_rank : ℕ
 primary_rank = 10
 
+-- how tight a form binds: an arrow and a conditional least
 abbrev pub form_rank : ExForm → ℕ
 form_rank (cond hs e) = 0
 form_rank (arrow s b) = 0
@@ -283,6 +285,7 @@ level_of multiply = product_level
 level_of divide = product_level
 level_of remainder = product_level
 
+-- whether it is a conditional
 abbrev pub is_cond : Ex → Bool
 is_cond (ex f t (cond hs e)) = true
 is_cond (ex f t x) = false

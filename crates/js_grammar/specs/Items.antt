@@ -1,5 +1,6 @@
 -- The trees of modules: their items, the spelling, the places of the tokens, and which of them are of the grammar.
-use Rattle.std.specs.Prelude.{◌≡◌, ℕ, suc, Bool, true, false, Option, Some, None, List, [], ◌∷◌, codes}
+use Rattle.std.specs.Prelude.{◌≡◌, ℕ, suc, ◌&&◌, Bool, true, false, Option, Some, None, List, [], ◌∷◌, codes}
+use Rattle.std.specs.Str.{bytes_eq}
 use Rattle.js_token.specs.declared.token.TokenKind.{TokenKind}
 use Rattle.js_token.specs.declared.token.TokenKind.TheVariants.{Name, Str, Punct}
 use Rattle.js_token.specs.declared.punct.Punct.TheVariants.{OpenBrace, CloseBrace, Comma, Semicolon, Assign}
@@ -294,6 +295,19 @@ IsTopForm s = ⊥
 abbrev pub IsTop : Simple → Type 0
 IsTop (simple f t s) = IsTopForm s
 
+abbrev pub begins_word : Tokens → Bool
+begins_word (Name n ∷ l) = true
+begins_word l = false
+
+-- `type` and a word begin an alias, and no other item
+abbrev pub begins_alias : Tokens → Bool
+begins_alias (Name n ∷ l) = bytes_eq n (codes "type") && begins_word l
+begins_alias l = false
+
+-- whatever comes behind the statement's semicolon
+abbrev pub BeginsNoAlias : Simple → Type 0
+BeginsNoAlias s = (l : Tokens) → begins_alias (spell_simple s (Punct Semicolon ∷ l)) ≡ false
+
 abbrev pub top_context : Context
 top_context = inside false false
 
@@ -303,7 +317,7 @@ FitsItemForm (exports e) i = FitsExport e (suc i)
 FitsItemForm (declares_item d) i = FitsDeclaration d i
 FitsItemForm (function_item f) i = IsNamed f × FitsFunction f i
 FitsItemForm (alias_item a) i = FitsAlias a i
-FitsItemForm (does_item s) i = IsTop s × FitsSimple s top_context i
+FitsItemForm (does_item s) i = IsTop s × BeginsNoAlias s × FitsSimple s top_context i
 
 abbrev pub FitsItem : Item → ℕ → Type 0
 FitsItem (item f t x) i = (f ≡ i) × (t ≡ stop_item_form x i) × FitsItemForm x i

@@ -1,9 +1,43 @@
--- The law of spelling.
-use Rattle.std.specs.Prelude.{◌≡◌, ℕ, []}
-use Rattle.js_grammar.specs.Types.{Ty}
-use Rattle.js_grammar.specs.TypeSpelling.{spell}
+-- The laws of spelling, of the places, and of reading a type.
+use Rattle.std.specs.Prelude.{◌≡◌, ℕ, ◌+◌, ◌≤◌, Bool, [], length, drop}
+use Rattle.js_grammar.specs.Types.{Ty, ty}
+use Rattle.js_grammar.specs.TypeSpelling.{Tokens, spell}
 use Rattle.js_grammar.specs.TypeFits.{Fits}
+use Rattle.js_grammar.specs.GoesOn.{goes_on_type, IsEnded}
+use Rattle.js_grammar.specs.Reads.{IsType, Finds, Faults}
 
 -- two types of the grammar that begin at one place and have one spelling are equal
 abbrev pub SameSpellingSameType : Type 0
 SameSpellingSameType = (i : ℕ) (a b : Ty) → Fits a i → Fits b i → spell a [] ≡ spell b [] → a ≡ b
+
+-- and so are two that stand in front of one list of tokens, where neither is gone on; where `plain` is false, of those without a
+-- function type outside brackets
+abbrev pub SameFrontSameType : Type 0
+SameFrontSameType = (plain : Bool) (i : ℕ) (a b : Ty) → IsType plain i a → IsType plain i b → (m n : Tokens) → spell a m ≡ spell b n →
+    IsEnded (goes_on_type plain) m → IsEnded (goes_on_type plain) n → a ≡ b
+
+-- the place of a type's first token, and the place behind its last
+abbrev pub first_place : Ty → ℕ
+first_place (ty f t lead ps) = f
+
+abbrev pub end_place : Ty → ℕ
+end_place (ty f t lead ps) = t
+
+-- a type ends as many places behind its first as its spelling has tokens
+abbrev pub EndsBehindItsTokens : Type 0
+EndsBehindItsTokens = (i : ℕ) (t : Ty) → Fits t i → (first_place t ≡ i) × (end_place t ≡ i + length (spell t []))
+
+-- what is read from a place on begins there, and ends where the rest begins
+abbrev pub EndsWhereTheRestBegins : Type 0
+EndsWhereTheRestBegins = (plain : Bool) (l : Tokens) (from end : ℕ) (t : Ty) → from ≤ end → end ≤ length l → Finds plain from (drop from l) t (drop end l) →
+    (first_place t ≡ from) × (end_place t ≡ end)
+
+-- Of one list of tokens there is one answer: one type and one rest, or one place of the fault.
+abbrev pub FindsOneType : Type 0
+FindsOneType = (plain : Bool) (i : ℕ) (l : Tokens) (t u : Ty) (r s : Tokens) → Finds plain i l t r → Finds plain i l u s → (t ≡ u) × (r ≡ s)
+
+abbrev pub FaultsAtOnePlace : Type 0
+FaultsAtOnePlace = (plain : Bool) (i : ℕ) (l : Tokens) (r s : Tokens) → Faults plain i l r → Faults plain i l s → r ≡ s
+
+abbrev pub FindsOrFaults : Type 0
+FindsOrFaults = (plain : Bool) (i : ℕ) (l : Tokens) (t : Ty) (r s : Tokens) → Finds plain i l t r → Faults plain i l s → ⊥

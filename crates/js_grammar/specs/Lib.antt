@@ -10,4 +10,5 @@ pub mod Items
 pub mod Nesting
 pub mod Reads
 pub mod Machine
+pub mod GoesOn
 pub mod Law

@@ -87,6 +87,7 @@ can_fun can (f ∷ k) = true
 abbrev pub fresh : ℕ → Open
 fresh i = open_at i false no_pre i no_place
 
+-- where it begins
 abbrev pub start_base : Base → ℕ
 start_base (base f t x) = f
 
@@ -94,6 +95,7 @@ start_base (base f t x) = f
 abbrev pub finish : ℕ → Open → Core → Ty
 finish i (open_at f lead m p q) c = ty f i lead (more_pre m (pre p i q c))
 
+-- Each form behind a whole part of it: a token ends the form, or a further part begins.
 abbrev pub after_param : Bool → Stack → Open → ℕ → Params → TokenKind → Step
 after_param can k u s g (Punct CloseParen) = go k (closed u s g false)
 after_param can k u s g (Punct Comma) = if can then go k (group_start u s g) else fault
@@ -232,6 +234,7 @@ abbrev pub marked_step : Stack → Open → ℕ → Props → ℕ → Sign → K
 marked_step k u s g a v y (Punct Colon) = go (in_prop u s g a v y true ∷ k) want
 marked_step k u s g a v y _ = fault
 
+-- what a token at a place does in a state
 abbrev pub step : Bool → ℕ → Stack → Mode → TokenKind → Step
 step can i k want x = want_step i k x
 step can i k (want_pre u) x = pre_step i k u x
@@ -254,11 +257,13 @@ pub data Outcome : Type 0 where
   faulty : Tokens → Outcome
   whole : Ty → Tokens → Outcome
 
+-- how reading goes on behind a step, where these tokens are left
 abbrev pub resume : (Stack → Mode → Outcome) → Step → Tokens → Outcome
 resume r fault l = faulty l
 resume r (go k m) l = r k m
 resume r (done t) l = whole t l
 
+-- reading from a state on, where the end of the tokens is read as a token of its own
 abbrev pub run : Bool → ℕ → Stack → Mode → Tokens → Outcome
 run can i k m [] = resume (λ k m. faulty []) (step can i k m end_mark) []
 run can i k m (x ∷ l) = resume (λ k m. run can (suc i) k m l) (step can i k m x) (x ∷ l)
@@ -267,10 +272,12 @@ run can i k m (x ∷ l) = resume (λ k m. run can (suc i) k m l) (step can i k m
 abbrev pub read_tokens : Bool → ℕ → Tokens → Outcome
 read_tokens can i l = run can i [] want l
 
+-- the first token, or the end
 abbrev pub first : Tokens → TokenKind
 first [] = end_mark
 first (x ∷ l) = x
 
+-- reading from a step on, where the first of these tokens was its token
 abbrev pub go_on : Bool → ℕ → Step → Tokens → Outcome
 go_on can i s [] = resume (λ k m. faulty []) s []
 go_on can i s (x ∷ l) = resume (λ k m. run can (suc i) k m l) s (x ∷ l)

@@ -1,5 +1,5 @@
 -- How deep tokens nest.
-use Rattle.std.specs.Prelude.{ℕ, ◌≤◌, Bool, true, false, List, [], ◌∷◌, length, codes}
+use Rattle.std.specs.Prelude.{ℕ, ◌≤◌, nat_lt, Bool, true, false, List, [], ◌∷◌, length, codes}
 use Rattle.std.specs.Str.{bytes_eq}
 use Rattle.js_token.specs.declared.token.TokenKind.{TokenKind}
 use Rattle.js_token.specs.declared.token.TokenKind.TheVariants.{Name, Number, Str, Punct}
@@ -27,6 +27,7 @@ close_parts (false ∷ o) = close_parts o
 pub data Nest : Type 0 where
   nested : Opened → Bool → Nest
 
+-- how many entries are open
 abbrev pub height : Nest → ℕ
 height (nested o b) = length o
 
@@ -62,11 +63,16 @@ nest (nested o b) (Name w) = nested (after_word o b (bytes_eq w (codes "as"))) f
 nest (nested o b) (Number n) = nested o false
 nest (nested o b) (Str s) = nested o false
 
+-- before the first token
 abbrev pub no_nest : Nest
 no_nest = nested [] false
 
 abbrev pub max_nesting : ℕ
 max_nesting = 200
+
+-- whether more is open than the limit allows
+abbrev pub is_deep : Nest → Bool
+is_deep n = nat_lt max_nesting (height n)
 
 -- each token leaves at most 200 entries open
 abbrev pub StaysWithin : Nest → Tokens → Type 0

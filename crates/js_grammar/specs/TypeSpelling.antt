@@ -14,10 +14,12 @@ abbrev pub opt : Bool → TokenKind → Tokens → Tokens
 opt true x l = x ∷ l
 opt false x l = l
 
+-- a question mark each
 abbrev pub marks : Places → Tokens → Tokens
 marks no_place l = l
 marks (more_place ps p) l = marks ps (Punct Question ∷ l)
 
+-- a pair of brackets each
 abbrev pub brackets : Places → Tokens → Tokens
 brackets no_place l = l
 brackets (more_place ps p) l = brackets ps (Punct OpenBracket ∷ Punct CloseBracket ∷ l)

@@ -81,14 +81,17 @@ mutual
   pub data Prop : Type 0 where
     prop : ℕ → ℕ → Sign → Key → Bool → Ty → Prop
 
+-- whether the list has one
 abbrev pub has_params : Params → Bool
 has_params no_param = false
 has_params (more_param ps p) = true
 
+-- whether the list has one
 abbrev pub has_types : Types → Bool
 has_types no_type = false
 has_types (more_type ts t) = true
 
+-- whether the list has one
 abbrev pub has_props : Props → Bool
 has_props no_prop = false
 has_props (more_prop ps p) = true
@@ -101,9 +104,11 @@ is_fun_core (post f t b bs) = false
 abbrev pub is_fun_pre : Pre → Bool
 is_fun_pre (pre f t q c) = is_fun_core c
 
+-- whether the last is one
 abbrev pub ends_fun : Pres → Bool
 ends_fun no_pre = false
 ends_fun (more_pre ps p) = is_fun_pre p
 
+-- whether a function type stands outside brackets
 abbrev pub has_fun : Ty → Bool
 has_fun (ty f t lead ps) = ends_fun ps

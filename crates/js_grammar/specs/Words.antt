@@ -16,6 +16,7 @@ abbrev pub array_name : Bool → Bytes
 array_name false = codes "Array"
 array_name true = codes "$ReadOnlyArray"
 
+-- whether the word is one of them
 abbrev pub names_array : Bytes → Bool
 names_array word = if bytes_eq word (array_name false) then true else bytes_eq word (array_name true)
 
@@ -27,6 +28,7 @@ IsTypeName word = (is_reserved word ≡ false) × (names_array word ≡ false)
 abbrev pub is_type_number : Bytes → Bool
 is_type_number digits = is_whole digits && nat_le (length digits) 15
 
+-- `true` or `false`
 abbrev pub truth_word : Bool → Bytes
 truth_word true = codes "true"
 truth_word false = codes "false"

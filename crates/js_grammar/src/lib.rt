@@ -2,10 +2,25 @@
 //! the code here is the laws, as the contracts of functions that do nothing.
 #![tactic(auto)]
 
-ghost use Rattle.js_grammar.specs.Law.{SameSpellingSameType};
+ghost use Rattle.js_grammar.specs.Law.{SameSpellingSameType, SameFrontSameType, EndsBehindItsTokens, EndsWhereTheRestBegins, FindsOneType, FaultsAtOnePlace, FindsOrFaults};
 
-/// Two types of the grammar that begin at one place and have one spelling are equal, their numbers
-/// too.
+/// Two types of the grammar that begin at one place and have one spelling are equal, their numbers too; and so are two that
+/// stand in front of one list of tokens, where neither is followed by a token that can go on it.
 pub fn one_type()
-    ensures { SameSpellingSameType }
+    ensures alone { SameSpellingSameType }
+    ensures in_front { SameFrontSameType }
+{}
+
+/// A type of the grammar ends as many places behind its first token as its spelling has tokens; so one that is read begins
+/// where reading began, and ends where the rest begins.
+pub fn ends_behind_its_tokens()
+    ensures every { EndsBehindItsTokens }
+    ensures as_read { EndsWhereTheRestBegins }
+{}
+
+/// Reading a type from the front of a list of tokens has one answer.
+pub fn one_answer()
+    ensures types { FindsOneType }
+    ensures faults { FaultsAtOnePlace }
+    ensures either { FindsOrFaults }
 {}

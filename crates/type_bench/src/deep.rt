@@ -116,7 +116,7 @@ pub(crate) fn walk(
 ) -> Result<(u64, u64), NoMemory> {
     let a = deep(alloc, shape, depth)?;
     let b = deep(alloc, shape, depth)?;
-    if walk == b"drop" {
+    if walk == b"drop".as_slice() {
         mem::forget(b);
         return Ok((0, 1));
     }

@@ -1,6 +1,7 @@
 -- Whether a group is one type.
 use Rattle.std.proofs.Common.{◌≡◌, refl, sym, ◌∙◌, ap, subst, List, [], ◌∷◌, ◌++◌, Bool, true, false, length, Some, None, rules}
 use Rattle.std.specs.Prelude.{◌==◌}
+use Rattle.std.proofs.lemmas.Bool.{true≢false}
 use Rattle.js_grammar.specs.Types.{Params, no_param, more_param, Param, plain, named}
 use Rattle.type_tree.specs.View.{type_view, param_view, params_view}
 use Rattle.type_tree.specs.declared.types.TypeTree.{TypeTree}
@@ -30,7 +31,7 @@ long : (comma : Bool) (ps : Params) (j : Params) (k p : Param) → ps ≡ more_p
 long comma ps j k p e = subst (λ ps. IsSingle (more_param ps p) comma None) (sym e) refl
 
 pub single_long : (comma : Bool) (rest : List ParamTree) (p : ParamTree) → (length rest == 0) ≡ false → IsSingle (params_view (rest ++ p ∷ [])) comma None
-single_long comma [] p e = absurd (let f : true ≡ false = e in cc)
+single_long comma [] p e = absurd (true≢false e)
 single_long comma (r ∷ rest) p e =
     let m = params_view-more r rest in subst (λ ps. IsSingle ps comma None) (sym (params_view-push (r ∷ rest) p)) (long comma (params_view (r ∷ rest)) (m.0) (m.1) (param_view p) (m.2))
 

@@ -4,11 +4,11 @@ use Rattle.js_token.specs.declared.token.Token.{Token}
 use Rattle.js_token.specs.declared.token.TokenKind.{TokenKind}
 use Rattle.js_grammar.specs.Types.{Ty}
 use Rattle.js_grammar.specs.TypeSpelling.{Tokens}
-use Rattle.js_grammar.specs.Nesting.{Nest, nest}
+use Rattle.js_grammar.specs.Nesting.{Nest, nest, is_deep}
 use Rattle.js_grammar.specs.Machine.{Stack, Mode, Step, fault, go, done, resume, step, end_mark, whole, faulty}
 use Rattle.type_tree.specs.declared.types.TypeTree.{TypeTree}
 use Rattle.type_tree.specs.View.{type_view}
-use Rattle.type_parser.specs.Within.{is_deep, run_end, run_within, read_within}
+use Rattle.type_parser.specs.Within.{run_end, run_within, read_within}
 use Rattle.type_parser.specs.Reading.{kinds, Gets, Ends, Reads}
 use Rattle.type_parser.specs.declared.read.ParseFault.{ParseFault}
 use Rattle.type_parser.specs.declared.read.ParseFault.TheVariants.{At, NoMemory}

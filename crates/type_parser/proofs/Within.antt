@@ -1,13 +1,13 @@
 -- What reading up to the limit of nesting answers, in the words of the definition.
-use Rattle.std.proofs.Common.{◌≡◌, refl, sym, ◌∙◌, ap, subst, ℕ, suc, ◌≤◌, nat_lt, arith, Bool, true, false, [], ◌∷◌, ◌++◌}
-use Rattle.std.proofs.lemmas.Bool.Decides.{nat_tests}
+use Rattle.std.proofs.Common.{◌≡◌, refl, sym, ◌∙◌, ap, subst, ℕ, suc, ◌≤◌, Bool, true, false, [], ◌∷◌, ◌++◌}
 use Rattle.js_token.specs.declared.token.TokenKind.{TokenKind}
 use Rattle.js_grammar.specs.TypeSpelling.{Tokens}
-use Rattle.js_grammar.specs.Nesting.{Nest, nest, no_nest, height, max_nesting, StaysWithin}
+use Rattle.js_grammar.specs.Nesting.{Nest, nest, no_nest, height, max_nesting, is_deep, StaysWithin}
+use Rattle.js_grammar.proofs.Limit.{deep_not, shallow}
 use Rattle.js_grammar.specs.Machine.{Stack, Mode, want, Step, fault, go, done, step, end_mark, run, resume, read_tokens, Outcome, faulty, whole}
 use Rattle.js_grammar.specs.Reads.{Finds, Faults}
 use Rattle.js_grammar.proofs.Main.{Says, reads_types}
-use Rattle.type_parser.specs.Within.{is_deep, run_within, read_within}
+use Rattle.type_parser.specs.Within.{run_within, read_within}
 
 -- with more tokens left
 abbrev onto : Tokens → Outcome → Outcome
@@ -27,12 +27,6 @@ record Cut (can : Bool) (n : Nest) (l : Tokens) : Type 0 where
   within : StaysWithin n front
   past : (x : TokenKind) (r : Tokens) → rest ≡ x ∷ r → StaysWithin n (front ++ x ∷ []) → ⊥
   runs : (i : ℕ) (k : Stack) (m : Mode) → run_within can i n k m l ≡ onto rest (run can i k m front)
-
-deep_not : (n : Nest) → is_deep n ≡ true → height n ≤ max_nesting → ⊥
-deep_not n e h = absurd (let t : nat_lt max_nesting (height n) ≡ false = grind (arith, nat_tests) in cc)
-
-shallow : (n : Nest) → is_deep n ≡ false → height n ≤ max_nesting
-shallow n e = grind (arith, nat_tests)
 
 step_onto : (can : Bool) (i : ℕ) (n : Nest) (x : TokenKind) (l a b : Tokens) → l ≡ a ++ b → ((k : Stack) (m : Mode) → run_within can (suc i) n k m l ≡ onto b (run can (suc i) k m a)) → (s : Step) →
     resume (λ k m. run_within can (suc i) n k m l) s (x ∷ l) ≡ onto b (resume (λ k m. run can (suc i) k m a) s (x ∷ a))

@@ -10,6 +10,7 @@ use Rattle.type_parser.specs.Within.{run_end, read_within}
 use Rattle.type_parser.specs.declared.read.ParseFault.{ParseFault}
 use Rattle.type_parser.specs.declared.read.ParseFault.TheVariants.{At, NoMemory}
 
+-- the tokens, without their spans
 abbrev pub kinds : List Token → Tokens
 kinds tokens = map (λ t. t.kind) tokens
 

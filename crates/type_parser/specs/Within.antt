@@ -1,16 +1,14 @@
 -- Reading up to the limit of nesting: the token that would pass it is read as the end of the tokens.
-use Rattle.std.specs.Prelude.{ℕ, suc, nat_lt, Bool, [], ◌∷◌, if◌then◌else◌}
+use Rattle.std.specs.Prelude.{ℕ, suc, Bool, [], ◌∷◌, if◌then◌else◌}
 use Rattle.js_grammar.specs.TypeSpelling.{Tokens}
-use Rattle.js_grammar.specs.Nesting.{Nest, nest, no_nest, height, max_nesting}
+use Rattle.js_grammar.specs.Nesting.{Nest, nest, no_nest, is_deep}
 use Rattle.js_grammar.specs.Machine.{Stack, Mode, want, step, end_mark, resume, Outcome, faulty}
 
--- whether more is open than the limit allows
-abbrev pub is_deep : Nest → Bool
-is_deep n = nat_lt max_nesting (height n)
-
+-- reading that ends here
 abbrev pub run_end : Bool → ℕ → Stack → Mode → Tokens → Outcome
 run_end can i k m l = resume (λ k m. faulty l) (step can i k m end_mark) l
 
+-- reading from a state on, up to the limit
 abbrev pub run_within : Bool → ℕ → Nest → Stack → Mode → Tokens → Outcome
 run_within can i n k m [] = run_end can i k m []
 run_within can i n k m (x ∷ l) =

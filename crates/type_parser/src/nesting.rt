@@ -1,9 +1,8 @@
 // How deep the tokens nest.
 ghost use Rattle.std.specs.Prelude.{◌≡◌, OnOk, codes, length};
 ghost use Rattle.std.specs.Str.{bytes_eq};
-ghost use Rattle.js_grammar.specs.Nesting.{close_bracket, close_parts as closed_parts, after_word as worded, marked, closes_brace, nest as nest_token, no_nest, height as height_of};
+ghost use Rattle.js_grammar.specs.Nesting.{close_bracket, close_parts as closed_parts, after_word as worded, marked, closes_brace, nest as nest_token, no_nest, height as height_of, is_deep};
 ghost use Rattle.type_parser.specs.Nests.{opened_view, nest_view};
-ghost use Rattle.type_parser.specs.Within.{is_deep};
 
 use flow_values::NoMemory;
 use js_token::{Punct, TokenKind};

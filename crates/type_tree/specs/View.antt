@@ -40,6 +40,7 @@ abbrev pub places_from : Places → List ℕ → Places
 places_from acc [] = acc
 places_from acc (p ∷ ps) = places_from (more_place acc p) ps
 
+-- the lists of a tree, behind those before
 abbrev pub pres_from : Pres → List Pre → Pres
 pres_from acc [] = acc
 pres_from acc (p ∷ ps) = pres_from (more_pre acc p) ps
@@ -69,6 +70,7 @@ form_step (BaseForm-F.Paren t) = g.paren t
 form_step (BaseForm-F.Tuple ts c) = g.tuple (types_from no_type ts) c
 form_step (BaseForm-F.Object ps e) = g.object (props_from no_prop ps) (ending_view e)
 
+-- each form, once its parts stand for trees
 abbrev pub core_step : CoreTree-F Form Core Param Base Core Param Core Pre Prop Ty → Core
 core_step (CoreTree-F.Function f) = f
 core_step (CoreTree-F.Post p) = p

@@ -1,11 +1,8 @@
-use Rattle.std.proofs.Common.{◌≡◌, sym, ◌∙◌, ap, []}
-use Rattle.js_grammar.specs.Code.{Ex}
-use Rattle.code_law.specs.Machine.{whole, read_expression}
-use Rattle.code_law.proofs.Complete.{reads_spelling}
+use Rattle.code_law.proofs.Fronts.{same_expression, same_front}
 use Rattle.code_law.proofs.one_expression.Goals as goal
 
-same_whole : (a b : Ex) → whole a [] ≡ whole b [] → a ≡ b
-same_whole a b e = cc
+pub returns-clause-alone : goal.returns-clause-alone
+returns-clause-alone c = same_expression
 
-pub returns : goal.returns
-returns c i a b f g e = same_whole a b (sym (reads_spelling a i f) ∙ ap (read_expression i) e ∙ reads_spelling b i g)
+pub returns-clause-in_front : goal.returns-clause-in_front
+returns-clause-in_front c = same_front

@@ -11,8 +11,7 @@ use std::alloc::Global;
 use std::sync::Arc;
 
 impl<P: Program> PlainHeap<P> {
-    /// A heap of so many entities at version 0: entity 0 holds `root`, and each other one holds `absent`. The room for
-    /// staged payloads is taken here.
+    /// A heap of so many entities at version 0: entity 0 holds `root`, and each other one holds `absent`.
     ///
     /// # Errors
     ///

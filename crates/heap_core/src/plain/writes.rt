@@ -6,7 +6,7 @@ ghost use Rattle.heap_core.specs.Plain.{meaning_of};
 ghost use Rattle.heap_core.specs.PlainLaws.{plain_sound, none_some};
 
 use super::PlainHeap;
-use super::steps::{clear, list, put, settle};
+use super::steps::{clear, latest_of, list, put, settle};
 use crate::traits::{HeapWriter, Program};
 use flow_values::NoMemory;
 use std::sync::Arc;
@@ -20,7 +20,7 @@ impl<P: Program> HeapWriter<P> for PlainHeap<P> {
 
     ghost told = { λ _. None };
 
-    ghost sound = { λ h. plain_sound P.fits h.version h.is_open h.committed.items h.pending.items h.versions.items h.some_entity h.as_many.0 h.as_many.1 h.fit h.closed h.room };
+    ghost sound = { λ h. plain_sound P.fits h.version h.is_open h.committed.items h.pending.items h.versions.items h.some_entity h.as_many.0 h.as_many.1 h.fit h.bounded h.closed h.room };
 
     ghost told_last = { λ h states e. none_some states e };
 
@@ -48,10 +48,7 @@ impl<P: Program> HeapWriter<P> for PlainHeap<P> {
     }
 
     fn latest(&self, e: u32) -> Result<Arc<P>, NoMemory> {
-        match &self.pending[e as usize] {
-            Some(payload) => Ok(Arc::try_clone(payload)?),
-            None => Ok(Arc::try_clone(&self.committed[e as usize])?),
-        }
+        latest_of(&self.pending[e as usize], &self.committed[e as usize])
     }
 
     fn entity_version(&self, e: u32) -> u32 {
@@ -71,10 +68,11 @@ impl<P: Program> HeapWriter<P> for PlainHeap<P> {
             versions,
             staged,
         } = self;
-        *version += 1;
+        let next = *version + 1;
+        *version = next;
         *is_open = false;
-        settle(staged, pending, committed, versions, *version);
-        *version
+        settle(staged, pending, committed, versions, next);
+        next
     }
 
     fn rollback(&mut self) {

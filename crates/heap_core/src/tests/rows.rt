@@ -1,6 +1,5 @@
 //! The plain heap.
 use super::Mark;
-use crate::laws::{begin_stands, commit_stands, reader_stands, rollback_stands, stage_stands};
 use crate::{HeapReader, HeapWriter, PlainHeap};
 use std::sync::Arc;
 use std::test::Fail;
@@ -30,13 +29,12 @@ fn a_plain_heap_commits(rt: HostRuntime) -> Result<(), Fail> {
     let root = Arc::new(alloc, Mark { number: 1 })?;
     let absent = Arc::new(alloc, Mark { number: 0 })?;
     let mut heap = PlainHeap::open(alloc, 2, root, absent)?;
-    begin_stands(&mut heap);
-    stage_stands(&mut heap, 1, Arc::new(alloc, Mark { number: 7 })?)?;
-    stage_stands(&mut heap, 1, Arc::new(alloc, Mark { number: 8 })?)?;
-    assert_eq!(rt; commit_stands(&mut heap), 1);
-    begin_stands(&mut heap);
-    rollback_stands(&mut heap);
-    let mut reader = reader_stands(&heap);
+    heap.begin();
+    heap.stage(1, Arc::new(alloc, Mark { number: 7 })?)?;
+    heap.stage(1, Arc::new(alloc, Mark { number: 8 })?)?;
+    assert_eq!(rt; heap.commit(), 1);
+    assert_eq!(rt; heap.entity_version(0), 0);
+    let mut reader = heap.reader();
     assert_eq!(rt; reader.version(), 1);
     assert_eq!(rt; reader.read(1)?.number, 8);
     Ok(())

@@ -1,13 +1,14 @@
 //! A writer that tells its states: one entity, whose payload says nothing, so that each state is the same.
-ghost use Rattle.std.specs.Prelude.{◌≡◌, ◌+◌, ◌^◌, ◌<◌, [], ◌∷◌, refl, true, false, replicate, length, slice_get, List, Option, Some, IfOk, OnErr};
+ghost use Rattle.std.specs.Prelude.{◌≡◌, ◌+◌, ◌^◌, ◌<◌, ◌≤◌, [], ◌∷◌, refl, true, false, replicate, length, slice_get, List, Option, Some, IfOk, OnErr};
 ghost use Rattle.std.specs.Arc.{arc_value};
 ghost use Rattle.heap_core.specs.Meaning.{Meaning, staging};
+ghost use Rattle.heap_core.specs.PlainLaws.{only_bounded};
 ghost use Rattle.std.proofs.Common.{arith, lit<, ap, subst, ◌∙◌};
 ghost use Rattle.std.proofs.lemmas.List.{length-replicate, get_or-replicate};
 ghost use Rattle.std.proofs.lemmas.Option.{slice_get-get_or};
 
 use crate::traits::{HeapWriter, Program};
-use crate::transactions::{commit_all, try_all};
+use crate::transactions::commit_state;
 use flow_values::NoMemory;
 use std::sync::{Arc, Wait};
 use std::test::Fail;
@@ -29,6 +30,7 @@ struct Teller<'a, R: Wait> {
     last: u32,
     ghost room: { is_open ≡ true → version + 1 < 2 ^ 31 },
     ghost closed: { is_open ≡ false → is_staged ≡ false },
+    ghost bounded: { last ≤ version },
 }
 
 impl<'a, R: Wait> HeapWriter<()> for Teller<'a, R> {
@@ -40,7 +42,7 @@ impl<'a, R: Wait> HeapWriter<()> for Teller<'a, R> {
 
     ghost told = { λ t. Some (replicate (t.version + 1) (tt ∷ [])) };
 
-    ghost sound = { λ t. record { some_entity = lit< tt; as_many = (refl, refl, refl); fit = λ _ _ _ _ _. tt; unstaged = λ _ _. refl; closed = λ h. ap (λ b. b ∷ []) (t.closed h); room = t.room } };
+    ghost sound = { λ t. record { some_entity = lit< tt; as_many = (refl, refl, refl); fit = λ _ _ _ _ _. tt; bounded = only_bounded t.last t.version t.bounded; unstaged = λ _ _. refl; closed = λ h. ap (λ b. b ∷ []) (t.closed h); room = t.room } };
 
     ghost told_last = { λ t states h. let blank : List (Unit {0}) = tt ∷ [] in let same : replicate (t.version + 1) blank ≡ states = Prim.cc in subst (λ (s : List (List (Unit {0}))). (length s ≡ t.version + 1) × (slice_get s t.version ≡ Some blank)) same (length-replicate (t.version + 1) blank, slice_get-get_or (replicate (t.version + 1) blank) t.version blank (Prim.omega (arith, length-replicate (t.version + 1) blank)) ∙ ap Some (get_or-replicate (t.version + 1) t.version blank blank (Prim.omega arith))) };
 
@@ -100,7 +102,7 @@ impl<'a, R: Wait> HeapWriter<()> for Teller<'a, R> {
 #[test]
 fn a_writer_may_tell_its_states(rt: HostRuntime) -> Result<(), Fail> {
     let blank = Arc::new(rt.alloc(), ())?;
-    let changes = [(0, Arc::try_clone(&blank)?)];
+    let state = [Arc::try_clone(&blank)?];
     let mut teller = Teller {
         rt: &rt,
         blank,
@@ -109,9 +111,7 @@ fn a_writer_may_tell_its_states(rt: HostRuntime) -> Result<(), Fail> {
         is_staged: false,
         last: 0,
     };
-    try_all(&mut teller, &changes)?;
-    assert_eq!(rt; teller.version(), 0);
-    assert_eq!(rt; commit_all(&mut teller, &changes)?, 1);
+    assert_eq!(rt; commit_state(&mut teller, &state)?, 1);
     assert_eq!(rt; teller.entity_version(0), 1);
     Ok(())
 }

@@ -1,7 +1,8 @@
 use Rattle.std.proofs.Common.{◌≡◌, sym, ◌∙◌, ap, subst, ◌+◌, length, drop, arith}
 use Rattle.type_parser.specs.State.{stack_view, mode_view, turn_view}
 use Rattle.type_parser.specs.Nests.{nest_view}
-use Rattle.type_parser.specs.Within.{is_deep, run_end, run_within, read_within}
+use Rattle.js_grammar.specs.Nesting.{is_deep}
+use Rattle.type_parser.specs.Within.{run_end, run_within, read_within}
 use Rattle.type_parser.specs.Reading.{kinds}
 use Rattle.type_parser.proofs.Turns.{length-kinds, next-kind, read_deep, read_more, read_last, gets_end}
 use Rattle.type_parser.proofs.read.read.Goals as goal

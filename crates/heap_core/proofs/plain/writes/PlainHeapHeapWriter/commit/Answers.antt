@@ -1,7 +1,8 @@
 use Rattle.std.proofs.Common.{ℕ, List, slice_get, ◌≡◌, ◌+◌, arith, sym, ap, ◌∙◌, subst, true, false, length}
 use Rattle.heap_core.specs.PlainLaws.{length-values, length-overlaid, none_some}
-use Rattle.heap_core.proofs.Overlays.{listed-none, overlaid-none, staged_of-none, staged_of-same}
+use Rattle.heap_core.proofs.Overlays.{listed_none, overlaid-none, staged_of_none, staged_of-same, stamped-bounded}
 use Rattle.heap_core.specs.Meaning.{AllFit}
+use Rattle.heap_core.specs.Plain.{staged_of}
 use Rattle.heap_core.proofs.plain.writes.PlainHeapHeapWriter.commit.Goals as goal
 
 pub invariant_of-self : goal.invariant_of-self
@@ -11,9 +12,10 @@ invariant_of-self g c =
       some_entity = omega arith;
       as_many = (omega arith, omega arith);
       fit = subst (AllFit g.P.Program.fits) (sym did.committed) c.requires.1;
-      closed = λ _. staged_of-none c.settle.new.pending.items did.pending;
+      bounded = λ e n at. stamped-bounded (h.version + 1) h.version (staged_of h.pending.items) h.versions.items (omega arith) h.bounded e n (ap (λ (l : List ℕ). slice_get l e) (sym did.versions) ∙ at);
+      closed = λ _. staged_of_none c.settle.new.pending.items did.pending;
       room = λ never. absurd (let k : false ≡ true = never in cc);
-      listed = listed-none c.settle.new.pending.items c.settle.new.staged.items did.pending;
+      listed = listed_none c.settle.new.pending.items c.settle.new.staged.items did.pending;
       within = λ i e h. absurd (none_some e (ap (λ (l : List ℕ). slice_get l i) (sym did.staged) ∙ h));
     }
 

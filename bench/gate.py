@@ -1,0 +1,104 @@
+#!/usr/bin/env python3
+"""Lists what the gate costs, crate by crate: processor seconds of its proofs, its tests and its must-fail edits.
+
+    bench/gate.py [NAME ..]           runs `rt ci --anew` at the top of the repository, over all crates or over these and
+                                      those below them: each proof and each edit is done from nothing
+    bench/gate.py --kept [NAME ..]    runs `rt ci` without --anew: what an earlier run kept isn't done again, nor counted
+
+`rt ci` starts a process of `rattle` for each proof, each proof of tests and each try of an edit, and a check of the crate
+as it stands before its edits, which counts as theirs. The program looks at those processes ten times a second, in /proc,
+and adds up the processor time of each: so what other programs do at the same time changes nothing but the wall time. It
+prints a line a crate, the dearest first, then the sums, the wall time, and the last line of `rt ci`, with whose
+status it ends. Linux alone.
+"""
+
+import os
+import subprocess
+import sys
+import tempfile
+import time
+
+TOP = os.path.dirname(os.path.dirname(os.path.abspath(__file__)))
+KINDS = ("proof", "tests", "edits")
+TICKS = os.sysconf("SC_CLK_TCK")
+
+
+def told(pid, name):
+    """What a file of /proc says of a process, and nothing of one that has ended."""
+    try:
+        with open(f"/proc/{pid}/{name}", "rb") as file:
+            return file.read()
+    except OSError:
+        return b""
+
+
+def work_of(pid):
+    """The crate that a process of `rattle` works on, and what it does for it; None where it is another program."""
+    words = told(pid, "cmdline").decode(errors="replace").split("\0")
+    if os.path.basename(words[0]) != "rattle" or "--crate-name" not in words:
+        return None
+    try:
+        folder = os.path.basename(os.readlink(f"/proc/{pid}/cwd"))
+    except OSError:
+        return None
+    kind = "edits" if folder.startswith("rt-edit-") else "tests" if "--test" in words else "proof"
+    return words[words.index("--crate-name") + 1], kind
+
+
+class Watch:
+    """The processor time of the processes below one that was started here."""
+
+    def __init__(self, root):
+        self.ours, self.works, self.seconds = {root}, {}, {}
+
+    def look(self):
+        for pid in sorted(int(it) for it in os.listdir("/proc") if it.isdigit()):
+            # (what stands behind the program's name, which may hold blanks)
+            stat = told(pid, "stat").rpartition(b")")[2].split()
+            if not stat or int(stat[1]) not in self.ours:
+                continue
+            self.ours.add(pid)
+            # (a number may come again, at a later start)
+            process = pid, stat[19]
+            if self.works.get(process) is None:
+                self.works[process] = work_of(pid)
+            self.seconds[process] = (int(stat[11]) + int(stat[12])) / TICKS
+
+    def by_crate(self):
+        sums = {}
+        for process, work in self.works.items():
+            if work:
+                crate, kind = work
+                row = sums.setdefault(crate, dict.fromkeys(KINDS, 0.0))
+                row[kind] += self.seconds[process]
+        return sums
+
+
+def print_row(name, row):
+    print(f"{name:<20}" + "".join(f"{row[it]:>9.1f}" for it in KINDS) + f"{sum(row.values()):>9.1f}")
+
+
+def main():
+    words = sys.argv[1:]
+    flags = [] if "--kept" in words else ["--anew"]
+    command = ["rt", "ci", *flags, *(it for it in words if it != "--kept")]
+    began = time.monotonic()
+    with tempfile.TemporaryFile("w+", errors="replace") as said:
+        run = subprocess.Popen(command, cwd=TOP, stdout=said, stderr=subprocess.STDOUT)
+        watch = Watch(run.pid)
+        while run.poll() is None:
+            watch.look()
+            time.sleep(0.1)
+        said.seek(0)
+        text = said.read()
+    last = text.rstrip("\n").rpartition("\n")[2]
+    rows = watch.by_crate()
+    print(f"{'processor seconds':<20}" + "".join(f"{it:>9}" for it in KINDS) + f"{'all':>9}")
+    for name in sorted(rows, key=lambda it: -sum(rows[it].values())):
+        print_row(name, rows[name])
+    print_row(f"{len(rows)} crates", {it: sum(row[it] for row in rows.values()) for it in KINDS})
+    print(f"{time.monotonic() - began:.0f} seconds of wall time; {' '.join(command)}: {last}")
+    sys.exit(run.returncode)
+
+
+main()

@@ -1,5 +1,0 @@
-use Rattle.heap_core.proofs.StandsLaw as law
-use Rattle.heap_core.proofs.laws.opened_stands.Goals as goal
-
-pub returns : goal.returns
-returns g c = law.opened_stands g.P.Program.fits

@@ -1,0 +1,3 @@
+pub mod World
+pub mod Seen
+pub mod Stands

@@ -1,0 +1,4 @@
+pub mod Words
+pub mod Reaching
+pub mod Choosing
+pub mod Single

@@ -1,0 +1,4 @@
+pub mod Walks
+pub mod Names
+pub mod Bound
+pub mod Telling

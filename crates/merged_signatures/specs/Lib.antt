@@ -1,0 +1,6 @@
+pub mod Chains
+pub mod Merged
+pub mod Job
+pub mod Reach
+pub mod Repeats
+pub mod Settled

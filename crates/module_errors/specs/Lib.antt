@@ -1,0 +1,5 @@
+pub mod Program
+pub mod TopNames
+pub mod Items
+pub mod Errors
+pub mod KeyLaw

@@ -1,0 +1,4 @@
+//! Which modules the specifiers of a module find.
+#![tactic(auto)]
+
+pub fn nothing() {}

@@ -1,0 +1,2 @@
+pub mod TreeTypes
+pub mod Optional

@@ -1,0 +1,4 @@
+//! The names in a type, and types with their names replaced.
+#![tactic(auto)]
+
+pub fn nothing() {}

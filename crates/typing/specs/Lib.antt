@@ -1,0 +1,11 @@
+pub mod Names
+pub mod Changes
+pub mod States
+pub mod TypeFaults
+pub mod Members
+pub mod Tests
+pub mod Functions
+pub mod Objects
+pub mod Forms
+pub mod Statements
+pub mod Typing
