@@ -20,11 +20,6 @@ contains_get [] k x h e = absurd (omega (arith, h))
 contains_get (y ∷ xs) zero x h e = ap Some e
 contains_get (y ∷ xs) (suc k) x h e = contains_get xs k x (omega (arith, h)) e
 
-get_contains : {X : Type 0} (xs : List X) (k : ℕ) (x : X) → slice_get xs k ≡ Some x → Contains xs x
-get_contains [] k x is = cc
-get_contains (y ∷ xs) zero x is = let same : y ≡ x = cc in subst (λ (z : X). Contains (z ∷ xs) x) (sym same) (here x xs)
-get_contains (y ∷ xs) (suc k) x is = there y x xs (get_contains xs k x is)
-
 module _ (named : Key → FlowType) (all : List FlowType) (whole : IsWhole all) (has_named : (key : Key) → Contains all (named key)) (a b : FlowType) (a_in : Contains all a) (b_in : Contains all b) where
   -- the pair itself, and all pairs
   abbrev others : List Pair

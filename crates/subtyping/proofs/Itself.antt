@@ -18,14 +18,14 @@ use Rattle.type_terms.specs.Optional.{eff}
 use Rattle.subtyping.specs.Closed.{IsClosed, IsJustified, IsBelow, HasAll}
 use Rattle.subtyping.proofs.Whole.{prop_parts, parts, Within, IsWhole, split, first_or, nothing, here, there, cover_types}
 
-flat_in : {X Y : Type 0} (f : X → List Y) (xs : List X) (x : X) (y : Y) → Contains xs x → Contains (f x) y → Contains (flat_map f xs) y
+pub flat_in : {X Y : Type 0} (f : X → List Y) (xs : List X) (x : X) (y : Y) → Contains xs x → Contains (f x) y → Contains (flat_map f xs) y
 flat_in f [] x y c d = nothing x c
 flat_in f (z ∷ xs) x y c d = elim (first_or z xs x c) [
   | inl same ↦ Contains-append_left (f z) (flat_map f xs) y (subst (λ w. Contains (f w) y) (sym same) d)
   | inr rest ↦ Contains-append_right (f z) (flat_map f xs) y (flat_in f xs x y rest d)
 ]
 
-flat_out : {X Y : Type 0} (f : X → List Y) (xs : List X) (y : Y) → Contains (flat_map f xs) y → (x : X) × Contains xs x × Contains (f x) y
+pub flat_out : {X Y : Type 0} (f : X → List Y) (xs : List X) (y : Y) → Contains (flat_map f xs) y → (x : X) × Contains xs x × Contains (f x) y
 flat_out f [] y c = nothing y c
 flat_out f (x ∷ xs) y c = elim (split (f x) (flat_map f xs) y c) [
   | inl d ↦ (x, here x xs, d)

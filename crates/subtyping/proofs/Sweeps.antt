@@ -31,11 +31,11 @@ fewer : (s : ℕ → Bool) (rows : List (List (List ℕ))) (bs : List Bool) → 
 fewer s [] bs = omega arith
 fewer s (row ∷ rows) [] = omega arith
 fewer s (row ∷ rows) (false ∷ bs) = fewer s rows bs
-fewer s (row ∷ rows) (true ∷ bs) = go (some s row)
+fewer s (row ∷ rows) (true ∷ bs) = go (some s row) (fewer s rows bs)
   where
-    go : (b : Bool) → living (b ∷ swept s rows bs) ≤ living bs + 1
-    go true = let h = fewer s rows bs in omega (arith, h)
-    go false = let h = fewer s rows bs in omega (arith, h)
+    go : (b : Bool) → living (swept s rows bs) ≤ living bs → living (b ∷ swept s rows bs) ≤ living bs + 1
+    go true h = omega (arith, h)
+    go false h = omega (arith, h)
 
 -- what deletes nothing changes nothing
 unchanged : (s : ℕ → Bool) (rows : List (List (List ℕ))) (bs : List Bool) → length bs ≡ length rows → living bs ≤ living (swept s rows bs) → swept s rows bs ≡ bs
@@ -72,7 +72,7 @@ module _ (rows : List (List (List ℕ))) where
   some_live (false ∷ bs) (suc k) on = some_live bs k on
 
   pub settled_kept : (n : ℕ) (alive : List Bool) → living alive ≤ n → length alive ≡ length rows → IsKept rows (settled rows n alive)
-  settled_kept zero alive few same k on = absurd (let h = some_live alive k on in omega (arith, h, few))
+  settled_kept zero alive few same = λ k on. absurd (let h = some_live alive k on in omega (arith, h, few))
   settled_kept (suc n) alive few same = elim (cases_lt (living (sweep rows alive)) (living alive)) [
     | inl less ↦ settled_kept n (sweep rows alive) (omega (arith, less, few)) (swept_length (at alive) rows alive same)
     | inr all ↦ (
