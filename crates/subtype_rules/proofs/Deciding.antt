@@ -20,7 +20,7 @@ same_truth false true f g = g refl
 same_truth false false f g = refl
 
 -- an answer that tells the relation is the function's
-pub told_below : (table : AliasTable) (a b : FlowType) (yes : Bool) → IsTrue yes ↔ IsBelow (unfolded table) a b → yes ≡ below table a b
-told_below table a b yes told =
+pub told_below : (table : AliasTable) (a b : FlowType) (answer : Bool) → IsTrue answer ↔ IsBelow (unfolded table) a b → answer ≡ below table a b
+told_below table a b answer told =
     let is = below_is table a b in
-    same_truth yes (below table a b) (λ t. is.1 (told.0 t)) (λ t. told.1 (is.0 t))
+    same_truth answer (below table a b) (λ t. is.1 (told.0 t)) (λ t. told.1 (is.0 t))

@@ -12,12 +12,7 @@ use std::alloc::Global;
 use type_values::FlowType;
 
 // Whether some closed set has the pair.
-fn decide(
-    alloc: Global,
-    table: &AliasTable,
-    a: &FlowType,
-    b: &FlowType,
-) -> Result<bool, NoMemory>
+fn decide(alloc: Global, table: &AliasTable, a: &FlowType, b: &FlowType) -> Result<bool, NoMemory>
     ensures { IfOk result (λ yes. IsTrue yes ↔ IsBelow (unfolded table.now) a.now b.now) }
 {
     if is_free(a, b) {

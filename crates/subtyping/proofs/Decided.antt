@@ -53,16 +53,19 @@ module _ (named : Key → FlowType) (all : List FlowType) (whole : IsWhole all) 
   number_row [] each = ([], ((λ ks c. nothing ks c), λ way c. nothing way c))
   number_row (way ∷ some) each =
       let w = number_way way (each way (here way some)) in
-      let r = number_row some (λ v c. each v (there way v some c)) in
-      (w.0 ∷ r.0, (
-        (λ ks c. elim (first_or w.0 r.0 ks c) [
-          | inl same ↦ (way, here way some, subst (λ (l : List ℕ). StandFor pairs l way) same w.1)
-          | inr rest ↦ (let f = r.1.0 ks rest in (f.0, there way f.0 some f.1, f.2))
-        ]),
-        λ v c. elim (first_or way some v c) [
-          | inl same ↦ inl (w.0, here w.0 r.0, subst (λ (l : List Pair). StandFor pairs w.0 l) same w.1)
-          | inr rest ↦ elim (r.1.1 v rest) [ inl h ↦ inl (h.0, there w.0 h.0 r.0 h.1, h.2) | inr off ↦ inr off ]
-        ]))
+      let r = number_row some (λ v c. each v (there way v some c)) in (
+        w.0 ∷ r.0,
+        (
+          (λ ks c. elim (first_or w.0 r.0 ks c) [
+            | inl same ↦ (way, here way some, subst (λ (l : List ℕ). StandFor pairs l way) same w.1)
+            | inr rest ↦ (let f = r.1.0 ks rest in (f.0, there way f.0 some f.1, f.2))
+          ]),
+          λ v c. elim (first_or way some v c) [
+            | inl same ↦ inl (w.0, here w.0 r.0, subst (λ (l : List Pair). StandFor pairs w.0 l) same w.1)
+            | inr rest ↦ elim (r.1.1 v rest) [ inl h ↦ inl (h.0, there w.0 h.0 r.0 h.1, h.2) | inr off ↦ inr off ]
+          ],
+        ),
+      )
 
   abbrev RowsOf : List Pair → List (List (List ℕ)) → Type 0
   RowsOf ps rows = (k : ℕ) (p : Pair) → slice_get ps k ≡ Some p → IsRow named pairs (ways_of rows k) (ways named p)

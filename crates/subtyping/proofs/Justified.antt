@@ -17,19 +17,25 @@ module _ (named : Key → FlowType) where
   gather [] each = ([], (λ p c. nothing p c), λ p c. nothing p c)
   gather (q ∷ way) each =
       let s = each q (here q way) in
-      let r = gather way (λ x c. each x (there q x way c)) in
-      (s.0 ++ r.0, closed_append named s.0 r.0 s.1 r.1, λ x c. elim (first_or q way x c) [
-        | inl is ↦ subst (λ (y : Pair). Contains (s.0 ++ r.0) y) is (Contains-append_left s.0 r.0 q s.2)
-        | inr rest ↦ Contains-append_right s.0 r.0 x (r.2 x rest)
-      ])
+      let r = gather way (λ x c. each x (there q x way c)) in (
+        s.0 ++ r.0,
+        closed_append named s.0 r.0 s.1 r.1,
+        λ x c. elim (first_or q way x c) [
+          | inl is ↦ subst (λ (y : Pair). Contains (s.0 ++ r.0) y) is (Contains-append_left s.0 r.0 q s.2)
+          | inr rest ↦ Contains-append_right s.0 r.0 x (r.2 x rest)
+        ],
+      )
 
   pub justified_below : (p : Pair) (way : List Pair) → Contains (ways named p) way → AreBelow named way → IsBelow named p.0 p.1
   justified_below p way c each =
-      let g = gather way each in
-      (p ∷ g.0, (λ x d. elim (first_or p g.0 x d) [
-        | inl is ↦ subst (λ (y : Pair). (w : List Pair) × Contains (ways named y) w × HasAll (p ∷ g.0) w) is (way, c, λ y e. there p y g.0 (g.2 y e))
-        | inr rest ↦ (let j = g.1 x rest in (j.0, j.1, λ y e. there p y g.0 (j.2 y e)))
-      ]), here p g.0)
+      let g = gather way each in (
+        p ∷ g.0,
+        (λ x d. elim (first_or p g.0 x d) [
+          | inl is ↦ subst (λ (y : Pair). (w : List Pair) × Contains (ways named y) w × HasAll (p ∷ g.0) w) is (way, c, λ y e. there p y g.0 (g.2 y e))
+          | inr rest ↦ (let j = g.1 x rest in (j.0, j.1, λ y e. there p y g.0 (j.2 y e)))
+        ]),
+        here p g.0,
+      )
 
   pub below_justified : (a b : FlowType) → IsBelow named a b → (way : List Pair) × Contains (ways named (a, b)) way × AreBelow named way
   below_justified a b s = let j = s.1 (a, b) s.2 in (j.0, j.1, λ q c. (s.0, s.1, j.2 q c))

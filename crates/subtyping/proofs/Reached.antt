@@ -142,8 +142,8 @@ module _ (named : Key → FlowType) (all : List FlowType) (whole : IsWhole all) 
       let g : Within (parts (Function qs s)) all = λ t e. whole b d t (subst (λ (y : Level). Contains (parts y) t) (sym b_is) e) in
       each_one ((r, s) ∷ param_needs ps qs) (one_in (r, s) (param_needs ps qs) (f r (here r (made.Void ∷ param_types ps)), g s (here s (made.Void ∷ param_types qs)))
       (params_in ps qs (f made.Void (there r made.Void (made.Void ∷ param_types ps) (here made.Void (param_types ps))))
-        (λ t e. f t (there r t (made.Void ∷ param_types ps) (there made.Void t (param_types ps) e)))
-        (λ t e. g t (there s t (made.Void ∷ param_types qs) (there made.Void t (param_types qs) e)))))
+      (λ t e. f t (there r t (made.Void ∷ param_types ps) (there made.Void t (param_types ps) e)))
+      (λ t e. g t (there s t (made.Void ∷ param_types qs) (there made.Void t (param_types qs) e)))))
   part_in a b c d x y a_is b_is = each_none
 
   pub ways_in : (p : Pair) → IsIn p → EachIn (ways named p)

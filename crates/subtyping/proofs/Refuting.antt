@@ -49,4 +49,3 @@ all_refuted rows alive all k dead = refutes k (λ way. 0) (λ way c. absurd (not
         let outside : length rows ≤ k = grind (arith, common_steps, all k, dead) in
         let none : ways_of rows k ≡ [] = grind (arith, common_steps, outside) in
         let short : length (ways_of rows k) ≡ 0 = ap length none in omega (arith, c.1, short)
-

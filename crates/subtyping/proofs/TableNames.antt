@@ -34,4 +34,3 @@ table_has table key = by_mark (is_marked table key)
 
 pub table_itself : (table : AliasTable) (t : FlowType) → IsBelow (unfolded table) t t
 table_itself table t = below_itself (unfolded table) (made.Any ∷ table.types) (table_has table) t
-

@@ -9,4 +9,3 @@ returns-clause-read c = array_read_below
 
 pub returns-clause-read_only : goal.returns-clause-read_only
 returns-clause-read_only c = read_arrays_below
-

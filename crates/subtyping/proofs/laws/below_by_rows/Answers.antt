@@ -6,4 +6,3 @@ returns-clause-all c = justified_below
 
 pub returns-clause-only : goal.returns-clause-only
 returns-clause-only c = below_justified
-

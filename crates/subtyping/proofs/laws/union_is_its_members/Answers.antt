@@ -6,4 +6,3 @@ returns-clause-left c = union_left
 
 pub returns-clause-right : goal.returns-clause-right
 returns-clause-right c = union_right
-
