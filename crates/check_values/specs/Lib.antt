@@ -1,3 +1,4 @@
 pub mod Codes
 pub mod Rows
 pub mod FaultOrder
+pub mod Roots

@@ -1,6 +1,6 @@
 -- A module has one local signature.
-use Rattle.std.proofs.Common.{◌≡◌, Bool, true, false, List, filter, refl, sym, ap, ◌∙◌, subst}
-use Rattle.check_values.specs.Rows.{Bytes, Rows, is_among}
+use Rattle.std.proofs.Common.{◌≡◌, Bool, false, List, refl, sym, subst}
+use Rattle.check_values.specs.Rows.{Rows, is_among}
 use Rattle.check_values.specs.declared.signatures.Origin.{Origin}
 use Rattle.check_values.specs.declared.signatures.ImportRow.{ImportRow}
 use Rattle.check_values.specs.declared.signatures.LocalSig.{LocalSig}
@@ -29,8 +29,8 @@ module _ (m : Module) where
   only : (s : LocalSig) → IsLocalSignature m s → s ≡ local_signature m
   unfolding of_parts
   only s is = same_parts s.broken false s.exports (exports_of m) s.aliases _ s.imports _ is.unbroken is.exports
-    (chosen_filter (λ row. Reached m row.0) (λ row. is_among (reached_names m) row.0) (λ row. sound m row.0) (λ row. complete m row.0) (aliases_of m) s.aliases is.aliases)
-    (chosen_filter (λ row. Reached m row.local) (λ row. is_among (reached_names m) row.local) (λ row. sound m row.local) (λ row. complete m row.local) (imports_of m) s.imports is.imports)
+      (chosen_filter (λ row. Reached m row.0) (λ row. is_among (reached_names m) row.0) (λ row. sound m row.0) (λ row. complete m row.0) (aliases_of m) s.aliases is.aliases)
+      (chosen_filter (λ row. Reached m row.local) (λ row. is_among (reached_names m) row.local) (λ row. sound m row.local) (λ row. complete m row.local) (imports_of m) s.imports is.imports)
 
 pub one_local_signature : HasOneLocalSignature
 one_local_signature m s = (only m s, λ same. subst (IsLocalSignature m) (sym same) (has m))

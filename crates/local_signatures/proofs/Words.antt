@@ -1,5 +1,5 @@
 -- Which words are among the words of a list.
-use Rattle.std.proofs.Common.{◌≡◌, ℕ, Bool, true, false, not, ◌||◌, List, [], ◌∷◌, ◌++◌, filter, flat_map, refl, sym, ap, ◌∙◌, ◌⊎◌, inl, inr, subst, cond, bytes_eq}
+use Rattle.std.proofs.Common.{◌≡◌, Bool, true, false, not, ◌||◌, List, [], ◌∷◌, ◌++◌, filter, flat_map, refl, sym, ap, ◌∙◌, ◌⊎◌, inl, inr, subst, cond, bytes_eq}
 use Rattle.std.specs.Cmp.Lexicographic.{bytes_decides}
 use Rattle.std.proofs.lemmas.List.Folds.{list_any-append}
 use Rattle.check_values.specs.Rows.{Bytes, is_among, distinct}
@@ -53,7 +53,7 @@ among_kept p (x ∷ xs) w pass is = go (bytes_eq w x) refl (p x) refl (among_kep
 pub among_distinct : (xs : List Bytes) (w : Bytes) → is_among (distinct xs) w ≡ true → is_among xs w ≡ true
 among_distinct [] w is = is
 among_distinct (x ∷ xs) w is = elim (either_of (bytes_eq w x) (is_among (filter (λ later. not (bytes_eq later x)) (distinct xs)) w) is) [
-  inl e ↦ left_of (bytes_eq w x) (is_among xs w) e
+  | inl e ↦ left_of (bytes_eq w x) (is_among xs w) e
   | inr e ↦ right_of (bytes_eq w x) (is_among xs w) (among_distinct xs w (among_filtered (λ later. not (bytes_eq later x)) (distinct xs) w e))
 ]
 
@@ -68,13 +68,13 @@ among_all (x ∷ xs) w is = go (bytes_eq w x) refl (among_all xs w)
 pub among_flat : (f : Bytes → List Bytes) (xs : List Bytes) (w : Bytes) → is_among (flat_map f xs) w ≡ true → (x : Bytes) × (is_among xs x ≡ true) × (is_among (f x) w ≡ true)
 among_flat f [] w is = absurd (cc)
 among_flat f (x ∷ xs) w is = elim (among_either (f x) (flat_map f xs) w is) [
-  inl e ↦ (x, left_of (bytes_eq x x) (is_among xs x) (bytes_itself x), e)
+  | inl e ↦ (x, left_of (bytes_eq x x) (is_among xs x) (bytes_itself x), e)
   | inr e ↦ (let r = among_flat f xs w e in (r.0, right_of (bytes_eq r.0 x) (is_among xs r.0) r.1, r.2))
 ]
 
 pub among_some : (f : Bytes → List Bytes) (xs : List Bytes) (x w : Bytes) → is_among xs x ≡ true → is_among (f x) w ≡ true → is_among (flat_map f xs) w ≡ true
 among_some f [] x w there is = absurd (cc)
 among_some f (y ∷ ys) x w there is = elim (either_of (bytes_eq x y) (is_among ys x) there) [
-  inl e ↦ among_left (f y) (flat_map f ys) w (subst (λ (z : Bytes). is_among (f z) w ≡ true) (bytes_same x y e) is)
+  | inl e ↦ among_left (f y) (flat_map f ys) w (subst (λ (z : Bytes). is_among (f z) w ≡ true) (bytes_same x y e) is)
   | inr e ↦ among_right (f y) (flat_map f ys) w (among_some f ys x w e is)
 ]

@@ -1,11 +1,9 @@
 -- What a name denotes unfolds, and is cyclic where its chain goes on for as many steps as the bound.
-use Rattle.std.proofs.Common.{◌≡◌, ℕ, zero, suc, ◌<◌, Bool, true, false, List, Option, Some, None, refl, sym, ap, ◌∙◌, length, ◌↔◌, arith, cond}
+use Rattle.std.proofs.Common.{◌≡◌, ℕ, zero, suc, Bool, true, false, Option, Some, None, refl, sym, ap, ◌∙◌, cond}
 use Rattle.check_values.specs.Rows.{Bytes, row_at}
 use Rattle.check_values.specs.declared.signatures.Origin.{Origin}
 use Rattle.check_values.specs.declared.signatures.Origin.TheVariants as origin
 use Rattle.check_values.specs.declared.signatures.Deps.{Deps}
-use Rattle.type_names.specs.Names.{Name}
-use Rattle.type_values.specs.declared.types.FlowType.{FlowType}
 use Rattle.merged_signatures.specs.Chains.{Known, View, found, End, at_value, at_alias, unknown, cyclic, Step, ends, goes, goes_to, step_of, step_in, of_kind, end_of, end_within, most, denotes}
 use Rattle.merged_signatures.specs.Repeats.{onward, next, Repeats, IsSmall, IsToldByOneStep, IsCyclicWhereItRepeats}
 use Rattle.merged_signatures.proofs.Walks.{goes_on_for, repeats_goes_on, long_repeats}

@@ -1,5 +1,5 @@
 -- A settled job tells what the whole program does.
-use Rattle.std.proofs.Common.{◌≡◌, ℕ, zero, suc, Bool, true, false, List, [], ◌∷◌, map, Option, Some, None, refl, sym, ap, ap₂, ◌∙◌, ◌⊎◌, inl, inr, subst, subst₂, cond, is_some, IsSome, option_map, unwrap_or, bytes_eq}
+use Rattle.std.proofs.Common.{◌≡◌, ℕ, zero, suc, Bool, true, false, List, [], ◌∷◌, map, Option, Some, None, refl, sym, ap, ap₂, ◌∙◌, ◌⊎◌, inl, inr, subst₂, cond, is_some, IsSome, option_map, unwrap_or, bytes_eq}
 use Rattle.std.specs.List.{AllByRecursion}
 use Rattle.check_values.specs.Rows.{Bytes, Rows, row_at}
 use Rattle.check_values.specs.declared.signatures.Origin.{Origin}
@@ -9,11 +9,11 @@ use Rattle.check_values.specs.declared.signatures.Deps.{Deps}
 use Rattle.check_values.specs.declared.signatures.Export.{Export}
 use Rattle.check_values.specs.declared.signatures.Export.TheVariants as export
 use Rattle.check_values.specs.declared.signatures.Sig.{Sig}
-use Rattle.type_names.specs.Names.{Name, replaced}
+use Rattle.type_names.specs.Names.{replaced}
 use Rattle.type_values.specs.declared.types.FlowType.{FlowType}
-use Rattle.merged_signatures.specs.Chains.{Known, View, found, End, at_value, at_alias, unknown, cyclic, Step, ends, goes, goes_to, step_of, step_in, of_kind, end_of, end_within, most, denotes}
+use Rattle.merged_signatures.specs.Chains.{Known, View, found, End, at_value, at_alias, unknown, cyclic, Step, ends, goes, goes_to, step_of, step_in, of_kind, end_of, most, denotes}
 use Rattle.merged_signatures.specs.Merged.{import_at, as_alias, alias_at, alias_through, alias_imported, alias_named, name_type, type_with, type_at, export_of, signature_with, merged_known, merged}
-use Rattle.merged_signatures.specs.Job.{Job, members_view, JobEnd, inside, told, told_of_kind, job_of_kind, job_end_of, told_by, job_end_within, job_denotes, alias_told, job_as_alias, job_alias_at, job_export_of, job_merged, job_signatures}
+use Rattle.merged_signatures.specs.Job.{Job, members_view, JobEnd, inside, told, told_of_kind, job_of_kind, job_end_of, told_by, job_end_within, job_denotes, alias_told, job_as_alias, job_alias_at, job_export_of, job_merged}
 use Rattle.merged_signatures.specs.Repeats.{onward, next, IsSmall}
 use Rattle.merged_signatures.specs.Settled.{IsSettled, AJobTellsTheProgram}
 use Rattle.merged_signatures.proofs.Names.{bytes_same, bytes_itself}
@@ -46,6 +46,7 @@ module _ {X : Type 0} where
       here : (b : Bool) → b ≡ true → IsSome (cond b (Some row.1) (row_at rows row.0))
       here true e = refl
       here false e = absurd (cc)
+
       later : (path : Bytes) (b : Bool) → IsSome (row_at rows path) → IsSome (cond b (Some row.1) (row_at rows path))
       later path true some = refl
       later path false some = some
@@ -120,6 +121,7 @@ module _ (v : View) (small : IsSmall v) where
       of_row : (m : Known) → v path ≡ Some m → (o : Option Origin) → row_at m.sig.exports name ≡ o → unwrap_or (option_map (λ _. export_of v (denotes v path name)) o) export.Unknown ≡ export_of v (denotes v path name)
       of_row m there (Some o) at_name = refl
       of_row m there None at_name = sym (ap (export_of v) (unfolds v small path name ∙ ap (λ (k : Option Known). end_of (denotes v) (step_in path k name)) there ∙ ap (end_of (denotes v)) (lost_step path name m at_name)))
+
       go : (k : Option Known) → v path ≡ k → option_map (merged_known v path) k ≡ Some s → told_by s name ≡ export_of v (denotes v path name)
       go None there is = absurd (let f : None ≡ Some s = is in cc)
       go (Some m) there is =
@@ -195,31 +197,34 @@ module _ (v : View) (small : IsSmall v) where
         ended m here (at_alias home name) is = same_alias home name
         ended m here unknown is = same_unknown
         ended m here cyclic is = same_cyclic
+
         steps : (m : Known) → members_view job path ≡ Some m → Rest n → (s : Step) → EndsHere path s → GoesFound m.deps s →
-          Same (job_end_of (job_end_within job n) s) (end_of (denotes v) s) ⊎ ((job_end_of (job_end_within job n) s ≡ inside cyclic) × ((elim (onward s) as (λ _. Bool) [ None ↦ false | Some y ↦ goes_on_for (next v) n y ]) ≡ true))
+            Same (job_end_of (job_end_within job n) s) (end_of (denotes v) s) ⊎ ((job_end_of (job_end_within job n) s ≡ inside cyclic) × ((elim (onward s) as (λ _. Bool) [ None ↦ false | Some y ↦ goes_on_for (next v) n y ]) ≡ true))
         steps m here rest (ends e) at_home goes_there = inl (ended m here e at_home)
         steps m here rest (goes k q name) at_home (spec, is) = elim (rest q name (settled.closed path q spec m here is)) [
-          inl same ↦ inl (same_kind k (job_end_within job n q name) (denotes v q name) same)
+          | inl same ↦ inl (same_kind k (job_end_within job n q name) (denotes v q name) same)
           | inr open_there ↦ inr (ap (job_of_kind k) open_there.0 ∙ kind_cyclic k, open_there.1)
         ]
+
         at_member : (m : Known) → members_view job path ≡ Some m → Rest n → Meets (suc n) path name (job_end_of (job_end_within job n) (step_in path (members_view job path) name))
         at_member m here rest =
             let there = member_known path m here in
             let same_step : step_in path (Some m) name ≡ step_in path (members_view job path) name = ap (λ (o : Option Known). step_in path o name) (sym here) in
             let own_step : step_in path (Some m) name ≡ step_in path (v path) name = ap (λ (o : Option Known). step_in path o name) (sym there) in
             elim (steps m here rest (step_in path (Some m) name) (ends_here path name m) (goes_found path name m)) [
-              inl same ↦ inl (subst₂ Same (ap (job_end_of (job_end_within job n)) same_step) (ap (end_of (denotes v)) own_step ∙ sym (unfolds v small path name)) same)
+              | inl same ↦ inl (subst₂ Same (ap (job_end_of (job_end_within job n)) same_step) (ap (end_of (denotes v)) own_step ∙ sym (unfolds v small path name)) same)
               | inr open_there ↦ inr (ap (job_end_of (job_end_within job n)) (sym same_step) ∙ open_there.0, ap (λ (s : Step). elim (onward s) as (λ _. Bool) [ None ↦ false | Some y ↦ goes_on_for (next v) n y ]) (sym own_step) ∙ open_there.1)
             ]
+
         at_outside : (o : Option Sig) → row_at job.outside path ≡ o → IsSome (members_view job path) ⊎ IsSome o → Rest n →
-          Meets (suc n) path name (elim o as (λ _. JobEnd) [ Some s ↦ told (told_by s name) | None ↦ job_end_of (job_end_within job n) (step_in path (members_view job path) name) ])
+            Meets (suc n) path name (elim o as (λ _. JobEnd) [ Some s ↦ told (told_by s name) | None ↦ job_end_of (job_end_within job n) (step_in path (members_view job path) name) ])
         at_outside (Some s) is some rest = inl (same_told (told_by s name) (denotes v path name) (finished path name s (row_says (merged v) job.outside settled.outside path s is)))
         at_outside None is (inr some) rest = absurd (let f : false ≡ true = some in cc)
         at_outside None is (inl some) rest = let t = there_is (members_view job path) some in at_member t.0 t.1 rest
 
     same_end : (path name : Bytes) → Knows path → Same (job_denotes job path name) (denotes v path name)
     same_end path name knows = elim (meets most path name knows) [
-      inl same ↦ same
+      | inl same ↦ same
       | inr open_there ↦ subst₂ Same (sym open_there.0) (sym (open_cyclic v most path name open_there.1)) same_cyclic
     ]
 
@@ -232,9 +237,11 @@ module _ (v : View) (small : IsSmall v) where
         through : (row : ImportRow) (o : Option Bytes) → found m.deps row.spec ≡ o → alias_through (job_alias_at job) row o ≡ alias_through (alias_at v) row o
         through row None is = refl
         through row (Some q) is = same_alias_at row.is_type q row.name (settled.closed path q row.spec m here is)
+
         imported : (r : Option ImportRow) → alias_imported (job_alias_at job) m.deps r ≡ alias_imported (alias_at v) m.deps r
         imported None = refl
         imported (Some row) = through row (found m.deps row.spec) refl
+
         own : (b : Bool) → cond b (Some (path, local)) (alias_imported (job_alias_at job) m.deps (import_at m.sig.imports local)) ≡ cond b (Some (path, local)) (alias_imported (alias_at v) m.deps (import_at m.sig.imports local))
         own true = refl
         own false = imported (import_at m.sig.imports local)

@@ -66,6 +66,7 @@ module _ {X : Type 0} (next : X → Option X) where
       first : (a b : Bool) → a || b ≡ false → a ≡ false
       first true b is = absurd (cc)
       first false b is = refl
+
       second : (a b : Bool) → a || b ≡ false → b ≡ false
       second true b is = absurd (cc)
       second false b is = is

@@ -1,5 +1,5 @@
 -- Merging some modules of a program, where others outside are merged already.
-use Rattle.std.specs.Prelude.{ℕ, zero, suc, Bool, true, false, List, [], ◌∷◌, map, Option, Some, None, unwrap_or}
+use Rattle.std.specs.Prelude.{ℕ, zero, suc, Bool, true, false, List, map, Option, Some, None, unwrap_or}
 use Rattle.check_values.specs.Rows.{Bytes, Rows, row_at}
 use Rattle.check_values.specs.declared.signatures.Export.{Export}
 use Rattle.check_values.specs.declared.signatures.Export.TheVariants as export
@@ -44,7 +44,7 @@ abbrev pub job_end_within : Job → ℕ → Bytes → Bytes → JobEnd
 job_end_within job zero path name = inside cyclic
 job_end_within job (suc steps) path name =
     elim (row_at job.outside path) [
-      Some s ↦ told (told_by s name)
+      | Some s ↦ told (told_by s name)
       | None ↦ job_end_of (job_end_within job steps) (step_in path (members_view job path) name)
     ]
 

@@ -1,5 +1,5 @@
 -- The modules whose merged signatures the check of a module may read.
-use Rattle.std.specs.Prelude.{◌≡◌, true, List, [], ◌∷◌, ◌++◌, map, Option, Some, None}
+use Rattle.std.specs.Prelude.{◌≡◌, true, List, [], ◌∷◌, ◌++◌, map, Option, Some}
 use Rattle.std.specs.List.{flat_map}
 use Rattle.check_values.specs.Rows.{Bytes, is_among}
 use Rattle.check_values.specs.declared.signatures.Deps.{Deps}

@@ -1,10 +1,10 @@
 -- Chains that repeat, and what holds of the names that they lead to.
-use Rattle.std.specs.Prelude.{◌≡◌, ℕ, ◌<◌, Bool, true, ◌&&◌, ◌↔◌, List, length, Option, Some, None}
+use Rattle.std.specs.Prelude.{◌≡◌, ◌<◌, Bool, true, ◌&&◌, ◌↔◌, List, length, Option, Some, None}
 use Rattle.std.specs.List.{list_any}
 use Rattle.std.specs.Str.{bytes_eq}
 use Rattle.check_values.specs.Rows.{Bytes}
 use Rattle.type_names.specs.Names.{Name}
-use Rattle.merged_signatures.specs.Chains.{View, End, cyclic, Step, ends, goes, step_in, end_of, most, denotes}
+use Rattle.merged_signatures.specs.Chains.{View, cyclic, Step, ends, goes, step_in, end_of, most, denotes}
 
 abbrev pub onward : Step → Option Name
 onward (ends end) = None

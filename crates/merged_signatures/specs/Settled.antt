@@ -1,5 +1,5 @@
 -- When a job tells what the whole program does.
-use Rattle.std.specs.Prelude.{◌≡◌, ◌⊎◌, List, map, Option, Some, IsSome}
+use Rattle.std.specs.Prelude.{◌≡◌, ◌⊎◌, map, Some, IsSome}
 use Rattle.std.specs.List.{AllByRecursion}
 use Rattle.check_values.specs.Rows.{Bytes, row_at}
 use Rattle.merged_signatures.specs.Chains.{Known, View, found}

@@ -27,7 +27,8 @@ top_env w p is =
       facts = Some no_facts;
       notes = exported_twice w [] (exportings_of is) bound.notes;
       returned = [];
-      breaks = None }
+      breaks = None;
+    }
 
 -- the module once all its items were read
 abbrev pub module_read : Program → Module → List Span → Option ℕ → Env

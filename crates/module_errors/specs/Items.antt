@@ -1,7 +1,7 @@
 -- How the items of a module are read.
 use Rattle.std.specs.Prelude.{ℕ, suc, ◌-◌, ◌==◌, ◌&&◌, Bool, true, false, Option, Some, None, unwrap_or, if◌then◌else◌}
-use Rattle.js_grammar.specs.Code.{Function, Simple, simple}
-use Rattle.js_grammar.specs.Items.{Imported, imported, Importeds, no_imported, more_imported, ImportList, import_list, ImportForm, import_default, import_both, import_names, import_types, import_only, AliasOf, alias, Exported, exported, Exporteds, no_exported, more_exported, ExportList, export_list, ExportForm, export_declaration, export_function, export_alias, export_names, export_from, export_default_function, export_default, ItemForm, imports, exports, declares_item, function_item, alias_item, does_item, Item, item, Items, no_item, more_item, Module}
+use Rattle.js_grammar.specs.Code.{Function, simple}
+use Rattle.js_grammar.specs.Items.{imported, Importeds, no_imported, more_imported, ImportList, import_list, ImportForm, import_default, import_both, import_names, import_types, import_only, AliasOf, alias, exported, Exporteds, no_exported, more_exported, ExportList, export_list, ExportForm, export_declaration, export_function, export_alias, export_names, export_from, export_default_function, export_default, ItemForm, imports, exports, declares_item, function_item, alias_item, does_item, Item, item, Items, no_item, more_item, Module}
 use Rattle.check_values.specs.Rows.{Bytes, row_at}
 use Rattle.check_values.specs.declared.codes.Code.{Code}
 use Rattle.check_values.specs.declared.codes.Code.TheVariants.{CannotResolveModule, CannotResolveName, RecursiveAlias, TypeAsValue, ValueAsType}
@@ -17,12 +17,13 @@ use Rattle.module_errors.specs.Program.{Program, said, wrong_import}
 
 -- ---- imports
 
--- a specifier at a token
+-- a specifier at a token, by the module that it finds
+abbrev pub specifier_found : World → ℕ → Bytes → Option Bytes → Notes → Notes
+specifier_found w token spec None notes = name_fault (fault_at w token (suc token) CannotResolveModule (quoted spec)) notes
+specifier_found w token spec (Some path) notes = notes
+
 abbrev pub specifier_read : World → Program → ℕ → Bytes → Notes → Notes
-specifier_read w p token spec notes =
-    elim (found p.deps spec) [
-      None ↦ name_fault (fault_at w token (suc token) CannotResolveModule (quoted spec)) notes
-    | Some path ↦ notes ]
+specifier_read w p token spec notes = specifier_found w token spec (found p.deps spec) notes
 
 abbrev pub wrong_at : World → ℕ → Bytes → Option Code → Notes → Notes
 wrong_at w token name None notes = notes
@@ -86,9 +87,9 @@ is_bound_at token (Some b) = b.number == number_at token
 abbrev pub alias_read : World → Program → Scope → AliasOf → Notes → Notes
 alias_read w p scope (alias f t name v) notes =
     type_read w v
-      (if is_bound_at (suc f) (binding_of scope.names name) && p.is_cyclic (p.path, name)
-       then name_fault (fault_at w (suc f) (suc (suc f)) RecursiveAlias name) notes
-       else notes)
+    (if is_bound_at (suc f) (binding_of scope.names name) && p.is_cyclic (p.path, name)
+    then name_fault (fault_at w (suc f) (suc (suc f)) RecursiveAlias name) notes
+    else notes)
 
 -- ---- items
 

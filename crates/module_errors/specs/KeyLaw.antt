@@ -1,6 +1,6 @@
 -- What a module's errors depend on: its own text, its dependency list, and the merged signatures that it reaches.
 use Rattle.std.specs.Prelude.{◌≡◌, ℕ, Bool, List, Option, Some, None, unwrap_or, if◌then◌else◌}
-use Rattle.std.specs.Option.{option_or, option_and_then}
+use Rattle.std.specs.Option.{option_or}
 use Rattle.std.specs.Str.{bytes_eq}
 use Rattle.flow_values.specs.declared.span.Span.{Span}
 use Rattle.js_grammar.specs.Items.{Module}

@@ -87,4 +87,5 @@ world_of p m spans watch = record {
   below = p.below;
   type_meaning = λ name. type_bound p.path p.deps p.sigs name (row_at (scope_of m) name);
   spans = spans;
-  watch = watch }
+  watch = watch;
+}

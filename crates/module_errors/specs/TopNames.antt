@@ -1,7 +1,7 @@
 -- The names of a module's top level: those that it binds, and those that it exports.
-use Rattle.std.specs.Prelude.{ℕ, suc, ◌-◌, ◌++◌, ◌==◌, Bool, true, false, List, [], ◌∷◌, Option, Some, None, unwrap_or, if◌then◌else◌}
+use Rattle.std.specs.Prelude.{ℕ, suc, ◌-◌, ◌++◌, Bool, true, false, List, [], ◌∷◌, Some, unwrap_or, if◌then◌else◌}
 use Rattle.js_grammar.specs.Code.{Function, function, Declaration, declaration}
-use Rattle.js_grammar.specs.Items.{Imported, imported, Importeds, no_imported, more_imported, ImportList, import_list, ImportForm, import_default, import_both, import_names, import_types, import_only, AliasOf, alias, Exported, exported, Exporteds, no_exported, more_exported, ExportList, export_list, ExportForm, export_declaration, export_function, export_alias, export_names, export_from, export_default_function, export_default, ItemForm, imports, exports, declares_item, function_item, alias_item, does_item, Item, item, Items, no_item, more_item}
+use Rattle.js_grammar.specs.Items.{imported, Importeds, no_imported, more_imported, ImportList, import_list, ImportForm, import_default, import_both, import_names, import_types, import_only, AliasOf, alias, exported, Exporteds, no_exported, more_exported, ExportList, export_list, ExportForm, export_declaration, export_function, export_alias, export_names, export_from, export_default_function, export_default, ItemForm, imports, exports, declares_item, function_item, alias_item, does_item, item, Items, no_item, more_item}
 use Rattle.check_values.specs.Rows.{Bytes, is_among}
 use Rattle.check_values.specs.declared.codes.Code.TheVariants.{NameAlreadyBound}
 use Rattle.type_values.specs.declared.types.FlowType.{FlowType}
@@ -127,4 +127,4 @@ abbrev pub exported_twice : World → List Bytes → List Exporting → Notes �
 exported_twice w before [] notes = notes
 exported_twice w before (export ∷ more) notes =
     exported_twice w (export.1 ∷ before) more
-      (if is_among before export.1 then name_fault (fault_at w export.0 (suc export.0) NameAlreadyBound export.1) notes else notes)
+    (if is_among before export.1 then name_fault (fault_at w export.0 (suc export.0) NameAlreadyBound export.1) notes else notes)

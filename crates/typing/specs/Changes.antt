@@ -1,9 +1,9 @@
 -- What code may change: the variables and properties that are assigned in it, and its calls.
-use Rattle.std.specs.Prelude.{ℕ, ◌&&◌, not, Bool, true, false, List, [], ◌∷◌, ◌++◌, filter, Option, Some, None, if◌then◌else◌}
+use Rattle.std.specs.Prelude.{not, Bool, true, false, List, [], ◌∷◌, ◌++◌, filter, Option, Some, None}
 use Rattle.std.specs.List.{filter_map, list_any}
 use Rattle.std.specs.Str.{bytes_eq}
 use Rattle.check_values.specs.Rows.{Bytes, is_among}
-use Rattle.js_grammar.specs.Code.{Ex, ex, ExForm, parens, elements, fields, function_ex, postfixed, prefixed, chain, cond, arrow, Exs, no_ex, more_ex, Link, link, LinkForm, member, index, call, Links, no_link, more_link, Operand, operand, OperandForm, right_side, as_type, Operands, no_operand, more_operand, Field, field, FieldForm, shorthand, valued, Fields, no_field, more_field, Arm, arm, Arms, no_arm, more_arm, Function, function, Sig, sig, Parameter, parameter, Parameters, no_parameter, more_parameter, ArrowBody, arrow_block, arrow_value, Block, block, Stmts, no_stmt, more_stmt, Stmt, stmt, StmtForm, declares, function_stmt, does, branches, loop, nested, Declaration, declaration, Simple, simple, SimpleForm, return_value, throw_value, assign, evaluate, Body, block_body, simple_body, Branch, branch, Branches, no_branch, more_branch, Else, no_else, else_body, variable}
+use Rattle.js_grammar.specs.Code.{Ex, ex, ExForm, parens, elements, fields, function_ex, postfixed, prefixed, chain, cond, arrow, Exs, no_ex, more_ex, Link, link, LinkForm, member, index, call, Links, no_link, more_link, Operand, operand, OperandForm, right_side, as_type, Operands, no_operand, more_operand, Field, field, FieldForm, shorthand, valued, Fields, no_field, more_field, Arm, arm, Arms, no_arm, more_arm, Function, function, Sig, sig, parameter, Parameters, no_parameter, more_parameter, ArrowBody, arrow_block, arrow_value, Block, block, Stmts, no_stmt, more_stmt, Stmt, stmt, StmtForm, declares, function_stmt, does, branches, loop, nested, Declaration, declaration, Simple, simple, SimpleForm, return_value, throw_value, assign, evaluate, Body, block_body, simple_body, Branch, branch, Branches, no_branch, more_branch, Else, no_else, else_body, variable}
 
 pub data Change : Type 0 where
   -- a variable is assigned, in an inner function (true) or outside of them

@@ -1,13 +1,11 @@
 -- The rule of each form of an expression, on parts that were read.
 use Rattle.std.specs.Prelude.{ℕ, suc, ◌-◌, ◌++◌, not, ◌&&◌, ◌||◌, Bool, true, false, List, [], ◌∷◌, map, Option, Some, None, if◌then◌else◌}
-use Rattle.js_grammar.specs.Code.{Prefix, negation, minus_sign, plus_sign, kind_of, Prefixes, no_prefix, more_prefix, Operator, nullish, or, and, strict_equal, strict_not_equal, loose_equal, loose_not_equal, less, greater, less_or_equal, greater_or_equal, add, subtract, multiply, divide, remainder, Ex, Operand, operand, OperandForm, right_side, as_type, Operands, no_operand, more_operand}
+use Rattle.js_grammar.specs.Code.{Prefix, negation, minus_sign, plus_sign, kind_of, Prefixes, no_prefix, more_prefix, Operator, nullish, or, and, strict_equal, strict_not_equal, loose_equal, loose_not_equal, less, greater, less_or_equal, greater_or_equal, add, subtract, multiply, divide, remainder, Ex, operand, OperandForm, right_side, as_type, Operands, no_operand, more_operand}
 use Rattle.check_values.specs.Rows.{Bytes}
-use Rattle.check_values.specs.declared.codes.Code.{Code}
 use Rattle.check_values.specs.declared.faults.Fault.{Fault}
 use Rattle.check_values.specs.declared.codes.Code.TheVariants.{InvalidCompare, UnsafeArithmetic}
 use Rattle.type_values.specs.declared.types.FlowType.{FlowType}
 use Rattle.type_values.specs.declared.types.FlowType as made
-use Rattle.type_values.specs.declared.types.Param as value
 use Rattle.type_terms.specs.Join.{join_of, is_any}
 use Rattle.type_terms.specs.Show.{brief}
 use Rattle.flow_facts.specs.declared.place.Place.{Place}
@@ -18,7 +16,7 @@ use Rattle.typing.specs.Names.{Binding, Scope, Meaning, variable_of, no_variable
 use Rattle.typing.specs.Tests.{Comparison, comparison_of, assume_equal, is_negated}
 use Rattle.typing.specs.States.{World, Want, Notes, Now, Out, no_of, after, on_yes, on_no, plainly, change_facts, change_notes, assume, fault_at, name_fault, add_fault, add_faults, two_types, against, asked, noted_out}
 use Rattle.typing.specs.Members.{levels, Step, steps_type, steps_faults, Part, property_read, index_read, Arg, Call, member_called, args_faults}
-use Rattle.typing.specs.TypeFaults.{written, type_read}
+use Rattle.typing.specs.TypeFaults.{written}
 
 -- ---- variables and places
 
@@ -28,7 +26,8 @@ place_out w p declared now = record {
   ty = type_at now.facts p declared;
   yes = assume w test.Truthy p declared now.facts;
   no = Some (assume w test.Falsy p declared now.facts);
-  notes = now.notes }
+  notes = now.notes;
+}
 
 abbrev pub maybe_place_out : World → Option Place → FlowType → Now → Out
 maybe_place_out w None t now = plainly t now
@@ -94,21 +93,24 @@ and_out w a b = record {
   ty = join_of (narrowed w.members test.Falsy a.ty ∷ b.ty ∷ []);
   yes = b.yes;
   no = Some (joined (no_of a) (no_of b));
-  notes = b.notes }
+  notes = b.notes;
+}
 
 abbrev pub or_out : World → Out → Out → Out
 or_out w a b = record {
   ty = join_of (narrowed w.members test.Truthy a.ty ∷ b.ty ∷ []);
   yes = joined a.yes b.yes;
   no = Some (no_of b);
-  notes = b.notes }
+  notes = b.notes;
+}
 
 abbrev pub nullish_out : World → Out → Out → Out
 nullish_out w a b = record {
   ty = join_of (narrowed w.members test.NotNullish a.ty ∷ b.ty ∷ []);
   yes = joined (after a).facts (after b).facts;
   no = None;
-  notes = b.notes }
+  notes = b.notes;
+}
 
 -- ---- conditionals
 

@@ -1,18 +1,18 @@
 -- Functions: their parameters, their types, and the scopes of their bodies and of blocks.
-use Rattle.std.specs.Prelude.{ℕ, suc, ◌+◌, ◌++◌, Bool, true, false, List, [], ◌∷◌, map, Option, Some, None, unwrap_or, if◌then◌else◌, codes}
+use Rattle.std.specs.Prelude.{ℕ, suc, ◌++◌, Bool, true, false, List, [], ◌∷◌, Option, Some, None, unwrap_or, if◌then◌else◌}
 use Rattle.js_grammar.specs.Types.{Ty, ty}
-use Rattle.js_grammar.specs.Code.{Binder, const, let_word, Function, function, Sig, sig, Parameter, parameter, Parameters, no_parameter, more_parameter, Block, block, Stmts, no_stmt, more_stmt, Stmt, stmt, StmtForm, declares, function_stmt, Declaration, declaration}
+use Rattle.js_grammar.specs.Code.{Binder, const, let_word, Function, function, Sig, sig, Parameter, parameter, Parameters, no_parameter, more_parameter, Stmts, no_stmt, more_stmt, stmt, StmtForm, declares, function_stmt, Declaration, declaration}
 use Rattle.check_values.specs.Rows.{Bytes}
-use Rattle.check_values.specs.declared.codes.Code.TheVariants.{IncompatibleType, MissingLocalAnnot, NameAlreadyBound}
+use Rattle.check_values.specs.declared.codes.Code.TheVariants.{MissingLocalAnnot, NameAlreadyBound}
 use Rattle.type_values.specs.declared.types.FlowType.{FlowType}
 use Rattle.type_values.specs.declared.types.FlowType as made
 use Rattle.type_values.specs.declared.types.Param as value
 use Rattle.type_terms.specs.Join.{join_of}
 use Rattle.type_terms.specs.Optional.{eff}
-use Rattle.flow_facts.specs.Known.{Known, no_facts, entered_function}
+use Rattle.flow_facts.specs.Known.{Known, entered_function}
 use Rattle.typing.specs.Names.{Kind, constant, changing, shared, Binding, Scope, number_at, binds, is_constant_number}
 use Rattle.typing.specs.Changes.{Change, is_set_inside}
-use Rattle.typing.specs.States.{World, Notes, Now, Env, fault_at, add_fault, name_fault, asked, returns}
+use Rattle.typing.specs.States.{World, Notes, Env, fault_at, add_fault, name_fault, asked, returns}
 use Rattle.typing.specs.TypeFaults.{written, annotated, type_read, annotation_read}
 
 -- ---- parameters
@@ -78,8 +78,14 @@ kind_by changes let_word name = changing_kind changes name
 
 abbrev pub parameter_binding : World → ℕ → List Change → Parameter → Binding
 parameter_binding w depth changes (parameter f t name optional annotation) =
-    record { name = name; number = number_at f; kind = changing_kind changes name; depth = depth; is_read = true;
-             declared = Some (eff optional (param_type w annotation)) }
+    record {
+      name = name;
+      number = number_at f;
+      kind = changing_kind changes name;
+      depth = depth;
+      is_read = true;
+      declared = Some (eff optional (param_type w annotation));
+    }
 
 abbrev pub bind_parameters : World → ℕ → List Change → Parameters → Bound → Bound
 bind_parameters w depth changes no_parameter so_far = so_far
@@ -92,8 +98,14 @@ bind_sig w depth changes (sig f t ps comma result) so_far = bind_parameters w de
 -- a variable before its declaration was read
 abbrev pub declaration_binding : World → ℕ → List Change → Declaration → Binding
 declaration_binding w depth changes (declaration f t binder name annotation e) =
-    record { name = name; number = number_at (suc f); kind = kind_by changes binder name; depth = depth; is_read = false;
-             declared = annotated w annotation }
+    record {
+      name = name;
+      number = number_at (suc f);
+      kind = kind_by changes binder name;
+      depth = depth;
+      is_read = false;
+      declared = annotated w annotation;
+    }
 
 abbrev pub function_binding : World → ℕ → ℕ → Bytes → Sig → Binding
 function_binding w depth token name s =
@@ -136,8 +148,13 @@ own_scope w (Some name) token s scope =
 -- The start of a function's body: bound are its parameters and the names that the body declares.
 abbrev pub body_env : World → Sig → Scope → Known → Bound → Env
 body_env w s scope facts bound =
-    record { scope = record { names = bound.names ++ scope.names; depth = suc scope.depth; result = result_of w s };
-             facts = facts; notes = bound.notes; returned = []; breaks = None }
+    record {
+      scope = record { names = bound.names ++ scope.names; depth = suc scope.depth; result = result_of w s };
+      facts = facts;
+      notes = bound.notes;
+      returned = [];
+      breaks = None;
+    }
 
 -- a function expression or an arrow keeps the facts on constant variables, a declaration none
 abbrev pub kept_facts : Bool → Scope → Known → Known

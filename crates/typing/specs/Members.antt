@@ -13,7 +13,7 @@ use Rattle.type_values.specs.declared.types.FlowProp.{FlowProp, out-FlowProp}
 use Rattle.type_values.specs.declared.types.Param.{Param, out-Param}
 use Rattle.type_values.specs.declared.types.Variance.{Variance}
 use Rattle.type_values.specs.declared.types.Variance.TheVariants.{Read, Write}
-use Rattle.type_values.specs.declared.types.FlowType.TheOpen.{FlowType-F, Any, Mixed, Str, StrLit, NumLit, Null, Void, Object, Tuple, Array, ReadArray, Function}
+use Rattle.type_values.specs.declared.types.FlowType.TheOpen.{Any, Mixed, Str, StrLit, NumLit, Null, Void, Object, Tuple, Array, ReadArray, Function}
 use Rattle.type_terms.specs.Join.{join_of}
 use Rattle.type_terms.specs.Show.{brief, quoted}
 use Rattle.type_terms.specs.Optional.{eff}

@@ -2,8 +2,8 @@
 use Rattle.std.specs.Prelude.{ℕ, suc, ◌+◌, ◌++◌, ◌==◌, nat_lt, not, ◌&&◌, ◌||◌, Bool, true, false, List, [], ◌∷◌, map, filter, length, slice_get, Option, Some, None, if◌then◌else◌}
 use Rattle.std.specs.List.{filter_map, list_any, list_all}
 use Rattle.std.specs.Str.{bytes_eq}
-use Rattle.js_grammar.specs.Types.{Key, key}
-use Rattle.js_grammar.specs.Code.{Ex, Field, field, FieldForm, shorthand, valued, Fields, no_field, more_field, Exs, no_ex, more_ex}
+use Rattle.js_grammar.specs.Types.{key}
+use Rattle.js_grammar.specs.Code.{field, FieldForm, shorthand, valued, Fields, no_field, more_field, Exs, no_ex, more_ex}
 use Rattle.check_values.specs.Rows.{Bytes}
 use Rattle.check_values.specs.declared.codes.Code.TheVariants.{NameAlreadyBound, PropMissing}
 use Rattle.check_values.specs.declared.faults.Fault.{Fault}
@@ -11,7 +11,7 @@ use Rattle.type_values.specs.declared.types.FlowType.{FlowType, out-FlowType}
 use Rattle.type_values.specs.declared.types.FlowType as made
 use Rattle.type_values.specs.declared.types.FlowProp.{FlowProp, out-FlowProp}
 use Rattle.type_values.specs.declared.types.Variance.TheVariants.{Both}
-use Rattle.type_values.specs.declared.types.FlowType.TheOpen.{FlowType-F, Any, Object, Tuple, Array, ReadArray}
+use Rattle.type_values.specs.declared.types.FlowType.TheOpen.{Object, Tuple, Array, ReadArray}
 use Rattle.type_terms.specs.Join.{join_of, widened, level_is_any}
 use Rattle.type_terms.specs.Show.{shown_key}
 use Rattle.tree_types.specs.TreeTypes.{key_text, last_of_each}

@@ -1,9 +1,9 @@
 -- The rule of each form of a statement, on parts that were read.
-use Rattle.std.specs.Prelude.{ℕ, suc, ◌==◌, ◌&&◌, not, Bool, true, false, List, [], ◌∷◌, fold, map, Option, Some, None, if◌then◌else◌}
+use Rattle.std.specs.Prelude.{ℕ, suc, ◌==◌, ◌&&◌, Bool, true, false, List, [], ◌∷◌, fold, map, Option, Some, None, if◌then◌else◌}
 use Rattle.std.specs.List.{filter_map, list_any}
 use Rattle.js_grammar.specs.Code.{Binder, const, let_word, Ex, ex}
 use Rattle.check_values.specs.Rows.{Bytes}
-use Rattle.check_values.specs.declared.codes.Code.TheVariants.{IncompatibleType, ReassignConst}
+use Rattle.check_values.specs.declared.codes.Code.TheVariants.{ReassignConst}
 use Rattle.check_values.specs.declared.faults.Fault.{Fault}
 use Rattle.type_values.specs.declared.types.FlowType.{FlowType}
 use Rattle.type_values.specs.declared.types.FlowType as made
@@ -13,7 +13,7 @@ use Rattle.flow_facts.specs.declared.place.Killed.{Killed}
 use Rattle.flow_facts.specs.Known.{Known, joined, live, without, is_named, without_properties, variable_place, assigned, entered_loop}
 use Rattle.typing.specs.Names.{Kind, shared, Binding, Scope, Meaning, variable_of, no_variable, is_constant, has_facts, number_at, declares_type, numbers_of}
 use Rattle.typing.specs.Changes.{Change, variable_set, property_set, sets_all}
-use Rattle.typing.specs.States.{World, Want, Notes, Now, Out, Env, no_of, after, on_no, now_of, with_now, change_notes, asked, asked_want, add_fault, add_faults, name_fault, fault_at, returns, dead}
+use Rattle.typing.specs.States.{World, Want, Notes, Out, Env, no_of, after, with_now, asked, asked_want, add_faults, name_fault, fault_at, returns, dead}
 use Rattle.typing.specs.Members.{levels, Part, steps_type, steps_faults, property_read, property_written, index_written, target_of_prop, target_of_index, the_one}
 use Rattle.type_terms.specs.Show.{brief}
 
@@ -64,8 +64,11 @@ assigned_env w e g v env =
 abbrev pub variable_goal_of : World → ℕ → Bytes → Binding → FlowType → Goal
 variable_goal_of w f name b declared =
     if is_constant b then record { wants = []; faults = fault_at w f (suc f) ReassignConst name ∷ []; target = set_nothing }
-    else record { wants = declared ∷ []; faults = [];
-                  target = if has_facts b then set_place (variable_place b.number) declared else set_nothing }
+    else record {
+      wants = declared ∷ [];
+      faults = [];
+      target = if has_facts b then set_place (variable_place b.number) declared else set_nothing;
+    }
 
 abbrev pub variable_goal : World → ℕ → Bytes → Meaning → Goal
 variable_goal w f name (no_variable code) = record { wants = []; faults = []; target = set_nothing }
@@ -87,7 +90,8 @@ property_goal w f at t key place o =
     record {
       wants = filter_map (target_of_prop key) (levels w o.ty);
       faults = steps_faults (map (property_written w part key) (levels w o.ty));
-      target = property_target key (steps_type (map (property_read w part key) (levels w o.ty))) place }
+      target = property_target key (steps_type (map (property_read w part key) (levels w o.ty))) place;
+    }
 
 -- the element `[i]` of an object, once the index was read
 abbrev pub element_goal : World → ℕ → ℕ → Ex → Out → Out → Goal
@@ -96,7 +100,8 @@ element_goal w f at e o i =
     record {
       wants = filter_map (target_of_index w i.ty) (levels w o.ty);
       faults = steps_faults (map (index_written w part i.ty) (levels w o.ty));
-      target = set_element }
+      target = set_element;
+    }
 
 -- ---- declarations
 
@@ -128,7 +133,8 @@ declared_env w f binder annotation v env =
     record env {
       scope = declares_type (number_at (suc f)) (declared_type binder annotation v.ty) env.scope;
       facts = declared_facts w env.scope (number_at (suc f)) annotation v.ty (after v).facts;
-      notes = v.notes }
+      notes = v.notes;
+    }
 
 -- ---- `return` and `break`
 
@@ -167,7 +173,8 @@ abbrev pub killed_by : Scope → List Change → Killed
 killed_by scope changes = record {
   bindings = numbers_of scope (filter_map variable_set changes);
   props = filter_map property_set changes;
-  all_props = list_any sets_all changes }
+  all_props = list_any sets_all changes;
+}
 
 -- before the test
 abbrev pub loop_env : List Change → Env → Env

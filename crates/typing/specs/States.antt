@@ -1,5 +1,5 @@
 -- What reading gives, and what it passes on.
-use Rattle.std.specs.Prelude.{ℕ, ◌-◌, ◌&&◌, nat_le, nat_lt, not, Bool, true, false, List, [], ◌∷◌, ◌++◌, fold, Option, Some, None, if◌then◌else◌, codes, slice_index_or}
+use Rattle.std.specs.Prelude.{ℕ, ◌-◌, ◌&&◌, nat_le, nat_lt, Bool, true, List, [], ◌∷◌, ◌++◌, fold, Option, Some, None, if◌then◌else◌, codes}
 use Rattle.std.specs.List.{list_any}
 use Rattle.std.specs.Ordering.{is_eq}
 use Rattle.flow_values.specs.declared.span.Span.{Span}
@@ -9,12 +9,10 @@ use Rattle.check_values.specs.declared.codes.Code.{Code}
 use Rattle.check_values.specs.declared.codes.Code.TheVariants.{IncompatibleType, UnreachableCode}
 use Rattle.check_values.specs.declared.faults.Fault.{Fault}
 use Rattle.type_values.specs.declared.types.FlowType.{FlowType}
-use Rattle.type_values.specs.declared.types.FlowType as made
-use Rattle.type_terms.specs.Join.{join_of}
 use Rattle.type_terms.specs.Show.{brief}
 use Rattle.flow_facts.specs.declared.place.Place.{Place}
 use Rattle.flow_facts.specs.declared.test.Test.{Test}
-use Rattle.flow_facts.specs.Known.{Known, joined, live, narrowed_at, assigned}
+use Rattle.flow_facts.specs.Known.{Known, joined, live, narrowed_at}
 use Rattle.local_signatures.specs.Faults.{span_over}
 use Rattle.typing.specs.Names.{Scope}
 

@@ -1,8 +1,8 @@
 -- Literals, and the tests that a comparison makes of a place.
-use Rattle.std.specs.Prelude.{ℕ, Bool, true, false, ◌==◌, List, [], ◌∷◌, Option, Some, None, if◌then◌else◌}
-use Rattle.std.specs.Option.{option_or, is_some}
+use Rattle.std.specs.Prelude.{ℕ, Bool, true, false, ◌==◌, Option, Some, None, if◌then◌else◌}
+use Rattle.std.specs.Option.{option_or}
 use Rattle.js_grammar.specs.Words.{is_type_number}
-use Rattle.js_grammar.specs.Code.{Prefix, kind_of, Prefixes, no_prefix, more_prefix, Operator, strict_equal, strict_not_equal, loose_equal, loose_not_equal, Ex, ex, ExForm, variable, number, text, truth_value, null_value, parens, postfixed, prefixed, Link, link, LinkForm, member, Links, no_link, more_link}
+use Rattle.js_grammar.specs.Code.{kind_of, no_prefix, more_prefix, Operator, strict_equal, strict_not_equal, loose_not_equal, Ex, ex, ExForm, variable, number, text, truth_value, null_value, parens, postfixed, prefixed, link, member, Links, no_link, more_link}
 use Rattle.check_values.specs.Rows.{Bytes}
 use Rattle.type_values.specs.declared.types.FlowType.{FlowType}
 use Rattle.type_values.specs.declared.types.FlowType as made
@@ -12,7 +12,7 @@ use Rattle.flow_facts.specs.declared.test.Test as test
 use Rattle.flow_facts.specs.declared.test.Lit.{Lit}
 use Rattle.flow_facts.specs.declared.test.Lit.TheVariants as lit
 use Rattle.flow_facts.specs.Known.{Known, variable_place, property_place}
-use Rattle.typing.specs.Names.{Binding, Scope, Meaning, variable_of, no_variable, meaning_of, has_facts, undefined_number}
+use Rattle.typing.specs.Names.{Scope, Meaning, variable_of, no_variable, meaning_of, has_facts, undefined_number}
 use Rattle.typing.specs.States.{World, assume}
 
 -- a whole number of at most 15 digits is a type of its own
@@ -167,7 +167,7 @@ comparison_with strict tested other = None
 abbrev pub comparison_of : Scope → Operator → Ex → Ex → Option Comparison
 comparison_of scope op a b =
     option_or (comparison_with (is_strict op) (tested_in scope a) (compared_with scope b))
-      (comparison_with (is_strict op) (tested_in scope b) (compared_with scope a))
+    (comparison_with (is_strict op) (tested_in scope b) (compared_with scope a))
 
 -- a test of a property narrows its variable by the test on the property
 abbrev pub assume_on_property : World → Test → ℕ → Option Bytes → Known → Known

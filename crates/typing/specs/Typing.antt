@@ -1,25 +1,20 @@
 -- How expressions and statements are read.
-use Rattle.std.specs.Prelude.{ℕ, suc, ◌+◌, ◌++◌, not, ◌&&◌, Bool, true, false, List, [], ◌∷◌, map, length, Option, Some, None, if◌then◌else◌}
-use Rattle.std.specs.List.{filter_map, list_any}
-use Rattle.js_grammar.specs.Types.{Ty}
-use Rattle.js_grammar.specs.Code.{Binder, Ex, ex, ExForm, variable, number, text, truth_value, null_value, parens, elements, fields, function_ex, postfixed, prefixed, chain, cond, arrow, Exs, no_ex, more_ex, Link, link, LinkForm, member, index, call, Links, no_link, more_link, Operand, operand, OperandForm, right_side, as_type, Operands, no_operand, more_operand, has_operands, Field, field, FieldForm, shorthand, valued, Fields, no_field, more_field, Arm, arm, Arms, no_arm, more_arm, Function, function, Sig, Parameter, ArrowBody, arrow_block, arrow_value, Block, block, Stmts, no_stmt, more_stmt, Stmt, stmt, StmtForm, declares, function_stmt, does, branches, loop, nested, Declaration, declaration, Simple, simple, SimpleForm, return_bare, return_value, throw_value, break_loop, continue_loop, assign, evaluate, Body, block_body, simple_body, Branch, branch, Branches, no_branch, more_branch, Else, no_else, else_body}
-use Rattle.check_values.specs.Rows.{Bytes}
+use Rattle.std.specs.Prelude.{ℕ, suc, ◌++◌, Bool, true, false, List, [], ◌∷◌, length, Option, Some, None, if◌then◌else◌}
+use Rattle.js_grammar.specs.Code.{Ex, ex, ExForm, variable, number, text, truth_value, null_value, parens, elements, fields, function_ex, postfixed, prefixed, chain, cond, arrow, Exs, no_ex, more_ex, link, LinkForm, member, index, call, Links, no_link, more_link, operand, OperandForm, right_side, as_type, Operands, no_operand, more_operand, has_operands, field, FieldForm, shorthand, valued, Fields, no_field, more_field, arm, Arms, no_arm, more_arm, Function, function, Sig, ArrowBody, arrow_block, arrow_value, Block, block, Stmts, no_stmt, more_stmt, stmt, StmtForm, declares, function_stmt, does, branches, loop, nested, Declaration, declaration, simple, SimpleForm, return_bare, return_value, throw_value, break_loop, continue_loop, assign, evaluate, Body, block_body, simple_body, branch, Branches, no_branch, more_branch, Else, no_else, else_body}
 use Rattle.type_values.specs.declared.types.FlowType.{FlowType}
 use Rattle.type_values.specs.declared.types.FlowType as made
 use Rattle.type_values.specs.declared.types.FlowProp.{FlowProp}
 use Rattle.type_values.specs.declared.types.Param as value
-use Rattle.type_terms.specs.Join.{join_of}
 use Rattle.flow_facts.specs.declared.place.Place.{Place}
-use Rattle.flow_facts.specs.Known.{Known, joined}
 use Rattle.typing.specs.Names.{Scope, meaning_of}
-use Rattle.typing.specs.Changes.{Change, declared_in, changes_of_ex, changes_of_stmts, changes_of_body}
-use Rattle.typing.specs.States.{World, Want, Notes, Now, Out, Env, no_of, after, on_yes, on_no, now_of, with_now, plainly, change_notes, against, asked, noted_out, reach, dead, returns, leave}
+use Rattle.typing.specs.Changes.{changes_of_ex, changes_of_stmts, changes_of_body}
+use Rattle.typing.specs.States.{World, Want, Now, Out, Env, no_of, after, on_yes, now_of, with_now, plainly, change_notes, against, noted_out, reach, dead, leave}
 use Rattle.typing.specs.TypeFaults.{written, annotated, type_read, annotation_read}
 use Rattle.typing.specs.Tests.{number_type, variable_in, step_place, place_in}
 use Rattle.typing.specs.Members.{levels, Arg, one_function, param_at}
-use Rattle.typing.specs.Functions.{bind_sig, bind_stmts, none_bound, enter_block, own_scope, sig_read, result_of, function_type, function_read, body_env, kept_facts, ended}
+use Rattle.typing.specs.Functions.{bind_sig, bind_stmts, none_bound, enter_block, own_scope, sig_read, result_of, function_read, body_env, kept_facts, ended}
 use Rattle.typing.specs.Objects.{Entry, entry_of, entries_of, key_bound, Candidate, candidate_for, value_want, key_asked, all_given, prop_read, object_type, array_type, Elements, elements_for, element_want, count_of}
-use Rattle.typing.specs.Forms.{variable_out, prefixes_out, place_before, right_now, operator_out, first_want, cast_asked, compared, compared_out, property_out, index_out, Args, call_out, Chosen, Choices, choices_out, unless_matched}
+use Rattle.typing.specs.Forms.{variable_out, prefixes_out, place_before, right_now, operator_out, first_want, cast_asked, compared, compared_out, property_out, index_out, Args, call_out, Choices, choices_out, unless_matched}
 use Rattle.typing.specs.Statements.{first_of, end_of, goal_want, variable_goal, variable_named, property_goal, element_goal, assigned_env, declared_env, returned_bare, returned_value, broken, Fork, fork, forked, merged, loop_env, after_loop}
 
 -- the elements of an array literal that were read, in order
@@ -159,7 +154,8 @@ abbrev mutual
       let v = read w chosen scope want (on_yes o) in
       record {
         chosen = before.chosen ++ record { first = f; ty = v.ty; facts = (after v).facts } ∷ [];
-        now = record { facts = no_of o; notes = v.notes } }
+        now = record { facts = no_of o; notes = v.notes };
+      }
 
   -- a function expression (true) or declaration
   pub read_function : World → Bool → Function → Scope → Now → Made

@@ -7,17 +7,11 @@ ghost use Rattle.std.proofs.Common.{arith, lit<, ap, subst, ◌∙◌};
 ghost use Rattle.std.proofs.lemmas.List.{length-replicate, get_or-replicate};
 ghost use Rattle.std.proofs.lemmas.Option.{slice_get-get_or};
 
-use crate::traits::{HeapWriter, Program};
-use crate::transactions::commit_state;
 use flow_values::NoMemory;
+use heap_core::HeapWriter;
+use heap_core::transactions::commit_state;
 use std::sync::{Arc, Wait};
 use std::test::Fail;
-
-impl Program for () {
-    ghost fits = { λ _ _ _ _. Unit {0} };
-
-    ghost fits_once = { λ _ _ _ _. λ _ _. refl };
-}
 
 /// It may wait where it begins.
 #[derive(Drop)]

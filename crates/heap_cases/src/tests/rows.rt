@@ -1,6 +1,6 @@
 //! The plain heap.
 use super::Mark;
-use crate::{HeapReader, HeapWriter, PlainHeap};
+use heap_core::{HeapReader, HeapWriter, PlainHeap};
 use std::sync::Arc;
 use std::test::Fail;
 

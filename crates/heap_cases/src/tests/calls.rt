@@ -1,7 +1,7 @@
 //! The plain heap's calls, by their laws.
 use super::Mark;
-use crate::laws::{begin_stands, commit_stands, reader_stands, rollback_stands, stage_stands};
 use heap_core::{HeapReader, PlainHeap};
+use heap_world::laws::{begin_stands, commit_stands, reader_stands, rollback_stands, stage_stands};
 use std::sync::Arc;
 use std::test::Fail;
 

@@ -1,7 +1,9 @@
-//! Events in a row, and a plain heap's calls by their laws.
+//! Each public call once, and a second writer: one entity that tells its states, and that may wait.
 ghost use Rattle.std.specs.Prelude.{refl};
 
 mod calls;
+mod rows;
+mod teller;
 mod worlds;
 
 use heap_core::Program;

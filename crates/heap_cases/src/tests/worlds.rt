@@ -4,8 +4,8 @@ ghost use Rattle.heap_world.specs.World.{HasLengths};
 ghost use Rattle.heap_world.specs.Seen.{world_of};
 
 use super::Mark;
-use crate::{Event, World};
 use flow_values::{List, NoMemory};
+use heap_world::{Event, World};
 use std::alloc::Global;
 use std::sync::Arc;
 use std::test::Fail;
