@@ -1,5 +1,5 @@
 -- Where names unfold to types of a finite list, each pair of types is below or not.
-use Rattle.std.proofs.Common.{◌≡◌, ℕ, zero, suc, ◌+◌, ◌<◌, ◌≤◌, ◌⊎◌, Bool, true, false, List, [], ◌∷◌, length, map, get_or, slice_get, Some, Contains, refl, sym, ap, ◌∙◌, arith, subst, inl, inr}
+use Rattle.std.proofs.Common.{◌≡◌, ℕ, zero, suc, ◌<◌, Bool, true, List, [], ◌∷◌, length, map, get_or, slice_get, Some, Contains, refl, ap, arith, subst, inl, inr}
 use Rattle.std.specs.Prelude.{IsTrue, ◌↔◌}
 use Rattle.std.specs.List.{flat_map}
 use Rattle.type_values.specs.declared.types.FlowType.{FlowType}
@@ -7,7 +7,7 @@ use Rattle.alias_table.specs.Aliases.{Key}
 use Rattle.subtyping.specs.Rows.{Pair, ways}
 use Rattle.subtyping.specs.Closed.{IsBelow}
 use Rattle.subtyping.specs.Numbered.{at, ways_of, IsKept, AreRefuted, living}
-use Rattle.subtyping.specs.Collected.{StandFor, IsHopeless, HasWay, IsRow, AreRows}
+use Rattle.subtyping.specs.Collected.{StandFor, IsRow, AreRows}
 use Rattle.subtyping.proofs.Whole.{IsWhole, first_or, nothing, here, there, cover_types}
 use Rattle.subtyping.proofs.Itself.{flat_in, flat_out, map_in, map_out}
 use Rattle.subtyping.proofs.Reached.{IsIn, AllIn, EachIn, ways_in}

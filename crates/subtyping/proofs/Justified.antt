@@ -1,5 +1,5 @@
 -- What is below is justified by a row whose needs are below, and the other way round.
-use Rattle.std.proofs.Common.{◌≡◌, ◌==◌, ℕ, Bool, true, false, List, [], ◌∷◌, ◌++◌, length, map, Contains, refl, sym, ap, ◌∙◌, subst, if◌then◌else◌, inl, inr}
+use Rattle.std.proofs.Common.{◌≡◌, ◌==◌, ℕ, Bool, true, false, List, [], ◌∷◌, ◌++◌, length, map, Contains, refl, sym, ap, subst, if◌then◌else◌, inl, inr}
 use Rattle.std.proofs.lemmas.List.Elements.{Contains-append_left, Contains-append_right}
 use Rattle.type_values.specs.declared.types.FlowType.{FlowType, out-FlowType}
 use Rattle.type_values.specs.declared.types.FlowProp.{FlowProp}

@@ -4,7 +4,7 @@ use Rattle.type_values.specs.declared.types.FlowType.{FlowType, out-FlowType}
 use Rattle.type_values.specs.declared.types.FlowType.TheOpen.{Union, Object, Tuple, Array, ReadArray, Function, Ref}
 use Rattle.alias_table.specs.Aliases.{Key}
 use Rattle.subtyping.specs.Rows.{Pair, Level, ways, is_free, does_open, is_leaf, has_no_ways, left_ways, right_ways, part_ways}
-use Rattle.subtyping.specs.Closed.{IsClosed, IsJustified, IsBelow, HasAll}
+use Rattle.subtyping.specs.Closed.{IsClosed, IsBelow, HasAll}
 use Rattle.subtyping.specs.Numbered.{at, every, some, ways_of, Refuted, refutes, AreRefuted, IsKept}
 use Rattle.subtyping.specs.Collected.{StandFor, IsHopeless, IsRow, AreRows}
 

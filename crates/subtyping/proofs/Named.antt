@@ -1,5 +1,5 @@
 -- What rows unfold names to stands in a finite list.
-use Rattle.std.proofs.Common.{◌≡◌, Bool, true, false, List, [], ◌∷◌, map, Option, Some, None, Contains, refl, sym, ap, ◌∙◌, subst, if◌then◌else◌}
+use Rattle.std.proofs.Common.{◌≡◌, Bool, true, false, List, [], ◌∷◌, map, Some, Contains, refl, sym, ap, ◌∙◌, subst, if◌then◌else◌}
 use Rattle.type_values.specs.declared.types.FlowType.{FlowType}
 use Rattle.type_values.specs.declared.types.FlowType as made
 use Rattle.alias_table.specs.Aliases.{Key, Row, alias_type, is_row_of, row_type}

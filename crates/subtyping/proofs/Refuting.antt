@@ -1,7 +1,7 @@
 -- What has no way that is alive is refuted.
-use Rattle.std.proofs.Common.{◌≡◌, ℕ, zero, suc, Bool, true, false, List, [], ◌∷◌, drop, get_or, length, ◌<◌, ◌≤◌, ◌+◌, arith, refl, sym, ap, ◌∙◌, drop-cons, ◌&&◌, ◌||◌, set, slice_set, Contains, subst, nat_eq, ◌-◌, if◌then◌else◌}
+use Rattle.std.proofs.Common.{◌≡◌, ℕ, zero, suc, Bool, true, false, List, [], ◌∷◌, get_or, length, ◌<◌, ◌≤◌, arith, refl, sym, ap, ◌∙◌, ◌&&◌, ◌||◌, Contains, subst, if◌then◌else◌}
 use Rattle.std.proofs.lemmas.Grind.{common_steps}
-use Rattle.subtyping.specs.Numbered.{at, every, some, ways_of, Refuted, refutes, AreRefuted, living}
+use Rattle.subtyping.specs.Numbered.{at, every, some, ways_of, Refuted, refutes, AreRefuted}
 
 -- a way that isn't alive needs a number that isn't
 abbrev first_off : (ℕ → Bool) → List ℕ → ℕ

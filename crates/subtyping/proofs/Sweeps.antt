@@ -1,7 +1,7 @@
 -- Deleting what isn't justified, as often as there are pairs.
-use Rattle.std.proofs.Common.{◌≡◌, ℕ, zero, suc, ◌+◌, ◌<◌, ◌≤◌, Bool, true, false, ◌&&◌, List, [], ◌∷◌, length, map, refl, sym, ap, ◌∙◌, arith, subst, inl, inr}
+use Rattle.std.proofs.Common.{◌≡◌, ℕ, zero, suc, ◌+◌, ◌<◌, ◌≤◌, Bool, true, false, ◌&&◌, List, [], ◌∷◌, length, refl, sym, ap, ◌∙◌, arith, subst, inl, inr}
 use Rattle.std.proofs.lemmas.Bool.{cases_lt}
-use Rattle.subtyping.specs.Numbered.{at, every, some, ways_of, Refuted, AreRefuted, IsKept, living}
+use Rattle.subtyping.specs.Numbered.{at, some, ways_of, Refuted, AreRefuted, IsKept, living}
 use Rattle.subtyping.proofs.Refuting.{now_refuted}
 
 abbrev pub swept : (ℕ → Bool) → List (List (List ℕ)) → List Bool → List Bool
