@@ -1,0 +1,29 @@
+use Rattle.std.proofs.Common.{sym, ap, ◌∙◌, ◌≡◌, refl, subst}
+use Rattle.alias_table.specs.Table.{unfolded}
+use Rattle.subtyping.specs.Numbered.{at, IsKept, AreRefuted}
+use Rattle.subtyping.specs.Closed.{IsBelow}
+use Rattle.subtyping.proofs.TableNames.{table_itself}
+use Rattle.subtyping.proofs.Lifted.{sound, complete}
+use Rattle.subtyping.proofs.Justified.{free_below}
+use Rattle.subtype_rules.proofs.below.decide.Goals as goal
+
+pub returns-then-is_free : goal.returns-then-is_free
+returns-then-is_free c = (λ yes. free_below (unfolded c.args.table.now) c.args.a.now c.args.b.now (sym c.is_free.ensures ∙ c.if-is_free.true), λ below. refl)
+
+pub returns-then-equals : goal.returns-then-equals
+returns-then-equals c = (λ yes. subst (λ b. IsBelow (unfolded c.args.table.now) c.args.a.now b) (c.equals.ensures.0 c.if-equals.true) (table_itself c.args.table.now c.args.a.now), λ below. refl)
+
+kept : (c : goal.After-drop-all-3) → IsKept c.in_ok-all.all.rows c.in_ok-alive.alive.items
+kept c = subst (λ rows. IsKept rows c.in_ok-alive.alive.items) c.as_slice.ensures c.in_ok-alive.ensures.kept
+
+gone : (c : goal.After-drop-all-3) → AreRefuted c.in_ok-all.all.rows c.in_ok-alive.alive.items
+gone c = subst (λ rows. AreRefuted rows c.in_ok-alive.alive.items) c.as_slice.ensures c.in_ok-alive.ensures.refuted
+
+first : (c : goal.After-drop-all-3) → at c.in_ok-alive.alive.items 0 ≡ c.is_alive.result
+first c = sym (c.is_alive.ensures ∙ ap (λ l. at l 0) c.as_slice-2.ensures.value)
+
+pub returns : goal.returns
+returns c = (
+  λ yes. sound (unfolded c.args.table.now) c.in_ok-all.all.pairs c.in_ok-all.all.rows c.in_ok-alive.alive.items c.args.a.now c.args.b.now c.in_ok-all.ensures.len c.in_ok-all.ensures.rows (kept c) c.in_ok-all.ensures.first (first c ∙ yes),
+  λ below. sym (first c) ∙ complete (unfolded c.args.table.now) c.in_ok-all.all.pairs c.in_ok-all.all.rows c.in_ok-alive.alive.items c.args.a.now c.args.b.now c.in_ok-all.ensures.len c.in_ok-all.ensures.rows (gone c) c.in_ok-all.ensures.first below,
+)

@@ -1,0 +1,11 @@
+//! Which types are below which.
+#![tactic(auto)]
+
+mod below;
+mod collecting;
+mod deleting;
+mod laws;
+mod rows;
+
+pub use below::is_subtype;
+pub use laws::below_is_the_relation;

@@ -1,0 +1,10 @@
+pub mod Whole
+pub mod Itself
+pub mod Named
+pub mod Justified
+pub mod Refuting
+pub mod Lifted
+pub mod TableNames
+pub mod Reached
+pub mod Sweeps
+pub mod Decided
