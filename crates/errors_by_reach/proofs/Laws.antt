@@ -21,4 +21,4 @@ same_errors path deps (broken code place) table a b h k = rw h (sym k)
 pub one_answer : OneAnswer
 one_answer path deps source sigs a b h k =
     same_errors path deps source h.0 a b h.2
-      (subst (λ (table : Sigs). HasErrors path deps source table b) (one_table sigs k.0 h.0 deps k.1 h.1) k.2)
+    (subst (λ (table : Sigs). HasErrors path deps source table b) (one_table sigs k.0 h.0 deps k.1 h.1) k.2)

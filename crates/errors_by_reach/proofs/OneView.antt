@@ -22,18 +22,18 @@ same_cyclic : (path : Bytes) (deps : Deps) (m : Module) (table : Sigs) (p q : Pr
 same_cyclic path deps m table p q s t = λ i name. same_answer (p.is_cyclic name) (q.is_cyclic name) (s.cyclic name) (t.cyclic name) i
 
 same_names : (path : Bytes) (deps : Deps) (m : Module) (table : Sigs) (p q : Program) → IsSeen path deps m table p → IsSeen path deps m table q
-  → unfolded q.is_cyclic (alias_type path deps m table) ≡ unfolded p.is_cyclic (alias_type path deps m table)
+    → unfolded q.is_cyclic (alias_type path deps m table) ≡ unfolded p.is_cyclic (alias_type path deps m table)
 same_names path deps m table p q s t = λ i. unfolded (sym (same_cyclic path deps m table p q s t) i) (alias_type path deps m table)
 
 same_members : (path : Bytes) (deps : Deps) (m : Module) (table : Sigs) (p q : Program) → IsSeen path deps m table p → IsSeen path deps m table q → p.members ≡ q.members
 same_members path deps m table p q s t = λ i x.
     (one_way (unfolded p.is_cyclic (alias_type path deps m table)) (s.members x)
-      (subst (λ (named : Key → FlowType). AreMembers named (x ∷ []) (q.members x)) (same_names path deps m table p q s t) (t.members x)) refl).0 i
+    (subst (λ (named : Key → FlowType). AreMembers named (x ∷ []) (q.members x)) (same_names path deps m table p q s t) (t.members x)) refl).0 i
 
 same_below : (path : Bytes) (deps : Deps) (m : Module) (table : Sigs) (p q : Program) → IsSeen path deps m table p → IsSeen path deps m table q → p.below ≡ q.below
 same_below path deps m table p q s t = λ i a b.
     same_answer (p.below a b) (q.below a b) (s.below a b)
-      (subst (λ (named : Key → FlowType). IsTrue (q.below a b) ↔ IsBelow named a b) (same_names path deps m table p q s t) (t.below a b)) i
+    (subst (λ (named : Key → FlowType). IsTrue (q.below a b) ↔ IsBelow named a b) (same_names path deps m table p q s t) (t.below a b)) i
 
 pub one_view : (path : Bytes) (deps : Deps) (m : Module) (table : Sigs) (p q : Program) → IsSeen path deps m table p → IsSeen path deps m table q → p ≡ q
 one_view path deps m table p q s t =

@@ -43,7 +43,7 @@ alias_told name (Some s) = row_at s.aliases name
 abbrev pub alias_type : Bytes → Deps → Module → Sigs → Key → Option FlowType
 alias_type path deps m table key =
     option_or (if bytes_eq key.0 path then own_alias (meaning_in path deps table m) (row_at (scope_of m) key.1) else None)
-      (alias_told key.1 (table key.0))
+    (alias_told key.1 (table key.0))
 
 -- what a name unfolds to: its type, and `any` where it lies on a cycle or is missing
 abbrev pub unfolded : (Key → Bool) → (Key → Option FlowType) → Key → FlowType
