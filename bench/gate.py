@@ -5,6 +5,7 @@
                                       those below them: each proof and each edit is done from nothing
     bench/gate.py --kept [NAME ..]    runs `rt ci` without --anew: what an earlier run kept isn't done again, nor counted
 
+What `rt ci` says goes to the file that the variable GATE_LOG names, if it is set.
 `rt ci` starts a process of `rattle` for each proof, each proof of tests and each try of an edit, and a check of the crate
 as it stands before its edits, which counts as theirs. The program looks at those processes ten times a second, in /proc,
 and adds up the processor time of each: so what other programs do at the same time changes nothing but the wall time. It
@@ -91,6 +92,9 @@ def main():
             time.sleep(0.1)
         said.seek(0)
         text = said.read()
+    if "GATE_LOG" in os.environ:
+        with open(os.environ["GATE_LOG"], "w", encoding="utf-8") as log:
+            log.write(text)
     last = text.rstrip("\n").rpartition("\n")[2]
     rows = watch.by_crate()
     print(f"{'processor seconds':<20}" + "".join(f"{it:>9}" for it in KINDS) + f"{'all':>9}")

@@ -8,7 +8,9 @@ The last line is 'N passed, M failed'.
 
 import json
 import os
+import resource
 import select
+import signal
 import subprocess
 import sys
 import time
@@ -17,7 +19,7 @@ sys.path.insert(0, os.path.dirname(os.path.abspath(__file__)))
 import real_folders
 from real_folders import BAD, CLEAN, ERRORS, FLOWD, GOOD, MOST_BYTES, SCRIPT_FAULT, SINK_FAULT, expect, recheck, run, write
 
-BAD_LINE, LIMIT = 65, 69
+BAD_LINE, LIMIT, NO_MEMORY = 65, 69, 70
 LONGEST_LINE = 4_194_304
 CASES = real_folders.CASES = []
 
@@ -154,6 +156,9 @@ class Talk:
 
     def end(self, status):
         self.flowd.stdin.close()
+        self.expect_end(status)
+
+    def expect_end(self, status):
         if (self.flowd.stdout.read(), self.flowd.wait(60)) != (b"", status):
             raise AssertionError(f"it ended with {self.flowd.returncode}, and not {status}")
 
@@ -179,6 +184,29 @@ def a_script_one_byte_at_a_time(root):
     for byte in edit("a.js", GOOD) + RECHECK:
         talk.say(bytes([byte]))
     talk.expect(done(2, 1))
+    talk.end(CLEAN)
+
+
+@case
+def after_the_end_nothing_is_read(root):
+    """The pipe stays open: whoever reads on waits for ever."""
+    for script in (END, b"\n" * 100 + END, RECHECK + END):
+        talk = Talk(root)
+        talk.expect(recheck(0))
+        talk.say(script)
+        talk.expect(done(2, 0) if RECHECK in script else b"")
+        talk.expect_end(CLEAN)
+        talk.flowd.stdin.close()
+
+
+@case
+def a_whole_line_is_answered_before_more_is_read(root):
+    """Each piece that is written has whole lines, and a part of the next one or not."""
+    talk = Talk(root)
+    talk.expect(recheck(0))
+    for version, (before, after) in enumerate([(b"", b""), (b"", b" "), (b" ", b""), (b"\n\n", b"\t")], 2):
+        talk.say(before + RECHECK + after)
+        talk.expect(done(version, 0))
     talk.end(CLEAN)
 
 
@@ -209,6 +237,56 @@ def an_output_that_breaks_off(root):
     if talk.flowd.wait(60) != SINK_FAULT:
         raise AssertionError(f"it ended with {talk.flowd.returncode}")
     talk.flowd.stdin.close()
+
+
+def with_errors(root, lines):
+    """Writes a module with an error a line, and returns what its status prints."""
+    text = "".join(f"export const x{number}: string = 1;\n" for number in range(lines))
+    write(f"{root}/a.js", text.encode())
+    told = "".join(
+        f"  a.js:{number + 1}:{len(f'export const x{number}: string = ') + 1} incompatible-type 1 string\n"
+        for number in range(lines)
+    )
+    return recheck(1, lines) + b"1 status: %d errors\n" % lines + told.encode()
+
+
+@case
+def an_output_with_room_for_a_part(root):
+    """The system takes a part of a piece, and fails at the rest."""
+    text, room = with_errors(f"{root}/d", 100), 1_000
+
+    def limit():
+        resource.setrlimit(resource.RLIMIT_FSIZE, (room, room))
+        signal.signal(signal.SIGXFSZ, signal.SIG_IGN)
+
+    write(f"{root}/script", STATUS)
+    with open(f"{root}/script", "rb") as script, open(f"{root}/out", "wb") as out:
+        given = run(f"{root}/d", stdin=script, stdout=out, preexec_fn=limit, restore_signals=False)
+    expect((given[0], open(f"{root}/out", "rb").read(), given[2]), SINK_FAULT, text[:room])
+
+
+@case
+def a_stack_that_cannot_be_had(root):
+    """Where the thread that does all work can't be started, nothing is done, and the status says so."""
+    write(f"{root}/a.js")
+    status, out, complained = run(root, before=["sh", "-c", 'ulimit -v 1000000; exec "$@"', "sh"])
+    expect((status, out, b""), NO_MEMORY, b"")
+    if complained.count(b"\n") != 1 or not complained.startswith(b"flowd: "):
+        raise AssertionError(f"it wrote {complained} to standard error")
+
+
+@case
+def a_large_stack_takes_no_memory(root):
+    """What waits for a line has the memory that it has touched, and not that of its stack."""
+    if not os.path.exists("/proc/self/status"):
+        raise real_folders.LeftOut("there is no /proc")
+    talk = Talk(root)
+    talk.expect(recheck(0))
+    with open(f"/proc/{talk.flowd.pid}/status", encoding="ascii") as about:
+        sizes = {words[0]: int(words[1]) for words in map(str.split, about) if words[0] in ("VmSize:", "VmRSS:")}
+    talk.end(CLEAN)
+    if sizes["VmSize:"] < 1 << 20 or sizes["VmRSS:"] > 8 << 10:
+        raise AssertionError(f"it has {sizes} kB")
 
 
 if __name__ == "__main__":

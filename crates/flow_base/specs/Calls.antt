@@ -1,5 +1,5 @@
 -- Ends that fail at listed calls.
-use Rattle.std.specs.Prelude.{◌≡◌, ℕ, Contains, Result, IsErrOf}
+use Rattle.std.specs.Prelude.{◌≡◌, Contains}
 use Rattle.flow_base.specs.Causes.{raised}
 use Rattle.flow_base.specs.declared.calls.Calls.{Calls}
 
@@ -11,8 +11,3 @@ pub record CountsCall (before now : Calls) : Type 0 where
 -- the last call that was made is one of those that fail
 abbrev pub IsListed : Calls → Type 0
 IsListed calls = Contains calls.failing calls.made
-
--- this fault raises the count of faults by one, and every other answer leaves it
-pub record CountsFault {T E : Type 0} (failed : E) (before now : ℕ) (result : Result T E) : Type 0 where
-  pub fails : IsErrOf result failed → now ≡ raised before
-  pub passes : (IsErrOf result failed → ⊥) → now ≡ before

@@ -4,3 +4,4 @@ pub mod Calls
 pub mod Causes
 pub mod Outside
 pub mod Program
+pub mod Seen

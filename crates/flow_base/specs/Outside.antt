@@ -1,5 +1,5 @@
 -- What is told of a folder, a source and a sink.
-use Rattle.std.specs.Prelude.{◌≡◌, ℕ, ◌≤◌, List, ◌++◌, length, take, drop, Option, Some, None, Result, Ok, Err, ⊤}
+use Rattle.std.specs.Prelude.{◌≡◌, ◌≢◌, ◌⊎◌, ℕ, ◌≤◌, List, [], ◌++◌, length, take, drop, Option, Some, None, Result, Ok, Err, IsErrOf, ⊤}
 use Rattle.std.specs.Option.{option_map}
 use Rattle.flow_base.specs.Program.{Program, Bytes, paths_of, text_at}
 
@@ -29,6 +29,10 @@ Takes before now old new (Err e) = now ≡ before
 abbrev pub Appends : {E : Type 0} → Option Bytes → Option Bytes → Bytes → Result ℕ E → Type 0
 Appends before now piece (Ok n) = (n ≤ length piece) × (now ≡ option_map (λ held. held ++ take n piece) before)
 Appends before now piece (Err e) = now ≡ before
+
+-- a sink failed: it says so, or it took nothing of a piece that isn't empty
+abbrev pub IsStuck : {E : Type 0} → E → Bytes → Result ℕ E → Type 0
+IsStuck failed piece result = IsErrOf result failed ⊎ ((result ≡ Ok 0) × (piece ≢ []))
 
 -- what is told of a sink after these bytes
 abbrev pub appended : Option Bytes → Bytes → Option Bytes

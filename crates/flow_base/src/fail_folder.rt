@@ -1,7 +1,8 @@
 ghost use Rattle.std.specs.Prelude.{◌≡◌, ◌↔◌, ◌⊎◌, ◌<◌, ◌^◌, Some, IfOk, IsErrOf};
 ghost use Rattle.flow_base.specs.Outside.{IsListing, IsReading};
 ghost use Rattle.flow_base.specs.Program.{IsRising};
-ghost use Rattle.flow_base.specs.Causes.{HasLastCause};
+ghost use Rattle.flow_base.specs.Seen.{folder_seen};
+ghost use Rattle.flow_base.specs.Causes.{CountsLast};
 ghost use Rattle.flow_base.specs.declared.outside.LastFault.TheVariants.{Never};
 
 use crate::{Calls, Folder, FolderFault, LastFault, List, MemFolder, Path, Text};
@@ -39,24 +40,20 @@ impl FailFolder {
 }
 
 impl Folder for FailFolder {
-    ghost use Rattle.flow_base.specs.Calls.{CountsCall, CountsFault, IsListed};
+    ghost use Rattle.flow_base.specs.Calls.{CountsCall, IsListed};
 
-    ghost told = { λ f. Some f.inner };
-
-    ghost faults = { λ f. f.faults };
-
-    ghost last_fault = { λ f. f.last };
+    ghost seen = { λ f. folder_seen (Some f.inner) f.faults f.last };
 
     fn list(&mut self) -> Result<List<Path>, FolderFault>
         ensures told { self.new.inner ≡ self.old.inner }
         ensures paths { IsListing (Some self.old.inner) result }
         ensures rising { IfOk result IsRising }
-        ensures cause { HasLastCause FolderFault.Failed LastFault.Listing self.old.faults self.new.faults self.old.last self.new.last result }
+        ensures counts { CountsLast (IsErrOf result FolderFault.Failed) LastFault.Listing
+            (folder_seen (Some self.old.inner) self.old.faults self.old.last) (folder_seen (Some self.new.inner) self.new.faults self.new.last) }
 
         // It fails at exactly the listed calls.
         ensures counted { CountsCall self.old.calls self.new.calls }
         ensures fails { IsErrOf result FolderFault.Failed ↔ IsListed self.new.calls }
-        ensures counts { CountsFault FolderFault.Failed self.old.faults self.new.faults result }
     {
         if self.calls.count() {
             self.faults = self.faults.saturating_add(1);
@@ -69,13 +66,13 @@ impl Folder for FailFolder {
     fn read(&mut self, path: &Path) -> Result<Option<Text>, FolderFault>
         ensures told { self.new.inner ≡ self.old.inner }
         ensures text { IsReading (Some self.old.inner) path.now result }
-        ensures cause { HasLastCause FolderFault.Failed (LastFault.Reading path.now) self.old.faults self.new.faults self.old.last self.new.last result }
+        ensures counts { CountsLast (IsErrOf result FolderFault.Failed) (LastFault.Reading path.now)
+            (folder_seen (Some self.old.inner) self.old.faults self.old.last) (folder_seen (Some self.new.inner) self.new.faults self.new.last) }
 
         // It fails at exactly the listed calls, but where the path can't be copied.
         ensures counted { CountsCall self.old.calls self.new.calls }
         ensures fails_only { IsErrOf result FolderFault.Failed → IsListed self.new.calls }
         ensures fails { IsListed self.new.calls → IsErrOf result FolderFault.Failed ⊎ IsErrOf result FolderFault.NoMemory }
-        ensures counts { CountsFault FolderFault.Failed self.old.faults self.new.faults result }
     {
         if self.calls.count() {
             let blamed = path.share()?;

@@ -1,6 +1,6 @@
-ghost use Rattle.std.specs.Prelude.{◌≡◌, ◌≢◌, ◌↔◌, ◌<◌, ◌^◌, [], length, Some, Ok, IfOk, IsErrOf};
-ghost use Rattle.flow_base.specs.Outside.{Takes, Appends, WhereTold};
-ghost use Rattle.flow_base.specs.Causes.{Rose, HasCause};
+ghost use Rattle.std.specs.Prelude.{◌≡◌, ◌↔◌, ◌<◌, ◌^◌, [], length, Some, IfOk, IsErrOf};
+ghost use Rattle.flow_base.specs.Outside.{Takes, Appends, IsStuck, WhereTold};
+ghost use Rattle.flow_base.specs.Causes.{Counts};
 
 use crate::{Calls, Failed, List, MemSink, MemSource, Sink, SinkFault, Source};
 
@@ -33,21 +33,18 @@ impl FailSource {
 }
 
 impl Source for FailSource {
-    ghost use Rattle.flow_base.specs.Calls.{CountsCall, CountsFault, IsListed};
+    ghost use Rattle.flow_base.specs.Calls.{CountsCall, IsListed};
 
-    ghost left = { λ s. Some s.inner };
-
-    ghost faults = { λ s. s.faults };
+    ghost seen = { λ s. record { left = Some s.inner; faults = s.faults } };
 
     fn read(&mut self, into: &mut [u8]) -> Result<usize, Failed>
         ensures bytes { Takes (Some self.old.inner) (Some self.new.inner) into.old into.new result }
         ensures end { IfOk result (λ n. 0 < length into.old → WhereTold (Some self.old.inner) (λ left. (n ≡ 0) ↔ (left ≡ []))) }
-        ensures cause { HasCause (record {}) self.old.faults self.new.faults result }
+        ensures counts { Counts (IsErrOf result (record {})) self.old.faults self.new.faults }
 
         // It fails at exactly the listed calls.
         ensures counted { CountsCall self.old.calls self.new.calls }
         ensures fails { IsErrOf result (record {}) ↔ IsListed self.new.calls }
-        ensures counts { CountsFault (record {}) self.old.faults self.new.faults result }
     {
         if self.calls.count() {
             self.faults = self.faults.saturating_add(1);
@@ -88,21 +85,17 @@ impl FailSink {
 }
 
 impl Sink for FailSink {
-    ghost use Rattle.flow_base.specs.Calls.{CountsCall, CountsFault, IsListed};
+    ghost use Rattle.flow_base.specs.Calls.{CountsCall, IsListed};
 
-    ghost written = { λ s. Some s.inner.bytes };
-
-    ghost faults = { λ s. s.faults };
+    ghost seen = { λ s. record { written = Some s.inner.bytes; faults = s.faults } };
 
     fn write(&mut self, piece: &[u8]) -> Result<usize, SinkFault>
         ensures bytes { Appends (Some self.old.inner.bytes) (Some self.new.inner.bytes) piece.now result }
-        ensures stuck { result ≡ Ok 0 → piece.now ≢ [] → Rose self.old.faults self.new.faults }
-        ensures cause { HasCause SinkFault.Failed self.old.faults self.new.faults result }
+        ensures counts { Counts (IsStuck SinkFault.Failed piece.now result) self.old.faults self.new.faults }
 
         // It fails at exactly the listed calls.
         ensures counted { CountsCall self.old.calls self.new.calls }
         ensures fails { IsErrOf result SinkFault.Failed ↔ IsListed self.new.calls }
-        ensures counts { CountsFault SinkFault.Failed self.old.faults self.new.faults result }
     {
         if self.calls.count() {
             self.faults = self.faults.saturating_add(1);

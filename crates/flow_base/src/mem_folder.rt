@@ -2,6 +2,7 @@ ghost use Rattle.std.specs.Prelude.{◌≡◌, ℕ, ◌<◌, ◌≤◌, ◌^◌,
 ghost use Rattle.std.specs.Option.{option_map, option_and_then};
 ghost use Rattle.std.proofs.Common.{lit<};
 ghost use Rattle.flow_base.specs.Program.{IsRising, paths_of, text_at};
+ghost use Rattle.flow_base.specs.Seen.{folder_seen};
 ghost use Rattle.flow_base.specs.declared.outside.LastFault.TheVariants.{Never};
 
 use crate::{Folder, FolderFault, List, NoMemory, Path, Text};
@@ -76,11 +77,7 @@ fn found(rows: &[(Path, Text)], path: &Path) -> Result<Option<Text>, NoMemory>
 }
 
 impl Folder for MemFolder {
-    ghost told = { λ f. Some f };
-
-    ghost faults = { λ _. 0 };
-
-    ghost last_fault = { λ _. Never };
+    ghost seen = { λ f. folder_seen (Some f) 0 Never };
 
     fn list(&mut self) -> Result<List<Path>, FolderFault> {
         Ok(listed(self.alloc, self.rows.as_slice())?)

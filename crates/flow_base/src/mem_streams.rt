@@ -1,7 +1,7 @@
-ghost use Rattle.std.specs.Prelude.{◌≡◌, ◌≢◌, [], ℕ, Some, drop, length, ◌≤◌, ◌<◌, ◌^◌, ◌↔◌, min, IfOk, Ok};
+ghost use Rattle.std.specs.Prelude.{◌≡◌, [], ℕ, Some, drop, length, ◌≤◌, ◌<◌, ◌^◌, ◌↔◌, min, IfOk, IsErrOf};
 ghost use Rattle.std.proofs.Common.{lit<};
-ghost use Rattle.flow_base.specs.Outside.{Takes, Appends, WhereTold};
-ghost use Rattle.flow_base.specs.Causes.{Rose, HasCause};
+ghost use Rattle.flow_base.specs.Outside.{Takes, Appends, IsStuck, WhereTold};
+ghost use Rattle.flow_base.specs.Causes.{Counts};
 
 use crate::{Failed, List, Sink, SinkFault, Source};
 use std::alloc::Global;
@@ -35,14 +35,12 @@ impl MemSource {
 }
 
 impl Source for MemSource {
-    ghost left = { λ s. Some s };
-
-    ghost faults = { λ _. 0 };
+    ghost seen = { λ s. record { left = Some s; faults = 0 } };
 
     fn read(&mut self, into: &mut [u8]) -> Result<usize, Failed>
         ensures bytes { Takes (Some self.old) (Some self.new) into.old into.new result }
         ensures end { IfOk result (λ n. 0 < length into.old → WhereTold (Some self.old) (λ left. (n ≡ 0) ↔ (left ≡ []))) }
-        ensures cause { HasCause (record {}) 0 0 result }
+        ensures counts { Counts (IsErrOf result (record {})) 0 0 }
 
         // It gives as many as there are and fit.
         ensures count { IfOk result (λ n. n ≡ min (length self.old) (length into.old)) }
@@ -76,14 +74,11 @@ impl MemSink {
 }
 
 impl Sink for MemSink {
-    ghost written = { λ s. Some s.bytes };
-
-    ghost faults = { λ _. 0 };
+    ghost seen = { λ s. record { written = Some s.bytes; faults = 0 } };
 
     fn write(&mut self, piece: &[u8]) -> Result<usize, SinkFault>
         ensures bytes { Appends (Some self.old.bytes) (Some self.new.bytes) piece.now result }
-        ensures stuck { result ≡ Ok 0 → piece.now ≢ [] → Rose 0 0 }
-        ensures cause { HasCause SinkFault.Failed 0 0 result }
+        ensures counts { Counts (IsStuck SinkFault.Failed piece.now result) 0 0 }
 
         // It takes the whole piece.
         ensures whole { IfOk result (λ n. n ≡ length piece.now) }

@@ -1,8 +1,8 @@
-ghost use Rattle.std.specs.Prelude.{◌≡◌, ◌≢◌, [], List, ℕ, Option, Some, None, Ok, IfOk, length, ◌<◌, ◌^◌, ◌↔◌};
-ghost use Rattle.flow_base.specs.Program.{Program, IsRising};
-ghost use Rattle.flow_base.specs.Outside.{IsListing, IsReading, Takes, Appends, WhereTold};
-ghost use Rattle.flow_base.specs.Causes.{Rose, HasCause, HasLastCause};
-ghost use Rattle.flow_base.specs.declared.outside.LastFault.{LastFault};
+ghost use Rattle.std.specs.Prelude.{◌≡◌, [], IfOk, IsErrOf, length, ◌<◌, ◌^◌, ◌↔◌};
+ghost use Rattle.flow_base.specs.Program.{IsRising};
+ghost use Rattle.flow_base.specs.Seen.{FolderSeen, SourceSeen, SinkSeen};
+ghost use Rattle.flow_base.specs.Outside.{IsListing, IsReading, Takes, Appends, IsStuck, WhereTold};
+ghost use Rattle.flow_base.specs.Causes.{Counts, CountsLast};
 
 use crate::{List, NoMemory, Path, Text};
 
@@ -61,85 +61,74 @@ pub enum LastFault {
 
 /// A folder of modules.
 pub trait Folder {
-    /// The program that it holds, where it tells it.
-    ghost told: { Self → Option Program };
-
-    /// How often it has failed, up to 2^64 - 1.
-    ghost faults: { Self → ℕ };
-
-    /// The call that failed last.
-    ghost last_fault: { Self → LastFault };
+    /// The program that it holds, where it tells it, how often it has failed, and at which call last.
+    ghost seen: { Self → FolderSeen };
 
     /// The paths of all modules, each below the next one by its bytes.
     ///
     /// # Errors
     ///
-    /// `Failed` where the listing failed, `NoMemory` where memory is refused.
+    /// `Failed` where the listing failed, which counts one fault, and `NoMemory` where memory is
+    /// refused, which counts none.
     fn list(&mut self) -> Result<List<Path>, FolderFault>
-        ensures told { told self.new ≡ told self.old }
-        ensures paths { IsListing (told self.old) result }
+        ensures told { (seen self.new).told ≡ (seen self.old).told }
+        ensures paths { IsListing (seen self.old).told result }
         ensures rising { IfOk result IsRising }
-        ensures cause { HasLastCause FolderFault.Failed LastFault.Listing (faults self.old) (faults self.new) (last_fault self.old) (last_fault self.new) result };
+        ensures counts { CountsLast (IsErrOf result FolderFault.Failed) LastFault.Listing (seen self.old) (seen self.new) };
 
     /// The bytes of a module, or `None` where the folder lacks it.
     ///
     /// # Errors
     ///
-    /// `Failed` where the reading failed, `NoMemory` where memory is refused.
+    /// `Failed` where the reading failed, which counts one fault, and `NoMemory` where memory is
+    /// refused, which counts none.
     fn read(&mut self, path: &Path) -> Result<Option<Text>, FolderFault>
-        ensures told { told self.new ≡ told self.old }
-        ensures text { IsReading (told self.old) path.now result }
-        ensures cause { HasLastCause FolderFault.Failed (LastFault.Reading path.now) (faults self.old) (faults self.new) (last_fault self.old) (last_fault self.new) result };
+        ensures told { (seen self.new).told ≡ (seen self.old).told }
+        ensures text { IsReading (seen self.old).told path.now result }
+        ensures counts { CountsLast (IsErrOf result FolderFault.Failed) (LastFault.Reading path.now) (seen self.old) (seen self.new) };
 
     /// The count of faults stays within its type.
-    ghost bounded: { (folder : Self) → faults folder < 2 ^ 64 };
+    ghost bounded: { (folder : Self) → (seen folder).faults < 2 ^ 64 };
 }
 
 /// A stream of bytes that come in.
 pub trait Source {
-    /// The bytes that are left, where it tells them.
-    ghost left: { Self → Option (List ℕ) };
-
-    /// How often it has failed, up to 2^64 - 1.
-    ghost faults: { Self → ℕ };
+    /// The bytes that are left, where it tells them, and how often it has failed.
+    ghost seen: { Self → SourceSeen };
 
     /// Takes bytes from the front of those that are left, to the front of the buffer, and answers
     /// how many. Into a buffer with room, 0 comes exactly at the end.
     ///
     /// # Errors
     ///
-    /// `Failed` where the reading failed. No byte is taken then.
+    /// `Failed` where the reading failed, which counts one fault. No byte is taken then.
     fn read(&mut self, into: &mut [u8]) -> Result<usize, Failed>
-        ensures bytes { Takes (left self.old) (left self.new) into.old into.new result }
-        ensures end { IfOk result (λ n. 0 < length into.old → WhereTold (left self.old) (λ left. (n ≡ 0) ↔ (left ≡ []))) }
-        ensures cause { HasCause (record {}) (faults self.old) (faults self.new) result };
+        ensures bytes { Takes (seen self.old).left (seen self.new).left into.old into.new result }
+        ensures end { IfOk result (λ n. 0 < length into.old → WhereTold (seen self.old).left (λ left. (n ≡ 0) ↔ (left ≡ []))) }
+        ensures counts { Counts (IsErrOf result (record {})) (seen self.old).faults (seen self.new).faults };
 
     /// The count of faults stays within its type.
-    ghost bounded: { (source : Self) → faults source < 2 ^ 64 };
+    ghost bounded: { (source : Self) → (seen source).faults < 2 ^ 64 };
 }
 
 /// A stream of bytes that go out.
 pub trait Sink {
-    /// The bytes that were written, where it tells them.
-    ghost written: { Self → Option (List ℕ) };
-
-    /// How often it has failed, up to 2^64 - 1.
-    ghost faults: { Self → ℕ };
+    /// The bytes that were written, where it tells them, and how often it has failed.
+    ghost seen: { Self → SinkSeen };
 
     /// Appends bytes of the front of the piece, and answers how many. For a piece that is not
-    /// empty, 0 is counted as a fault.
+    /// empty, 0 is counted as one fault.
     ///
     /// # Errors
     ///
-    /// `Failed` where the writing failed, `NoMemory` where memory is refused. No byte is appended
-    /// then.
+    /// `Failed` where the writing failed, which counts one fault, and `NoMemory` where memory is
+    /// refused, which counts none. No byte is appended then.
     fn write(&mut self, piece: &[u8]) -> Result<usize, SinkFault>
-        ensures bytes { Appends (written self.old) (written self.new) piece.now result }
-        ensures stuck { result ≡ Ok 0 → piece.now ≢ [] → Rose (faults self.old) (faults self.new) }
-        ensures cause { HasCause SinkFault.Failed (faults self.old) (faults self.new) result };
+        ensures bytes { Appends (seen self.old).written (seen self.new).written piece.now result }
+        ensures counts { Counts (IsStuck SinkFault.Failed piece.now result) (seen self.old).faults (seen self.new).faults };
 
     /// The count of faults stays within its type.
-    ghost bounded: { (sink : Self) → faults sink < 2 ^ 64 };
+    ghost bounded: { (sink : Self) → (seen sink).faults < 2 ^ 64 };
 }
 
 /// A place that a run passes.

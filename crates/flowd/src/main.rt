@@ -1,20 +1,23 @@
 //! Loads a folder of modules, and answers a script of edits, rechecks and questions.
 #![tactic(auto)]
 
-mod ending;
+mod answer;
+mod dir_fault;
 mod folder;
 mod listing;
 mod places;
 mod reading;
 mod streams;
 
-use flow_base::{NoMemory, Open};
-use flowd_top::{Status, flowd, root_word};
-use folder::DirFolder;
+ghost use Rattle.flowd.specs.Answer.{HasAnswered, EndsWith};
+
+use answer::answer_apart;
+use flow_base::NoMemory;
+use flowd_top::Status;
 use std::env;
 use std::io::ErrorKind;
 use std::process::ExitCode;
-use streams::{StdinSource, StdoutSink};
+use std::thread::Threads;
 
 // The words of the command line, without the program's own name. Where one is not UTF-8 there are
 // none, which are no command's words either.
@@ -32,26 +35,24 @@ fn words(rt: &HostRuntime) -> Result<Vec<String>, NoMemory> {
     Ok(words)
 }
 
-fn run(rt: &HostRuntime) -> Status {
-    let Ok(words) = words(rt) else {
-        return Status::NoMemory;
-    };
-    let root = root_word(&words)
-        .and_then(|place| words.get(place))
-        .map_or(".", |word| word.as_str());
-    let mut folder = DirFolder::new(rt, root);
-    let mut script = StdinSource::new(rt.reader());
-    let mut out = StdoutSink::new(rt);
-    flowd(
-        rt.alloc(),
-        &words,
-        &mut folder,
-        &mut script,
-        &mut out,
-        &Open,
-    )
+// The status of the run on the words of the command line.
+#[tactic(auto, using(crate::proofs::Answering::nothing_done))]
+fn run(threads: &impl Threads, rt: &HostRuntime) -> Status
+    ensures { HasAnswered result }
+{
+    match words(rt) {
+        Ok(words) => answer_apart(threads, rt, words),
+        Err(NoMemory) => Status::NoMemory,
+    }
+}
+
+// What the process ends with.
+fn exit_code(threads: &impl Threads, rt: &HostRuntime) -> ExitCode
+    ensures { EndsWith result }
+{
+    ExitCode::from(run(threads, rt).number())
 }
 
 fn main(rt: HostRuntime) -> ExitCode {
-    ExitCode::from(run(&rt).number())
+    exit_code(&rt, &rt)
 }

@@ -14,6 +14,7 @@ abbrev pub root_place : List Bytes → Option ℕ
 root_place (word ∷ []) = if is_root word then Some 0 else None
 root_place _ = None
 
+-- what is printed where the words are not of the command
 abbrev pub usage_line : Bytes
 usage_line = codes "usage: flowd ROOT | --gen N --seed X [--workers N] [--lanes R] [--modules M]" ++ 10 ∷ []
 

@@ -1,6 +1,6 @@
 use crate::{Status, flowd, root_word};
 use flow_base::{
-    FailFolder, FailSink, FailSource, List, MemFolder, MemSink, MemSource, Open, Path, Source, Text,
+    FailFolder, FailSink, FailSource, List, MemFolder, MemSink, MemSource, Open, Path, Text,
 };
 use std::alloc::Global;
 use std::test::Fail;
@@ -20,19 +20,6 @@ fn folder_of(alloc: Global, rows: &[(&str, &str)]) -> Result<MemFolder, Fail> {
     Ok(MemFolder::new(alloc, all).ok_or("rising")?)
 }
 
-// A folder of empty modules, one for each number from 1000 to below this one.
-fn folder_to(alloc: Global, end: u32) -> Result<MemFolder, Fail> {
-    let mut all = List::new(alloc);
-    for number in 1000..end {
-        let path = format!(in alloc; "m{number}.js")?;
-        all.push((
-            Path::read(alloc, path.as_bytes())?,
-            Text::from_bytes(alloc, b"")?,
-        ))?;
-    }
-    Ok(MemFolder::new(alloc, all).ok_or("rising")?)
-}
-
 fn words_of(alloc: Global, words: &[&str]) -> Result<Vec<String>, Fail> {
     let mut all = Vec::new(alloc);
     for word in words {
@@ -43,26 +30,6 @@ fn words_of(alloc: Global, words: &[&str]) -> Result<Vec<String>, Fail> {
 
 fn source_of(alloc: Global, script: &str) -> Result<MemSource, Fail> {
     Ok(MemSource::new(List::from_slice(alloc, script.as_bytes())?))
-}
-
-// A script of some lines, and then of one byte so many times.
-fn source_ending(alloc: Global, lines: &str, byte: u8, count: usize) -> Result<MemSource, Fail> {
-    let mut bytes = Vec::from_slice(alloc, lines.as_bytes())?;
-    let end = vec![in alloc; byte; count]?;
-    bytes.extend_from_slice(end.as_slice())?;
-    Ok(MemSource::new(List::from_vec(bytes)))
-}
-
-// The status of a run over a folder and a script, and what it printed.
-fn run_over<S: Source>(
-    alloc: Global,
-    folder: &mut MemFolder,
-    script: &mut S,
-) -> Result<(Status, List<u8>), Fail> {
-    let words = words_of(alloc, &["d"])?;
-    let mut out = MemSink::new(alloc);
-    let status = flowd(alloc, &words, folder, script, &mut out, &Open);
-    Ok((status, out.bytes))
 }
 
 // The status of a run over a folder and a script in memory, and what it printed.
@@ -181,59 +148,18 @@ fn each_fault_has_its_status(rt: HostRuntime) -> Result<(), Fail> {
 #[test]
 fn whole_lines_are_answered_before_the_script_fails(rt: HostRuntime) -> Result<(), Fail> {
     let alloc = rt.alloc();
-    let inner = source_ending(alloc, "{\"do\":\"recheck\"}\n", b' ', 70_000)?;
+    let words = words_of(alloc, &["d"])?;
+    let mut folder = folder_of(alloc, &[])?;
+    let mut bytes = Vec::from_slice(alloc, b"{\"do\":\"recheck\"}\n")?;
+    let blanks = vec![in alloc; b' '; 70_000]?;
+    bytes.extend_from_slice(blanks.as_slice())?;
+    let inner = MemSource::new(List::from_vec(bytes));
     let mut script = FailSource::new(inner, List::from_slice(alloc, &[2])?);
-    let (status, printed) = run_over(alloc, &mut folder_of(alloc, &[])?, &mut script)?;
+    let mut out = MemSink::new(alloc);
+    let status = flowd(alloc, &words, &mut folder, &mut script, &mut out, &Open);
     assert_eq!(rt; status.number(), 67);
     let lines =
         "recheck 1: 0 parsed, 0 checked, 0 errors\nrecheck 2: 0 parsed, 0 checked, 0 errors\n";
-    assert_eq!(rt; printed.as_slice(), lines.as_bytes());
-    Ok(())
-}
-
-#[test]
-fn a_folder_of_too_many_files_is_refused(rt: HostRuntime) -> Result<(), Fail> {
-    let alloc = rt.alloc();
-    let mut script = source_of(alloc, "")?;
-    let (status, printed) = run_over(alloc, &mut folder_to(alloc, 2025)?, &mut script)?;
-    assert_eq!(rt; status.number(), 69);
-    assert_eq!(rt; printed.as_slice(), b"limit files 1025\n".as_slice());
-    Ok(())
-}
-
-#[test]
-fn an_edit_past_the_most_modules_is_refused(rt: HostRuntime) -> Result<(), Fail> {
-    let alloc = rt.alloc();
-    let mut script = source_of(
-        alloc,
-        "{\"do\":\"edit\",\"path\":\"a.js\",\"text\":\"\"}\n{\"do\":\"recheck\"}\n",
-    )?;
-    let (status, printed) = run_over(alloc, &mut folder_to(alloc, 2024)?, &mut script)?;
-    assert_eq!(rt; status.number(), 0);
-    let lines =
-        "recheck 1: 1024 parsed, 1024 checked, 0 errors\ntoo many modules 1025\nrecheck 2: 1024 parsed, 1024 checked, 0 errors\n";
-    assert_eq!(rt; printed.as_slice(), lines.as_bytes());
-    Ok(())
-}
-
-#[test]
-fn a_line_that_is_too_long_ends_the_run(rt: HostRuntime) -> Result<(), Fail> {
-    let alloc = rt.alloc();
-    let mut script = source_ending(alloc, "\n", b' ', 4_194_305)?;
-    let (status, printed) = run_over(alloc, &mut folder_of(alloc, &[])?, &mut script)?;
-    assert_eq!(rt; status.number(), 69);
-    let lines = "recheck 1: 0 parsed, 0 checked, 0 errors\nlimit line 4194305\n";
-    assert_eq!(rt; printed.as_slice(), lines.as_bytes());
-    Ok(())
-}
-
-#[test]
-fn a_script_of_too_many_lines_ends_there(rt: HostRuntime) -> Result<(), Fail> {
-    let alloc = rt.alloc();
-    let mut script = source_ending(alloc, "", b'\n', 1_048_577)?;
-    let (status, printed) = run_over(alloc, &mut folder_of(alloc, &[])?, &mut script)?;
-    assert_eq!(rt; status.number(), 69);
-    let lines = "recheck 1: 0 parsed, 0 checked, 0 errors\nlimit lines 1048577\n";
-    assert_eq!(rt; printed.as_slice(), lines.as_bytes());
+    assert_eq!(rt; out.bytes.as_slice(), lines.as_bytes());
     Ok(())
 }

@@ -1,6 +1,7 @@
-ghost use Rattle.std.specs.Prelude.{◌≡◌, ◌≤◌, ◌<◌, ◌⊎◌, [], map, length, string_bytes, None, Err};
+ghost use Rattle.std.specs.Prelude.{◌≡◌, ◌≤◌, ◌<◌, ◌⊎◌, map, length, string_bytes, None, Err};
 ghost use Rattle.flow_base.specs.Program.{IsRising};
-ghost use Rattle.flow_base.specs.Causes.{Rose};
+ghost use Rattle.flow_base.specs.Causes.{raised, Counts};
+ghost use Rattle.flow_base.specs.Seen.{outside};
 ghost use Rattle.flow_base.specs.declared.outside.LastFault.TheVariants.{Listing};
 ghost use Rattle.script_print.specs.Printed.{files_line};
 ghost use Rattle.script_run.specs.Transcript.{MOST_MODULES};
@@ -11,7 +12,7 @@ use crate::words::usage;
 use crate::{Status, root_word};
 use flow_base::{Folder, FolderFault, List, Path, Sink, SinkFault, Source, Turnstile};
 use script_print::files_line;
-use script_run::{Ended, Ending, RunFault, run, write_all};
+use script_run::{Ended, RunFault, WalkEnd, run, write_all};
 use std::alloc::Global;
 
 const MOST_MODULES: usize = 1024;
@@ -22,7 +23,7 @@ const MOST_MODULES: usize = 1024;
 /// is taken.
 ///
 /// The status says how the run ended. Only want of memory may come without a cause.
-#[tactic(auto, using(crate::proofs::Endings::usage_leaves, crate::proofs::Endings::files_leave, crate::proofs::Endings::nothing_left))]
+#[tactic(auto, using(crate::proofs::Endings::nothing_left))]
 pub fn flowd<F: Folder, S: Source, K: Sink, T: Turnstile + Sync>(
     alloc: Global,
     words: &[String],
@@ -34,8 +35,8 @@ pub fn flowd<F: Folder, S: Source, K: Sink, T: Turnstile + Sync>(
     // What was printed is a whole transcript with this status; after a fault of the script all of one up to the last
     // whole line that the script gave, and after one of the sink, and at want of memory, a front of one. After a fault
     // of the folder nothing was printed.
-    ensures printed { Leaves result (map string_bytes words.now) (F.told folder.old) (S.left script.old) (S.left script.new)
-        (K.written out.old) (K.written out.new) (F.faults folder.old) (F.faults folder.new) }
+    ensures printed { Leaves result (map string_bytes words.now)
+        (outside (F.seen folder.old) (S.seen script.old) (K.seen out.old)) (outside (F.seen folder.new) (S.seen script.new) (K.seen out.new)) }
 
     // Where the words are not of the command, neither the folder nor the script is touched.
     ensures no_command { root_place (map string_bytes words.now) ≡ None →
@@ -43,17 +44,17 @@ pub fn flowd<F: Folder, S: Source, K: Sink, T: Turnstile + Sync>(
     ensures no_folder { root_place (map string_bytes words.now) ≡ None → folder.new ≡ folder.old }
     ensures no_script { root_place (map string_bytes words.now) ≡ None → script.new ≡ script.old }
 
-    // Each fault has its cause: its object counted one.
-    ensures folder_fault { result ≡ Status.FolderFault → Rose (F.faults folder.old) (F.faults folder.new) }
-    ensures listing { result ≡ Status.FolderFault → F.last_fault folder.new ≡ Listing }
-    ensures script_fault { result ≡ Status.ScriptFault → Rose (S.faults script.old) (S.faults script.new) }
-    ensures sink_fault { result ≡ Status.SinkFault → Rose (K.faults out.old) (K.faults out.new) }
+    // Each fault has its cause, and none is passed over: the script and the sink counted one where the status is theirs,
+    // and else none. The folder counted one, its listing, where the status is its own; `printed` says how many read faults
+    // it counted where a whole transcript was printed, and after a fault of the script.
+    ensures script_counts { Counts (result ≡ Status.ScriptFault) (S.seen script.old).faults (S.seen script.new).faults }
+    ensures sink_counts { Counts (result ≡ Status.SinkFault) (K.seen out.old).faults (K.seen out.new).faults }
+    ensures folder_fault { result ≡ Status.FolderFault → (F.seen folder.new).faults ≡ raised (F.seen folder.old).faults }
+    ensures listing { result ≡ Status.FolderFault → (F.seen folder.new).last_fault ≡ Listing }
 
-    // What the folder tells stays, and no count of faults falls.
-    ensures told { F.told folder.new ≡ F.told folder.old }
-    ensures folder_later { F.faults folder.old ≤ F.faults folder.new }
-    ensures script_later { S.faults script.old ≤ S.faults script.new }
-    ensures sink_later { K.faults out.old ≤ K.faults out.new }
+    // What the folder tells stays, and its count does not fall.
+    ensures told { (F.seen folder.new).told ≡ (F.seen folder.old).told }
+    ensures folder_later { (F.seen folder.old).faults ≤ (F.seen folder.new).faults }
 {
     if root_word(words).is_none() {
         return write_last(out, usage(), Status::Usage);
@@ -64,7 +65,7 @@ pub fn flowd<F: Folder, S: Source, K: Sink, T: Turnstile + Sync>(
         Err(FolderFault::NoMemory) => return Status::NoMemory,
     };
     if listed.len() > MOST_MODULES {
-        return refuse_files(alloc, listed.len() as u64, out);
+        return refuse_files(alloc, &listed, out);
     }
     run_over(alloc, listed, folder, script, out)
 }
@@ -79,14 +80,12 @@ fn run_over<F: Folder, S: Source, K: Sink>(
 ) -> Status
     requires rising { IsRising listed }
     requires few { length listed ≤ MOST_MODULES }
-    ensures leaves { RunLeaves listed (F.told folder.old) (S.left script.old) (S.left script.new) (K.written out.old) (K.written out.new) (F.faults folder.old) (F.faults folder.new) result }
+    ensures leaves { RunLeaves listed (outside (F.seen folder.old) (S.seen script.old) (K.seen out.old)) (outside (F.seen folder.new) (S.seen script.new) (K.seen out.new)) result }
     ensures no_folder_fault { result ≡ Status.FolderFault → ⊥ }
-    ensures script_fault { result ≡ Status.ScriptFault → Rose (S.faults script.old) (S.faults script.new) }
-    ensures sink_fault { result ≡ Status.SinkFault → Rose (K.faults out.old) (K.faults out.new) }
-    ensures told { F.told folder.new ≡ F.told folder.old }
-    ensures folder_later { F.faults folder.old ≤ F.faults folder.new }
-    ensures script_later { S.faults script.old ≤ S.faults script.new }
-    ensures sink_later { K.faults out.old ≤ K.faults out.new }
+    ensures script_counts { Counts (result ≡ Status.ScriptFault) (S.seen script.old).faults (S.seen script.new).faults }
+    ensures sink_counts { Counts (result ≡ Status.SinkFault) (K.seen out.old).faults (K.seen out.new).faults }
+    ensures told { (F.seen folder.new).told ≡ (F.seen folder.old).told }
+    ensures folder_later { (F.seen folder.old).faults ≤ (F.seen folder.new).faults }
 {
     match run(alloc, listed, folder, script, out) {
         Ok(ended) => status_of(ended),
@@ -101,26 +100,25 @@ fn status_of(ended: Ended) -> Status
     ensures { result ≡ status_after ended.ending ended.errors }
 {
     match ended.ending {
-        Ending::Finished => {
+        WalkEnd::Finished => {
             if ended.errors == 0 {
                 Status::Clean
             } else {
                 Status::Errors
             }
         }
-        Ending::BadLine => Status::BadLine,
-        Ending::LongLine => Status::Limit,
-        Ending::ManyLines => Status::Limit,
+        WalkEnd::BadLine => Status::BadLine,
+        WalkEnd::LongLine => Status::Limit,
+        WalkEnd::ManyLines => Status::Limit,
     }
 }
 
-// Refuses a folder of so many files.
-fn refuse_files<K: Sink>(alloc: Global, count: u64, out: &mut K) -> Status
-    ensures writes { WritesLast (K.written out.old) (K.written out.new) (files_line count) Status.Limit result }
-    ensures cause { result ≡ Status.SinkFault → Rose (K.faults out.old) (K.faults out.new) }
-    ensures later { K.faults out.old ≤ K.faults out.new }
+// Refuses a folder of these files, which are too many.
+fn refuse_files<K: Sink>(alloc: Global, listed: &List<Path>, out: &mut K) -> Status
+    ensures writes { WritesLast (K.seen out.old).written (K.seen out.new).written (files_line (length listed.now)) Status.Limit result }
+    ensures counts { Counts (result ≡ Status.SinkFault) (K.seen out.old).faults (K.seen out.new).faults }
 {
-    match files_line(alloc, count) {
+    match files_line(alloc, listed.len() as u64) {
         Ok(line) => write_last(out, line.as_bytes(), Status::Limit),
         Err(_) => Status::NoMemory,
     }
@@ -129,9 +127,8 @@ fn refuse_files<K: Sink>(alloc: Global, count: u64, out: &mut K) -> Status
 // Writes the last bytes of a run that ends with this status, where they can be written.
 fn write_last<K: Sink>(out: &mut K, bytes: &[u8], status: Status) -> Status
     requires { status ≡ Status.SinkFault → ⊥ }
-    ensures writes { WritesLast (K.written out.old) (K.written out.new) bytes.now status result }
-    ensures cause { result ≡ Status.SinkFault → Rose (K.faults out.old) (K.faults out.new) }
-    ensures later { K.faults out.old ≤ K.faults out.new }
+    ensures writes { WritesLast (K.seen out.old).written (K.seen out.new).written bytes.now status result }
+    ensures counts { Counts (result ≡ Status.SinkFault) (K.seen out.old).faults (K.seen out.new).faults }
 {
     match write_all(out, bytes) {
         Ok(()) => status,

@@ -8,6 +8,3 @@ pub mod transactions;
 
 pub use plain::{PlainHeap, PlainReader};
 pub use traits::{HeapReader, HeapWriter, Program};
-
-#[cfg(test)]
-mod tests;

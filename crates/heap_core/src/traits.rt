@@ -1,5 +1,5 @@
 //! What the writer and the readers of a heap promise.
-ghost use Rattle.std.specs.Prelude.{◌≡◌, ℕ, ◌+◌, ◌^◌, ◌<◌, Bool, true, false, List, length, Option, Some, None, IfOk, OnErr, slice_get, slice_index};
+ghost use Rattle.std.specs.Prelude.{◌≡◌, ℕ, ◌+◌, ◌^◌, ◌<◌, Bool, true, false, List, length, refl, Option, Some, None, IfOk, OnErr, slice_get, slice_index};
 ghost use Rattle.std.specs.Arc.{arc_value};
 ghost use Rattle.heap_core.specs.Meaning.{Meaning, AllFit, IsSound, Appends, opened, staging, after_commit, after_rollback};
 
@@ -14,6 +14,13 @@ pub trait Program: Drop {
 
     /// A payload fits in one way at most.
     ghost fits_once: { (entities : ℕ) (root : Self) (e : ℕ) (payload : Self) → IsProp (fits entities root e payload) };
+}
+
+/// A payload that says nothing fits everywhere.
+impl Program for () {
+    ghost fits = { λ _ _ _ _. Unit {0} };
+
+    ghost fits_once = { λ _ _ _ _. λ _ _. refl };
 }
 
 /// The one writer of a heap. It commits whole transactions: what it stages is seen by itself alone until `commit`.

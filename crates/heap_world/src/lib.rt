@@ -6,6 +6,3 @@ pub mod laws;
 mod world;
 
 pub use world::{Event, World};
-
-#[cfg(test)]
-mod tests;

@@ -1,12 +1,16 @@
 -- One more piece in front of a cut.
-use Rattle.std.proofs.Common.{◌≡◌, ◌≢◌, ℕ, ◌+◌, ◌<◌, ◌≤◌, List, [], ◌∷◌, ◌++◌, Option, length, get_or, take, drop, refl, sym, ap, ◌∙◌, subst, append_assoc, length-append, arith}
-use Rattle.std.specs.Str.{encode_utf8_all}
+use Rattle.std.proofs.Common.{◌≡◌, ◌≢◌, ℕ, ◌+◌, ◌^◌, ◌<◌, ◌≤◌, List, [], ◌∷◌, ◌++◌, Option, length, get_or, take, drop, refl, sym, ap, ◌∙◌, subst, append_assoc, length-append, length-drop, arith}
+use Rattle.std.specs.Prelude.{Ok}
+use Rattle.std.specs.Str.{encode_utf8_all, chars, IsUtf8}
 use Rattle.std.specs.Char.{encode_utf8, len_utf8}
-use Rattle.std.proofs.lemmas.Str.{encodes-append, length-encode}
-use Rattle.std.proofs.lemmas.List.{append-nil, take-append-drop, drop-drop, drop_all, take_more}
+use Rattle.std.proofs.lemmas.Str.{encodes-append, length-encode, length-le-encodes, encodes-chars}
+use Rattle.std.proofs.lemmas.List.{append-nil, take-append-drop, drop-drop, drop_all, drop_at, take_more}
 use Rattle.js_token.specs.declared.token.TokenKind.{TokenKind}
 use Rattle.js_token.specs.declared.token.Token.{Token}
+use Rattle.lex_pieces.specs.declared.piece.Piece.{Piece}
+use Rattle.lex_pieces.specs.Bytes.{Tells}
 use Rattle.lex_pieces.specs.Pieces.{IsLongest, BeginsNoPiece}
+use Rattle.js_lexer.specs.Step.{StepAnswers, IsPut}
 use Rattle.js_lexer.specs.Cut.{Cut, text_of, byte_len, token_of, HasTokens, IsStuck}
 
 pub byte_len-append : (xs ys : List ℕ) → byte_len (xs ++ ys) ≡ byte_len xs + byte_len ys
@@ -95,3 +99,50 @@ end_tokens text from at tokens over before =
     (before [] (subst (λ l. HasTokens at l []) (sym (drop_all from text over)) (tokens_none at)))
 
 pub ruleset lengths = (byte_len_more, byte_len_take)
+
+-- BYTES AND CHARACTERS
+-- behind a piece, too, the bytes are those of the characters
+pub place_more : (text cs : List ℕ) (from at len bytes : ℕ) → encode_utf8_all (drop from cs) ≡ drop at text → bytes ≡ byte_len (take len (drop from cs)) →
+    encode_utf8_all (drop (from + len) cs) ≡ drop (at + bytes) text
+place_more text cs from at len bytes place size =
+    let rest : List ℕ = drop from cs in
+    let split : encode_utf8_all (take len rest) ++ encode_utf8_all (drop len rest) ≡ drop at text =
+    sym (encodes-append (take len rest) (drop len rest)) ∙ (ap encode_utf8_all (take-append-drop len rest) ∙ place) in
+    ap encode_utf8_all (sym (drop-drop len from cs))
+    ∙ (sym (drop_at (encode_utf8_all (take len rest)) (encode_utf8_all (drop len rest)) bytes (sym size)) ∙ (ap (drop bytes) split ∙ drop-drop bytes at text))
+
+-- characters are left where bytes are
+pub some_left : (text cs : List ℕ) (from at : ℕ) → encode_utf8_all (drop from cs) ≡ drop at text → at < length text → from < length cs
+some_left text cs from at place more = left (drop from cs) refl
+  where
+    left : (l : List ℕ) → drop from cs ≡ l → from < length cs
+    left [] e = absurd (omega (arith, length-drop at text, ap length (sym place ∙ ap encode_utf8_all e)))
+    left (c ∷ l) e = omega (arith, length-drop from cs, ap length e)
+
+-- and none where no byte is
+pub none_left : (text cs : List ℕ) (from at : ℕ) → encode_utf8_all (drop from cs) ≡ drop at text → length text ≤ at → length cs ≤ from
+none_left text cs from at place past =
+    omega (arith, length-drop from cs, length-drop at text, length-le-encodes (drop from cs), ap length place)
+
+pub few_chars : (text : List ℕ) → IsUtf8 text → length (chars text) ≤ length text
+few_chars text is = omega (arith, length-le-encodes (chars text), ap length (encodes-chars text is))
+
+pub chars_size : (text : List ℕ) → IsUtf8 text → byte_len (chars text) ≡ length text
+chars_size text is = ap length (encodes-chars text is)
+
+-- a piece that the bytes tell is a step
+pub told_step : (rest bytes : List ℕ) (at : ℕ) (piece : Piece) (before after : List Token) (step : ℕ × ℕ) → Tells bytes piece → encode_utf8_all rest ≡ bytes →
+    IsPut piece at before after step → StepAnswers rest at before after (Ok step)
+told_step rest bytes at piece before after step tells e put =
+    let read = tells.reads rest e in let is = tells.size rest e in (
+      piece.kind,
+      omega (arith, put.0, read.0),
+      omega (arith, put.0, read.1),
+      subst (λ (k : ℕ). IsLongest piece.kind (take k rest) (drop k rest)) (sym put.0) read.2,
+      put.1 ∙ (sym is ∙ ap (λ (k : ℕ). byte_len (take k rest)) (sym put.0)),
+      put.2 ∙ ap (λ (k : ℕ). before ++ token_of at (at + k) piece.kind) (sym put.1),
+    )
+
+-- and its bytes are among those that are left
+pub told_fits : (rest bytes : List ℕ) (at : ℕ) (piece : Piece) → Tells bytes piece → encode_utf8_all rest ≡ bytes → at + byte_len rest < 2 ^ 32 → at + piece.len < 2 ^ 32
+told_fits rest bytes at piece tells e fits = omega (arith, byte_len_take rest piece.len, tells.size rest e, fits)

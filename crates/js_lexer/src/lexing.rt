@@ -1,13 +1,13 @@
-ghost use Rattle.std.specs.Prelude.{◌≡◌, ◌≤◌, ◌<◌, ◌+◌, ◌^◌, ◌++◌, length, drop, OnOk};
-ghost use Rattle.std.specs.Str.{chars};
+ghost use Rattle.std.specs.Prelude.{◌≡◌, ◌≤◌, ◌<◌, ◌+◌, ◌^◌, ◌++◌, length, drop, IfOk, OnOk};
+ghost use Rattle.std.specs.Str.{chars, encode_utf8_all};
 ghost use Rattle.js_lexer.specs.Cut.{byte_len, token_of};
 ghost use Rattle.js_lexer.specs.Answers.{Answers, TextAnswers};
-ghost use Rattle.js_lexer.specs.Step.{StepAnswers};
+ghost use Rattle.js_lexer.specs.Step.{StepAnswers, IsPut, IsDecoded};
 
 use crate::{LexFault, SOURCE_LIMIT};
 use flow_values::{List, NoMemory, Span};
 use js_token::{Token, TokenKind};
-use lex_pieces::{Piece, read_piece};
+use lex_pieces::{Piece, Texts, read_bytes, read_piece};
 use std::alloc::Global;
 
 /// The tokens of a source with the bytes where they stand, in order.
@@ -30,23 +30,19 @@ pub fn lex(alloc: Global, source: &[u8]) -> Result<List<Token>, LexFault>
     }
 }
 
+// The text is read by its bytes. Its characters are decoded where a piece first needs them.
+#[tactic(auto, using(crate::proofs::Steps::some_left))]
 fn lex_text(alloc: Global, text: &str) -> Result<List<Token>, LexFault>
     requires { length text.now < 2 ^ 32 }
     ensures { TextAnswers (chars text.now) result }
 {
-    let chars = text.chars().collect::<Vec<char>>(alloc)?;
-    lex_chars(alloc, &chars)
-}
-
-fn lex_chars(alloc: Global, text: &[char]) -> Result<List<Token>, LexFault>
-    requires { byte_len text.now < 2 ^ 32 }
-    ensures { TextAnswers text.now result }
-{
+    let mut texts = Texts::new(alloc)?;
+    let mut decoded = Vec::new(alloc);
     let mut tokens = List::new(alloc);
     let mut from = 0;
     let mut at = 0;
-    while from < text.len() {
-        let (len, bytes) = lex_piece(alloc, text, from, at, &mut tokens)?;
+    while (at as usize) < text.len() {
+        let (len, bytes) = lex_piece(alloc, text, from, at, &mut texts, &mut decoded, &mut tokens)?;
         from += len;
         at += bytes;
     }
@@ -54,8 +50,63 @@ fn lex_chars(alloc: Global, text: &[char]) -> Result<List<Token>, LexFault>
 }
 
 // Reads the piece at a place of a text, whose first byte is `at`, and puts its token behind the
-// others: how many characters and bytes it has.
+// others: how many characters and bytes it has. `decoded` holds the text's characters, or nothing.
 fn lex_piece(
+    alloc: Global,
+    text: &str,
+    from: usize,
+    at: u32,
+    texts: &mut Texts,
+    decoded: &mut Vec<char>,
+    tokens: &mut List<Token>,
+) -> Result<(usize, u32), LexFault>
+    requires known { IsDecoded text.now decoded.old.items }
+    requires within { from < length (chars text.now) }
+    requires before { at < length text.now }
+    requires place { encode_utf8_all (drop from (chars text.now)) ≡ drop at text.now }
+    requires fits { at + byte_len (drop from (chars text.now)) < 2 ^ 32 }
+    ensures step { StepAnswers (drop from (chars text.now)) at tokens.old tokens.new result }
+    ensures known { OnOk result (IsDecoded text.now decoded.new.items) }
+{
+    let told = read_bytes(texts, &text.as_bytes()[at as usize..])?;
+    match told {
+        Some(piece) => Ok(put_told(piece, at, tokens)?),
+        None => {
+            decode(alloc, text, decoded)?;
+            lex_decoded(alloc, decoded, from, at, tokens)
+        }
+    }
+}
+
+// Puts the token of a piece whose characters are one byte each behind the others: how many
+// characters and bytes it has.
+fn put_told(piece: Piece, at: u32, tokens: &mut List<Token>) -> Result<(usize, u32), NoMemory>
+    requires { at + piece.len < 2 ^ 32 }
+    ensures { IfOk result (IsPut piece at tokens.old tokens.new) }
+{
+    let Piece { kind, len } = piece;
+    let bytes = len as u32;
+    let span = Span {
+        start: at,
+        end: at + bytes,
+    };
+    push_token(tokens, kind, span)?;
+    Ok((len, bytes))
+}
+
+// Decodes a text, unless that was done.
+fn decode(alloc: Global, text: &str, decoded: &mut Vec<char>) -> Result<(), NoMemory>
+    requires { IsDecoded text.now decoded.old.items }
+    ensures { OnOk result (decoded.new.items ≡ chars text.now) }
+{
+    if decoded.is_empty() {
+        *decoded = text.chars().collect::<Vec<char>>(alloc)?;
+    }
+    Ok(())
+}
+
+// The same, over the characters of the text.
+fn lex_decoded(
     alloc: Global,
     text: &[char],
     from: usize,

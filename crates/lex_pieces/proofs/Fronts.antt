@@ -20,7 +20,7 @@ use Rattle.lex_pieces.specs.Characters.{is_blank_char, is_quote, goes_on}
 use Rattle.source_characters.specs.Words.{starts_word, continues_word}
 use Rattle.lex_pieces.specs.Starts.{start_of, Starts}
 use Rattle.lex_pieces.specs.Pieces.{IsPiece, IsBlank, BeginsNoPiece}
-use Rattle.lex_pieces.specs.Strings.{IsStringRead}
+use Rattle.lex_pieces.specs.Strings.{IsStringRead, starts_with_digit}
 use Rattle.lex_pieces.specs.Marks.{mark_at}
 use Rattle.lex_pieces.specs.Comments.{comment_len}
 use Rattle.lex_pieces.specs.Escapes.{begins_with}
@@ -65,6 +65,15 @@ quote_in false false false false true s h = absurd (cc)
 quote_in false false false false false true h = absurd (cc)
 quote_in false false false false false false h = absurd (cc)
 
+dot_in : (a b d q o s : Bool) → chain a b d q o s ≡ Dot → o ≡ true
+dot_in true b d q o s h = absurd (cc)
+dot_in false true d q o s h = absurd (cc)
+dot_in false false true q o s h = absurd (cc)
+dot_in false false false true o s h = absurd (cc)
+dot_in false false false false true s h = refl
+dot_in false false false false false true h = absurd (cc)
+dot_in false false false false false false h = absurd (cc)
+
 slash_in : (a b d q o s : Bool) → chain a b d q o s ≡ Slash → s ≡ true
 slash_in true b d q o s h = absurd (cc)
 slash_in false true d q o s h = absurd (cc)
@@ -86,9 +95,13 @@ pub quote_char : (c : ℕ) → start_of c ≡ Quote → is_quote c ≡ true
 unfolding start_of
 quote_char c h = quote_in _ _ _ _ _ _ h
 
-slash_char : (c : ℕ) → start_of c ≡ Slash → c ≡ 47
+pub slash_char : (c : ℕ) → start_of c ≡ Slash → c ≡ 47
 unfolding start_of
 slash_char c h = eqb-true c 47 (slash_in _ _ _ _ _ _ h)
+
+pub dot_char : (c : ℕ) → start_of c ≡ Dot → c ≡ 46
+unfolding start_of
+dot_char c h = eqb-true c 46 (dot_in _ _ _ _ _ _ h)
 
 -- THE LONGEST PIECE
 longest_from : (text : List ℕ) (piece : Piece) → 0 < piece.len → piece.len ≤ length text →
@@ -246,6 +259,20 @@ two_dots r =
     elim (cases_Bool (goes_on (46 ∷ 46 ∷ r))) [
       | inl e ↦ rw e refl
       | inr e ↦ rw e refl
+    ]
+
+-- nor does a dot before what is no digit
+pub dot_alone : (more : List ℕ) → starts_with_digit more ≡ false → number_len (46 ∷ more) ≡ 0
+unfolding number_len based_len plain_len decimal_len mantissa_len whole_len digits_len
+dot_alone [] h =
+    elim (cases_Bool (goes_on (46 ∷ []))) [
+      | inl e ↦ rw e refl
+      | inr e ↦ rw e refl
+    ]
+dot_alone (c ∷ more) h =
+    elim (cases_Bool (goes_on (46 ∷ c ∷ more))) [
+      | inl e ↦ rw h (rw e refl)
+      | inr e ↦ rw h (rw e refl)
     ]
 
 dot_marks : (mark : MarkType) (r : List ℕ) → Dot ≡ mark_start mark → (number_len (spelling mark ++ r) ≡ 0 → ⊥) → length (spelling mark) ≤ 1

@@ -10,3 +10,4 @@ pub mod Fronts
 pub mod Runs
 pub mod Starting
 pub mod StringReads
+pub mod ByteLemmas

@@ -326,6 +326,13 @@ tail_exact m e rest mantissa some based which stops =
     let exact = decimal_bound m e rest mantissa some which stops in
     omega (arith, plain, exact)
 
+-- a whole number, behind which neither a dot nor what goes on stands, is read whole
+pub whole_number : (w rest : List ℕ) → is_whole w ≡ true → goes_on rest ≡ false → begins_with 46 rest ≡ false → number_len (w ++ rest) ≡ length w
+whole_number w rest whole stops dot =
+    number_plain (w ++ rest) (whole_free w rest whole (free_behind [] rest (inl refl) stops))
+    ∙ (ap (λ (l : List ℕ). plain_len (l ++ rest)) (sym (append-nil w))
+    ∙ (decimal_bound w [] rest (bare_exact w rest whole (stops_digits rest stops) dot) (whole_some w whole) (inl refl) stops ∙ ap length (append-nil w)))
+
 tail_bare : (w e rest : List ℕ) → is_whole w ≡ true → (e ≡ []) ⊎ IsExponent e → goes_on rest ≡ false → length (w ++ e) ≤ number_len ((w ++ e) ++ rest)
 tail_bare w e rest whole which stops =
     elim which [

@@ -9,33 +9,46 @@ pub fn mark_at(text: &[char]) -> Option<(Punct, usize)>
 {
     match text {
         [] => None,
-        [a] => with_len(1, mark_of_one(*a)),
+        [a] => mark_of(*a),
         [a, b] => longest_of_two(*a, *b),
         [a, b, c, ..] => longest_of_three(*a, *b, *c),
     }
 }
 
+/// The mark that is this one character.
+pub fn mark_of(a: char) -> Option<(Punct, usize)>
+    ensures { result ≡ with_len 1 (mark_of_one a) }
+{
+    with_len(1, mark_of_one(a))
+}
+
+/// The longest mark that begins with these characters.
+#[inline]
 #[tactic(auto, unfolding(crate::specs::Marks::longest_of_three))]
-fn longest_of_three(a: char, b: char, c: char) -> Option<(Punct, usize)>
+pub fn longest_of_three(a: char, b: char, c: char) -> Option<(Punct, usize)>
     ensures { result ≡ longest_of_three a b c }
 {
     with_len(3, mark_of_three(a, b, c)).or(longest_of_two(a, b))
 }
 
+/// The longest mark of one or two characters that begins with these.
+#[inline]
 #[tactic(auto, unfolding(crate::specs::Marks::longest_of_two))]
-fn longest_of_two(a: char, b: char) -> Option<(Punct, usize)>
+pub fn longest_of_two(a: char, b: char) -> Option<(Punct, usize)>
     ensures { result ≡ longest_of_two a b }
 {
     with_len(2, mark_of_two(a, b)).or(with_len(1, mark_of_one(a)))
 }
 
 // A mark with its length.
+#[inline]
 fn with_len(len: usize, mark: Option<Punct>) -> Option<(Punct, usize)>
     ensures { result ≡ with_len len mark }
 {
     Some((mark?, len))
 }
 
+#[inline]
 fn mark_of_one(a: char) -> Option<Punct>
     ensures { result ≡ mark_of_one a }
 {
@@ -65,6 +78,7 @@ fn mark_of_one(a: char) -> Option<Punct>
     }
 }
 
+#[inline]
 fn mark_of_two(a: char, b: char) -> Option<Punct>
     ensures { result ≡ mark_of_two a b }
 {
@@ -83,6 +97,7 @@ fn mark_of_two(a: char, b: char) -> Option<Punct>
     }
 }
 
+#[inline]
 fn mark_of_three(a: char, b: char, c: char) -> Option<Punct>
     ensures { result ≡ mark_of_three a b c }
 {

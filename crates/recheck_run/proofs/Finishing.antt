@@ -10,7 +10,7 @@ use Rattle.flow_state.specs.declared.payload.Payload.TheVariants as payload
 use Rattle.recheck_run.specs.Wanted.{Rows, paths}
 use Rattle.recheck_run.specs.Taking.{IsTaken}
 use Rattle.recheck_run.specs.Commit.{IsCommitted}
-use Rattle.recheck_run.specs.Recheck.{IsDone, HasRoom, IsEmptyHeap}
+use Rattle.recheck_run.specs.Recheck.{RecheckState, IsDone, HasRoom, IsEmptyHeap}
 use Rattle.recheck_run.specs.Staged.{root_of, state_of, IsPlanOf}
 use Rattle.recheck_run.specs.declared.plan.Plan.{Plan}
 use Rattle.recheck_run.proofs.Editing.{paths_unedited}
@@ -30,25 +30,26 @@ module _ (told : Option Program) (rows : Rows) (program : Program) (capacity : �
   pub rising : IsRising (paths plan.rows.items)
   rising = subst IsRising (sym (ap paths is_plan.rows ∙ paths_unedited program)) taken.rising
 
-  pub done : (rows' : Rows) (m m' : Meaning Payload) (version : ℕ) → rows' ≡ plan.rows.items → length m.committed ≡ 4 * capacity + 1 → IsCommitted (map arc_value plan.state.items) m m' version
-      → IsDone told rows rows' m m' version plan.modules plan.errors
-  done rows' m m' version is size committed =
-      let state : m'.committed ≡ state_of capacity program = committed.committed ∙ is_plan.state in
-      record {
-        program = program;
-        edited = taken.becomes;
-        commits = (root_of program, ap (λ (l : List Payload). slice_get l 0) state, names_program program);
-        next = committed.next;
-        answers = committed.answers;
-        counts = (is_plan.modules, is_plan.errors);
-        rest = is ∙ is_plan.rows;
-        closed = committed.closed;
-        size = ap length state ∙ length-state_of capacity program room ∙ sym size;
-      }
+-- the state of the plan was committed, and its rows settled
+pub done : (before now : RecheckState) (program : Program) (capacity : ℕ) (plan : Plan) → IsTaken before.folder.told before.edits.rows program → IsPlanOf program capacity plan → length before.edits.rows ≤ capacity → (version : ℕ)
+    → now.edits.rows ≡ plan.rows.items → length before.heap.committed ≡ 4 * capacity + 1 → IsCommitted (map arc_value plan.state.items) before.heap now.heap version → IsDone before now version plan.modules plan.errors
+done before now program capacity plan taken is_plan few version is size committed =
+    let state : now.heap.committed ≡ state_of capacity program = committed.committed ∙ is_plan.state in
+    record {
+      program = program;
+      edited = taken.becomes;
+      commits = (root_of program, ap (λ (l : List Payload). slice_get l 0) state, names_program program);
+      next = committed.next;
+      answers = committed.answers;
+      counts = (is_plan.modules, is_plan.errors);
+      rest = is ∙ is_plan.rows;
+      closed = committed.closed;
+      size = ap length state ∙ length-state_of capacity program (room before.folder.told before.edits.rows program capacity plan taken is_plan few) ∙ sym size;
+    }
 
 -- a recheck that is done leaves the heap its room
-pub room_done : (told : Option Program) (rows rows' : Rows) (m m' : Meaning Payload) (version modules errors capacity capacity' : ℕ) → IsDone told rows rows' m m' version modules errors → HasRoom m capacity → capacity' ≡ capacity → HasRoom m' capacity'
-room_done told rows rows' m m' version modules errors capacity capacity' done has same = record { entities = (let size = done.size in omega (arith, has.entities)); numbered = omega (arith, has.numbered) }
+pub room_done : (before now : RecheckState) (version modules errors capacity capacity' : ℕ) → IsDone before now version modules errors → HasRoom before.heap capacity → capacity' ≡ capacity → HasRoom now.heap capacity'
+room_done before now version modules errors capacity capacity' done has same = record { entities = (let size = done.size in omega (arith, has.entities)); numbered = omega (arith, has.numbered) }
 
 -- a heap that was just opened
 pub empty_heap_is : (m : Meaning Payload) (modules : ℕ) (root absent : Payload) → m ≡ opening (root ∷ replicate (4 * modules + 1 - 1) absent) → root ≡ payload.Root (root_of []) → 4 * modules + 1 < 2 ^ 32 → IsEmptyHeap m modules

@@ -9,7 +9,8 @@ use Rattle.std.proofs.lemmas.List.{append-nil, take_more, map-append}
 use Rattle.flow_base.specs.Program.{Bytes, Program, paths_of, IsRising, text_at, row_at}
 use Rattle.flow_base.specs.Outside.{WhereTold}
 use Rattle.flow_base.proofs.Rising.{IsBelowAll, below_all, rising_rest, found_itself, found_behind, not_below_itself}
-use Rattle.flow_base.specs.declared.outside.LastFault.{LastFault}
+use Rattle.flow_base.specs.Causes.{raised}
+use Rattle.flow_base.specs.Seen.{FolderSeen}
 use Rattle.recheck_run.specs.declared.edits.Wanted.{Wanted}
 use Rattle.recheck_run.specs.declared.edits.Wanted.TheVariants as kind
 use Rattle.recheck_run.specs.declared.reading.Unread.{Unread}
@@ -170,7 +171,7 @@ touched_among (x ∷ rows) zero row path within is touched = elim touched [
 ]
 touched_among (x ∷ rows) (suc i) row path within is touched = inr (touched_among rows i row path (omega arith) is touched)
 
-pub unread_among : (rows : Rows) (i : ℕ) (row : Bytes × Wanted) (before between now : ℕ) (last : LastFault) (fault : Unread) → i < length rows → row ≡ get_or rows i row → before ≤ between
-    → IsUnread (row ∷ []) between now last fault → IsUnread rows before now last fault
-unread_among rows i row before between now last (At path) within is later unread = (touched_among rows i row path within is unread.0, omega (arith, unread.1), unread.2)
-unread_among rows i row before between now last NoMemory within is later unread = tt
+pub unread_among : (rows : Rows) (i : ℕ) (row : Bytes × Wanted) (before between now : FolderSeen) (fault : Unread) → i < length rows → row ≡ get_or rows i row → between.faults ≡ before.faults
+    → IsUnread (row ∷ []) between now fault → IsUnread rows before now fault
+unread_among rows i row before between now (At path) within is same unread = (touched_among rows i row path within is unread.0, unread.1 ∙ ap raised same, unread.2)
+unread_among rows i row before between now NoMemory within is same unread = tt

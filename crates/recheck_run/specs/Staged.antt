@@ -16,6 +16,7 @@ abbrev pub modules_from : ℕ → Program → List RootRow
 modules_from row [] = []
 modules_from row (m ∷ program) = record { path = m.0; row = row; text = m.1 } ∷ modules_from (suc row) program
 
+-- the root of a program, whose modules have the rows of their places
 abbrev pub root_of : Program → Root
 root_of program = record { modules = modules_from 0 program }
 
@@ -23,6 +24,7 @@ root_of program = record { modules = modules_from 0 program }
 abbrev pub results_of : Bytes → List Payload
 results_of text = payload.Absent ∷ payload.Absent ∷ payload.Absent ∷ payload.Errs (record { faults = errors1 text }) ∷ []
 
+-- what stands behind the root: the payloads of each module
 abbrev pub all_results : Program → List Payload
 all_results [] = []
 all_results (m ∷ program) = results_of m.1 ++ all_results program

@@ -1,9 +1,9 @@
 -- The rows of the edited program are taken one by one, in order: each gives a text, or none.
-use Rattle.std.specs.Prelude.{◌≡◌, ℕ, ◌≤◌, ◌++◌, length, Option, Some}
+use Rattle.std.specs.Prelude.{◌≡◌, ◌≤◌, ◌++◌, length, Option, Some}
 use Rattle.flow_base.specs.Program.{Bytes, Program, paths_of, text_at, IsRising, row_at}
 use Rattle.flow_base.specs.Outside.{WhereTold}
-use Rattle.flow_base.specs.Causes.{Rose}
-use Rattle.flow_base.specs.declared.outside.LastFault.{LastFault}
+use Rattle.flow_base.specs.Causes.{raised}
+use Rattle.flow_base.specs.Seen.{FolderSeen}
 use Rattle.flow_base.specs.declared.outside.LastFault.TheVariants.{Reading}
 use Rattle.recheck_run.specs.declared.edits.Wanted.{Wanted}
 use Rattle.recheck_run.specs.declared.edits.Wanted.TheVariants as take
@@ -28,7 +28,7 @@ pub record IsTaken (told : Option Program) (rows : Rows) (program : Program) : T
   pub rising : IsRising (paths_of program)
   pub few : length program ≤ length rows
 
--- the folder failed at a touched path
-abbrev pub IsUnread : Rows → ℕ → ℕ → LastFault → Unread → Type 0
-IsUnread rows before now last (At path) = IsTouched rows path × Rose before now × (last ≡ Reading path)
-IsUnread rows before now last NoMemory = Unit {0}
+-- the folder failed at a touched path, and counted one fault, or memory was refused
+abbrev pub IsUnread : Rows → FolderSeen → FolderSeen → Unread → Type 0
+IsUnread rows before now (At path) = IsTouched rows path × (now.faults ≡ raised before.faults) × (now.last_fault ≡ Reading path)
+IsUnread rows before now NoMemory = Unit {0}

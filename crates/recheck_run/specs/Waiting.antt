@@ -4,6 +4,7 @@ use Rattle.recheck_run.specs.declared.edits.EditFault.{EditFault}
 use Rattle.recheck_run.specs.declared.edits.EditFault.TheVariants.{TooManyModules, NoMemory}
 use Rattle.recheck_run.specs.Wanted.{Rows}
 
+-- the rows of the edited program so far, and the most that there may be
 pub record Waiting : Type 0 where
   pub rows : Rows
   pub capacity : ℕ

@@ -28,10 +28,11 @@ impl From<NoMemory> for Unread {
 
 // The text that a row gives, or `None` where it is read and the folder lacks it.
 fn text_of<F: Folder>(folder: &mut F, row: &(Path, Wanted)) -> Result<Option<Text>, Unread>
-    ensures text { IfOk result (Gives (F.told folder.old) row.now) }
-    ensures told { F.told folder.new ≡ F.told folder.old }
-    ensures later { F.faults folder.old ≤ F.faults folder.new }
-    ensures fault { IfErr result (IsUnread (row.now ∷ []) (F.faults folder.old) (F.faults folder.new) (F.last_fault folder.new)) }
+    ensures text { IfOk result (Gives (F.seen folder.old).told row.now) }
+    ensures told { (F.seen folder.new).told ≡ (F.seen folder.old).told }
+    ensures later { (F.seen folder.old).faults ≤ (F.seen folder.new).faults }
+    ensures quiet { OnOk result ((F.seen folder.new).faults ≡ (F.seen folder.old).faults) }
+    ensures fault { IfErr result (IsUnread (row.now ∷ []) (F.seen folder.old) (F.seen folder.new)) }
 {
     match &row.1 {
         Wanted::Text(text) => Ok(Some(text.share()?)),
@@ -49,10 +50,11 @@ fn take_row<F: Folder>(
     program: &mut List<(Path, Text)>,
     row: &(Path, Wanted),
 ) -> Result<(), Unread>
-    ensures added { OnOk result (Adds (F.told folder.old) row.now program.old program.new) }
-    ensures told { F.told folder.new ≡ F.told folder.old }
-    ensures later { F.faults folder.old ≤ F.faults folder.new }
-    ensures fault { IfErr result (IsUnread (row.now ∷ []) (F.faults folder.old) (F.faults folder.new) (F.last_fault folder.new)) }
+    ensures added { OnOk result (Adds (F.seen folder.old).told row.now program.old program.new) }
+    ensures told { (F.seen folder.new).told ≡ (F.seen folder.old).told }
+    ensures later { (F.seen folder.old).faults ≤ (F.seen folder.new).faults }
+    ensures quiet { OnOk result ((F.seen folder.new).faults ≡ (F.seen folder.old).faults) }
+    ensures fault { IfErr result (IsUnread (row.now ∷ []) (F.seen folder.old) (F.seen folder.new)) }
 {
     if let Some(text) = text_of(folder, row)? {
         program.push((row.0.share()?, text))?;
@@ -72,10 +74,11 @@ pub(crate) fn read_program<F: Folder>(
     rows: &[(Path, Wanted)],
 ) -> Result<List<(Path, Text)>, Unread>
     requires { IsRising (paths rows.now) }
-    ensures program { IfOk result (IsTaken (F.told folder.old) rows.now) }
-    ensures told { F.told folder.new ≡ F.told folder.old }
-    ensures later { F.faults folder.old ≤ F.faults folder.new }
-    ensures fault { IfErr result (IsUnread rows.now (F.faults folder.old) (F.faults folder.new) (F.last_fault folder.new)) }
+    ensures program { IfOk result (IsTaken (F.seen folder.old).told rows.now) }
+    ensures told { (F.seen folder.new).told ≡ (F.seen folder.old).told }
+    ensures later { (F.seen folder.old).faults ≤ (F.seen folder.new).faults }
+    ensures quiet { OnOk result ((F.seen folder.new).faults ≡ (F.seen folder.old).faults) }
+    ensures fault { IfErr result (IsUnread rows.now (F.seen folder.old) (F.seen folder.new)) }
 {
     let mut program = List::new(alloc);
     for row in rows {

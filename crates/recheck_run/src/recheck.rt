@@ -1,5 +1,5 @@
 ghost use Rattle.std.specs.Prelude.{◌≡◌, ◌+◌, ◌^◌, ◌<◌, ◌≤◌, false};
-ghost use Rattle.recheck_run.specs.Recheck.{HasRoom, Rechecked, HasReadCause, Tells};
+ghost use Rattle.recheck_run.specs.Recheck.{HasRoom, Rechecked, CountsReads, Tells};
 
 use crate::Edits;
 use crate::commit::commit_state;
@@ -36,7 +36,8 @@ pub enum Outcome {
 /// heap has four entities for each of the modules that there may be, and one. The edits are then the
 /// committed program, with no path to be read.
 ///
-/// Where the folder failed or memory was refused, the heap and the edits are as before.
+/// Where the folder failed or memory was refused, the heap and the edits are as before. No fault of the
+/// folder is passed over: where the recheck is done it counted none.
 pub fn recheck_all<W: HeapWriter<Payload>, F: Folder>(
     alloc: Global,
     writer: &mut W,
@@ -46,13 +47,14 @@ pub fn recheck_all<W: HeapWriter<Payload>, F: Folder>(
     requires closed { (W.meaning writer.old).is_open ≡ false }
     requires version { (W.meaning writer.old).version + 1 < 2 ^ 31 }
     requires room { HasRoom (W.meaning writer.old) edits.old.capacity }
-    ensures result { Rechecked (F.told folder.old) edits.old.rows edits.new.rows (W.meaning writer.old) (W.meaning writer.new) result }
+    ensures result { Rechecked (record { folder = F.seen folder.old; edits = edits.old; heap = W.meaning writer.old })
+        (record { folder = F.seen folder.new; edits = edits.new; heap = W.meaning writer.new }) result }
     ensures closed { (W.meaning writer.new).is_open ≡ false }
     ensures room { HasRoom (W.meaning writer.new) edits.new.capacity }
     ensures capacity { edits.new.capacity ≡ edits.old.capacity }
-    ensures told { F.told folder.new ≡ F.told folder.old }
-    ensures later { F.faults folder.old ≤ F.faults folder.new }
-    ensures cause { HasReadCause (F.faults folder.old) (F.faults folder.new) (F.last_fault folder.new) result }
+    ensures told { (F.seen folder.new).told ≡ (F.seen folder.old).told }
+    ensures later { (F.seen folder.old).faults ≤ (F.seen folder.new).faults }
+    ensures reads { CountsReads (F.seen folder.old) (F.seen folder.new) result }
     ensures states { Tells (W.told writer.old) (W.told writer.new) (W.meaning writer.new) result }
     ensures part { W.part writer.new ≡ W.part writer.old }
 {

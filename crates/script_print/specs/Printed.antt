@@ -56,6 +56,7 @@ error_line path text fault =
 abbrev pub error_lines : Program → Bytes
 error_lines program = flat_map (λ row. flat_map (error_line row.0 row.1) (errors1 row.1)) program
 
+-- the first line of an answer to a question for the status: the version and the number of errors
 abbrev pub status_line : ℕ → ℕ → Bytes
 status_line version errors = decimal version ++ (codes " status: " ++ (decimal errors ++ codes " errors\n"))
 

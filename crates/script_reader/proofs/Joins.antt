@@ -9,7 +9,7 @@ use Rattle.script_reader.specs.declared.reader.Step.{Step}
 use Rattle.script_reader.specs.declared.reader.Step.TheVariants.{More, Line, End}
 use Rattle.script_reader.specs.Steps.{Steps, Reads, TakesSome, TakesRest, HasEnded}
 use Rattle.script_reader.specs.Window.{TakesPart}
-use Rattle.script_reader.specs.Lines.{FEED, HasNoFeed, script_lines, bytes_left, TakesBytes, TakesFront, BreaksLine, TakesLine, IsAtEnd, IsTooLong, FirstLine, LINE_LIMIT}
+use Rattle.script_reader.specs.Lines.{FEED, HasNoFeed, script_lines, bytes_left, TakesBytes, TakesFront, BreaksLine, TakesLine, IsAtEnd, IsTooLong, FirstLine, HasLine, LINE_LIMIT}
 
 -- the lines, where these bytes go before the first one
 abbrev joined : Bytes → List Bytes → List Bytes
@@ -70,6 +70,11 @@ filled_bytes before after ahead is = sym is ∙ unchanged before
 pub ended_ahead : (ahead : Bytes) (left : Option Bytes) → ahead ≡ [] → HasEnded left → HasEnded (bytes_left ahead left)
 ended_ahead ahead None none end = tt
 ended_ahead ahead (Some rest) none end = ap (λ a. a ++ rest) none ∙ end
+
+-- where a whole line is in hand, something is
+pub some_in_hand : (ahead : Bytes) → HasLine ahead → 0 < length ahead
+some_in_hand [] line = absurd (line no_feed)
+some_in_hand (b ∷ ahead) line = omega arith
 
 taken : (ahead ahead' line line' : Bytes) (left : Option Bytes) → TakesPart ahead ahead' line line' true → Steps Line line line' (bytes_left ahead left) (bytes_left ahead' left)
 taken ahead ahead' line line' left (part, none, is, line_is) =

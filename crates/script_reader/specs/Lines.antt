@@ -18,6 +18,10 @@ script_lines (b ∷ bytes) = if b == FEED then [] ∷ script_lines bytes else on
 abbrev pub HasNoFeed : Bytes → Type 0
 HasNoFeed bytes = All (λ b. (b == FEED) ≡ false) bytes
 
+-- a whole line is among these bytes
+abbrev pub HasLine : Bytes → Type 0
+HasLine bytes = HasNoFeed bytes → ⊥
+
 -- the most bytes that a line may have, without its LF
 abbrev pub LINE_LIMIT : ℕ
 LINE_LIMIT = 4194304

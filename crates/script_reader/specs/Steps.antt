@@ -18,6 +18,7 @@ TakesRest part before after = HasNoFeed part × TakesBytes (part ++ FEED ∷ [])
 abbrev pub HasEnded : Option Bytes → Type 0
 HasEnded before = WhereTold before (λ rest. rest ≡ [])
 
+-- what one step did: the bytes of the line before and after it, and those that were left
 abbrev pub Steps : Step → Bytes → Bytes → Option Bytes → Option Bytes → Type 0
 Steps More line line' before after = (part : Bytes) × (line' ≡ line ++ part) × (length line < length line') × TakesSome part before after
 Steps Line line line' before after = (part : Bytes) × (line' ≡ line ++ part) × TakesRest part before after

@@ -1,6 +1,6 @@
-ghost use Rattle.std.specs.Prelude.{◌≡◌, ◌≤◌, ◌<◌, [], length, IfOk, IfSome, IfNone, IsErrOf, OnErr, true, false};
-ghost use Rattle.flow_base.specs.Causes.{HasCause};
-ghost use Rattle.script_reader.specs.Lines.{bytes_left, lines_left, TakesLine, TakesFront, BreaksLine, IsAtEnd, IsTooLong, LINE_LIMIT};
+ghost use Rattle.std.specs.Prelude.{◌≡◌, ◌≤◌, ◌<◌, [], length, IfOk, IfSome, IfNone, IsErrOf, OnErr, Ok, true, false};
+ghost use Rattle.flow_base.specs.Causes.{Counts};
+ghost use Rattle.script_reader.specs.Lines.{bytes_left, lines_left, HasLine, TakesLine, TakesFront, BreaksLine, IsAtEnd, IsTooLong, LINE_LIMIT};
 ghost use Rattle.script_reader.specs.Steps.{Steps, HasEnded};
 
 use crate::window::Window;
@@ -84,23 +84,26 @@ impl LineReader {
     }
 
     /// The next line without its LF, or `None` where none is left. A last line without LF counts
-    /// where it is not empty.
+    /// where it is not empty. The source is read from only while no whole line is in hand: where one
+    /// was read ahead it is not touched, and a fault that it counts is answered and breaks no line off
+    /// behind its LF.
     ///
     /// # Errors
     ///
-    /// `Failed` only where the source counted a fault, `TooLong` exactly where the next line has
+    /// `Failed` exactly where the source counted a fault, and then one, `TooLong` exactly where the next line has
     /// more than 4,194,304 bytes, and `NoMemory` where memory is refused. After an error the reader
     /// may have lost bytes of the line; after `Failed` no LF among them, and nothing is read ahead.
     #[tactic(auto, using(crate::proofs::Joins::is_too_long, crate::proofs::Joins::none_left, crate::proofs::Joins::took_line, crate::proofs::Joins::took_front, crate::proofs::Joins::front_kept, crate::proofs::Joins::broke, crate::proofs::Joins::nothing_taken, crate::proofs::Joins::broke_at_once))]
     pub fn next<S: Source>(&mut self, source: &mut S) -> Result<Option<Text>, ReadFault>
-        ensures line { IfOk result (λ found. IfSome found (λ line. TakesLine line (lines_left self.old (S.left source.old)) (lines_left self.new (S.left source.new)))) }
+        ensures line { IfOk result (λ found. IfSome found (λ line. TakesLine line (lines_left self.old (S.seen source.old).left) (lines_left self.new (S.seen source.new).left))) }
         ensures short { IfOk result (λ found. IfSome found (λ line. length line ≤ LINE_LIMIT)) }
-        ensures end { IfOk result (λ found. IfNone found (IsAtEnd (lines_left self.old (S.left source.old)))) }
-        ensures long { IsErrOf result ReadFault.TooLong → IsTooLong (lines_left self.old (S.left source.old)) }
-        ensures front { TakesFront (bytes_left self.old (S.left source.old)) (bytes_left self.new (S.left source.new)) }
+        ensures end { IfOk result (λ found. IfNone found (IsAtEnd (lines_left self.old (S.seen source.old).left))) }
+        ensures long { IsErrOf result ReadFault.TooLong → IsTooLong (lines_left self.old (S.seen source.old).left) }
+        ensures front { TakesFront (bytes_left self.old (S.seen source.old).left) (bytes_left self.new (S.seen source.new).left) }
         ensures ahead { IsErrOf result ReadFault.Failed → self.new ≡ [] }
-        ensures broken { IsErrOf result ReadFault.Failed → BreaksLine (bytes_left self.old (S.left source.old)) (bytes_left self.new (S.left source.new)) }
-        ensures cause { HasCause ReadFault.Failed (S.faults source.old) (S.faults source.new) result }
+        ensures broken { IsErrOf result ReadFault.Failed → BreaksLine (bytes_left self.old (S.seen source.old).left) (bytes_left self.new (S.seen source.new).left) }
+        ensures counts { Counts (IsErrOf result ReadFault.Failed) (S.seen source.old).faults (S.seen source.new).faults }
+        ensures in_hand { HasLine self.old → source.new ≡ source.old }
     {
         let mut line = Vec::new(self.alloc);
         let mut step = advance(&mut self.window, source, &mut line)?;
@@ -121,10 +124,13 @@ impl LineReader {
 #[tactic(auto, using(crate::proofs::Joins::filled_bytes, crate::proofs::Joins::ended_ahead))]
 fn is_ready<S: Source>(window: &mut Window, source: &mut S) -> Result<bool, Failed>
     ensures some { IfOk result (λ some. some ≡ true → 0 < length window.new) }
-    ensures end { IfOk result (λ some. some ≡ false → HasEnded (bytes_left window.old (S.left source.old))) }
-    ensures same { bytes_left window.new (S.left source.new) ≡ bytes_left window.old (S.left source.old) }
+    ensures end { IfOk result (λ some. some ≡ false → HasEnded (bytes_left window.old (S.seen source.old).left)) }
+    ensures same { bytes_left window.new (S.seen source.new).left ≡ bytes_left window.old (S.seen source.old).left }
     ensures ahead { OnErr result (window.new ≡ []) }
-    ensures cause { HasCause (record {}) (S.faults source.old) (S.faults source.new) result }
+    ensures counts { Counts (IsErrOf result (record {})) (S.seen source.old).faults (S.seen source.new).faults }
+    ensures sure { 0 < length window.old → result ≡ Ok true }
+    ensures kept { 0 < length window.old → window.new ≡ window.old }
+    ensures in_hand { 0 < length window.old → source.new ≡ source.old }
 {
     if window.rest().is_empty() {
         window.fill(source)
@@ -134,16 +140,19 @@ fn is_ready<S: Source>(window: &mut Window, source: &mut S) -> Result<bool, Fail
 }
 
 // Takes what is there of the next line, after reading ahead where nothing is there.
+#[tactic(auto, using(crate::proofs::Joins::some_in_hand))]
 fn advance<S: Source>(
     window: &mut Window,
     source: &mut S,
     line: &mut Vec<u8>,
 ) -> Result<Step, ReadFault>
-    ensures step { IfOk result (λ step. Steps step line.old.items line.new.items (bytes_left window.old (S.left source.old)) (bytes_left window.new (S.left source.new))) }
-    ensures same { OnErr result (bytes_left window.new (S.left source.new) ≡ bytes_left window.old (S.left source.old)) }
+    ensures step { IfOk result (λ step. Steps step line.old.items line.new.items (bytes_left window.old (S.seen source.old).left) (bytes_left window.new (S.seen source.new).left)) }
+    ensures same { OnErr result (bytes_left window.new (S.seen source.new).left ≡ bytes_left window.old (S.seen source.old).left) }
     ensures ahead { IsErrOf result ReadFault.Failed → window.new ≡ [] }
     ensures never_long { IsErrOf result ReadFault.TooLong → ⊥ }
-    ensures cause { HasCause ReadFault.Failed (S.faults source.old) (S.faults source.new) result }
+    ensures counts { Counts (IsErrOf result ReadFault.Failed) (S.seen source.old).faults (S.seen source.new).faults }
+    ensures at_once { HasLine window.old → IfOk result (λ step. step ≡ Step.Line) }
+    ensures in_hand { HasLine window.old → source.new ≡ source.old }
 {
     if !is_ready(window, source)? {
         return Ok(Step::End);

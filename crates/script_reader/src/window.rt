@@ -1,7 +1,7 @@
-ghost use Rattle.std.specs.Prelude.{◌≡◌, ◌==◌, ◌≤◌, ◌<◌, ◌+◌, [], ◌∷◌, ◌++◌, ℕ, List, length, position, IfSome, IfOk, OnErr, IsTrue, ◌↔◌, take, drop, Ok, Err, true, false, Option};
+ghost use Rattle.std.specs.Prelude.{◌≡◌, ◌==◌, ◌≤◌, ◌<◌, ◌+◌, [], ◌∷◌, ◌++◌, ℕ, List, length, position, IfSome, IfOk, OnErr, IsErrOf, IsTrue, ◌↔◌, take, drop, Ok, Err, true, false, Option};
 ghost use Rattle.std.specs.Option.{option_map};
 ghost use Rattle.flow_base.specs.Outside.{WhereTold};
-ghost use Rattle.flow_base.specs.Causes.{HasCause};
+ghost use Rattle.flow_base.specs.Causes.{Counts};
 ghost use Rattle.script_reader.specs.Lines.{FEED, HasNoFeed};
 ghost use Rattle.script_reader.specs.Window.{TakesPart};
 
@@ -52,11 +52,11 @@ impl Window {
     #[tactic(auto, using(crate::proofs::Windows::filled))]
     pub fn fill<S: Source>(&mut self, source: &mut S) -> Result<bool, Failed>
         requires { self.old ≡ [] }
-        ensures more { S.left source.old ≡ option_map (λ left. self.new ++ left) (S.left source.new) }
+        ensures more { (S.seen source.old).left ≡ option_map (λ left. self.new ++ left) (S.seen source.new).left }
         ensures some { IfOk result (λ some. some ≡ true → 0 < length self.new) }
-        ensures end { IfOk result (λ some. some ≡ false → (self.new ≡ []) × WhereTold (S.left source.old) (λ left. left ≡ [])) }
+        ensures end { IfOk result (λ some. some ≡ false → (self.new ≡ []) × WhereTold (S.seen source.old).left (λ left. left ≡ [])) }
         ensures err { OnErr result (self.new ≡ []) }
-        ensures cause { HasCause (record {}) (S.faults source.old) (S.faults source.new) result }
+        ensures counts { Counts (IsErrOf result (record {})) (S.seen source.old).faults (S.seen source.new).faults }
     {
         self.start = 0;
         self.end = 0;

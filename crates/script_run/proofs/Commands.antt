@@ -4,8 +4,8 @@ use Rattle.std.specs.Prelude.{replicate, Result, Ok, Err, IfOk, IfSome, IfNone}
 use Rattle.std.proofs.lemmas.List.{length-replicate}
 use Rattle.flow_base.specs.Program.{Bytes}
 use Rattle.script_reader.specs.Lines.{LINE_LIMIT, TakesLine, IsAtEnd, IsTooLong}
-use Rattle.script_run.specs.declared.ending.Ending.{Ending}
-use Rattle.script_run.specs.declared.ending.Ending.TheVariants as ending
+use Rattle.script_run.specs.declared.ending.WalkEnd.{WalkEnd}
+use Rattle.script_run.specs.declared.ending.WalkEnd.TheVariants as ending
 use Rattle.script_run.specs.declared.command.Command.{Command}
 use Rattle.script_run.specs.declared.command.Command.TheVariants as command
 use Rattle.script_run.specs.Transcript.{Ends, no_line}
@@ -16,7 +16,7 @@ pub at_end : (taken : ℕ) (before : Option (List Bytes)) → IsAtEnd before →
 at_end taken None end = record { rest = []; lines = tt; ends = no_line }
 at_end taken (Some lines) end = record { rest = []; lines = end; ends = no_line }
 
-ends_at : (how : Ending) (taken : ℕ) (bytes : Bytes) (before after : Option (List Bytes)) → TakesLine bytes before after → ((rest : List Bytes) → Ends taken (bytes ∷ rest) how) → HasEnd how taken before
+ends_at : (how : WalkEnd) (taken : ℕ) (bytes : Bytes) (before after : Option (List Bytes)) → TakesLine bytes before after → ((rest : List Bytes) → Ends taken (bytes ∷ rest) how) → HasEnd how taken before
 ends_at how taken bytes None after takes ends = record { rest = bytes ∷ []; lines = tt; ends = ends [] }
 ends_at how taken bytes (Some lines) None takes ends = absurd (cc)
 ends_at how taken bytes (Some lines) (Some rest) takes ends = record { rest = bytes ∷ rest; lines = same lines (bytes ∷ rest) takes; ends = ends rest } where
@@ -37,7 +37,7 @@ unfolding feeds
 long_bytes n = length-replicate n 10
 
 -- the next line is too long
-pub reads_long : (how : Ending) (taken : ℕ) (before : Option (List Bytes)) → IsTooLong before → ((bytes : Bytes) (rest : List Bytes) → LINE_LIMIT < length bytes → Ends taken (bytes ∷ rest) how) → HasEnd how taken before
+pub reads_long : (how : WalkEnd) (taken : ℕ) (before : Option (List Bytes)) → IsTooLong before → ((bytes : Bytes) (rest : List Bytes) → LINE_LIMIT < length bytes → Ends taken (bytes ∷ rest) how) → HasEnd how taken before
 reads_long how taken None long ends =
     record { rest = feeds (LINE_LIMIT + 1) ∷ []; lines = tt; ends = ends (feeds (LINE_LIMIT + 1)) [] (omega (arith, long_bytes (LINE_LIMIT + 1))) }
 reads_long how taken (Some []) long ends = absurd long

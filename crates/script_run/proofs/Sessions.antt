@@ -1,13 +1,12 @@
 -- A heap of modules and the edits that wait, as the walk sees them.
-use Rattle.std.proofs.Common.{◌≡◌, ◌==◌, eq-eqb, ℕ, zero, suc, ◌+◌, ◌*◌, ◌-◌, ◌^◌, ◌<◌, ◌≤◌, List, [], ◌∷◌, length, false, Option, Some, refl, sym, ap, ◌∙◌, subst, arith, inl, inr}
+use Rattle.std.proofs.Common.{◌≡◌, ◌==◌, eq-eqb, ℕ, zero, suc, ◌+◌, ◌*◌, ◌-◌, ◌^◌, ◌<◌, List, [], ◌∷◌, length, false, Some, refl, sym, ap, ◌∙◌, subst, arith, inl, inr}
 use Rattle.std.specs.Prelude.{slice_get}
 use Rattle.std.specs.List.{AllByRecursion}
-use Rattle.std.proofs.Math.Nat.{min-le_left}
 use Rattle.std.proofs.lemmas.Option.{same_Some}
 use Rattle.std.proofs.lemmas.Bool.{cond-true, cond-false, ne_eqb}
 use Rattle.flow_base.specs.Program.{Bytes, Program}
-use Rattle.flow_base.specs.Causes.{Rose}
-use Rattle.flow_base.specs.declared.outside.LastFault.{LastFault}
+use Rattle.flow_base.specs.Causes.{raised, RoseBy}
+use Rattle.flow_base.specs.Seen.{FolderSeen}
 use Rattle.flow_model.specs.Errors.{errors1, full1, error_count}
 use Rattle.heap_core.specs.Meaning.{Meaning, AllFit}
 use Rattle.flow_state.specs.State.{errors_place, HaveOwnRows, fits, payload_at, payload_in}
@@ -15,9 +14,8 @@ use Rattle.flow_state.specs.declared.payload.RootRow.{RootRow}
 use Rattle.flow_state.specs.declared.payload.Root.{Root}
 use Rattle.flow_state.specs.declared.payload.Payload.{Payload}
 use Rattle.flow_state.specs.declared.payload.Payload.TheVariants as payload
-use Rattle.recheck_run.specs.Waiting.{Waiting}
 use Rattle.recheck_run.specs.Wanted.{Rows, MayBecome, IsTouched, unedited}
-use Rattle.recheck_run.specs.Recheck.{IsEmptyHeap, Rechecked, HasReadCause}
+use Rattle.recheck_run.specs.Recheck.{RecheckState, IsEmptyHeap, Rechecked, CountsReads}
 use Rattle.recheck_run.specs.declared.recheck.Outcome.{Outcome}
 use Rattle.recheck_run.specs.declared.recheck.Outcome.TheVariants as outcome
 use Rattle.script_print.specs.Printed.{done_line, fault_line, refused_line, status_answer}
@@ -25,12 +23,12 @@ use Rattle.script_run.specs.Transcript.{Standing, with_edit, Rechecks, done, can
 use Rattle.script_line.specs.declared.line.Line.{Line}
 use Rattle.script_line.specs.declared.line.Line.TheVariants as line
 use Rattle.script_line.specs.declared.line.Ask.TheVariants as ask
-use Rattle.script_run.specs.Session.{modules_in, program_in, program_with, modules_of, standing_of, HasErrors, RoseBy, HasRechecked, HasTurned, HasEdited, Prints}
+use Rattle.script_run.specs.Session.{modules_in, program_in, program_with, modules_of, standing_of, HasErrors, HasRechecked, HasTurned, HasEdited, Prints}
 
 -- ---- counts
 
-pub rose_none : (before now : ℕ) → before ≤ now → RoseBy 0 before now
-rose_none before now later = omega (arith, min-le_left (before + 0) (2 ^ 64 - 1))
+pub rose_none : (before now : ℕ) → before < 2 ^ 64 → now ≡ before → RoseBy 0 before now
+rose_none before now bounded same = omega (arith, bounded, same)
 
 -- ---- the modules of a state
 
@@ -100,20 +98,20 @@ same_standing : (p q : Program) (v w : ℕ) (r t : Rows) → p ≡ q → v ≡ w
     (let a : Standing = record { program = p; version = v; rows = r } in a) ≡ (let b : Standing = record { program = q; version = w; rows = t } in b)
 same_standing p q v w r t ps vs rs = cc
 
-rechecks_done : (told : Option Program) (s s' : Standing) (program : Program) (line : Bytes) (before now : ℕ) → MayBecome told s.rows program →
+rechecks_done : (s s' : Standing) (program : Program) (line : Bytes) (before now : FolderSeen) → MayBecome before.told s.rows program →
     (let t : Standing = record { program = program; version = s.version + 1; rows = unedited program } in t) ≡ s' →
-    done_line (s.version + 1) (length program) (length program) (error_count (full1 program)) ≡ line → before ≤ now → HasRechecked told s s' line before now
-rechecks_done told s s' program line before now may is prints later = record {
+    done_line (s.version + 1) (length program) (length program) (error_count (full1 program)) ≡ line → before.faults < 2 ^ 64 → now.faults ≡ before.faults → HasRechecked s s' line before now
+rechecks_done s s' program line before now may is prints bounded same = record {
   faults = 0;
-  rechecks = subst (λ t. Rechecks told s t 0 line) is (subst (λ l. Rechecks told s (record { program = program; version = s.version + 1; rows = unedited program }) 0 l) prints (done s program may));
-  counted = rose_none before now later;
+  rechecks = subst (λ t. Rechecks before.told s t 0 line) is (subst (λ l. Rechecks before.told s (record { program = program; version = s.version + 1; rows = unedited program }) 0 l) prints (done s program may));
+  counted = rose_none before.faults now.faults bounded same;
 }
 
-rechecks_not : (told : Option Program) (s s' : Standing) (path : Bytes) (line : Bytes) (before now : ℕ) → IsTouched s.rows path → s ≡ s' → fault_line path s'.version ≡ line → Rose before now
-    → HasRechecked told s s' line before now
-rechecks_not told s s' path line before now touched is prints rose = record {
+rechecks_not : (s s' : Standing) (path : Bytes) (line : Bytes) (before now : FolderSeen) → IsTouched s.rows path → s ≡ s' → fault_line path s'.version ≡ line → now.faults ≡ raised before.faults
+    → HasRechecked s s' line before now
+rechecks_not s s' path line before now touched is prints rose = record {
   faults = 1;
-  rechecks = subst (λ t. Rechecks told s t 1 line) is (subst (λ l. Rechecks told s s 1 l) (ap (λ (t : Standing). fault_line path t.version) is ∙ prints) (cannot_read s path touched));
+  rechecks = subst (λ t. Rechecks before.told s t 1 line) is (subst (λ l. Rechecks before.told s s 1 l) (ap (λ (t : Standing). fault_line path t.version) is ∙ prints) (cannot_read s path touched));
   counted = rose;
 }
 
@@ -122,58 +120,57 @@ pub empty_program : (m : Meaning Payload) (modules : ℕ) → IsEmptyHeap m modu
 empty_program m modules empty = ap program_with (first_modules m.committed (payload.Root empty.commits.0) empty.commits.1) ∙ empty.commits.2
 
 -- a recheck of the heap is one of the walk
-heap_rechecked : (told : Option Program) (waiting waiting' : Waiting) (m m' : Meaning Payload) (o : Outcome) (version : ℕ) (line : Bytes) (before now : ℕ) (last : LastFault) →
-    Rechecked told waiting.rows waiting'.rows m m' o → HasReadCause before now last o → before ≤ now → version ≡ m'.version → Prints o version line
-    → HasRechecked told (standing_of m waiting) (standing_of m' waiting') line before now
-heap_rechecked told waiting waiting' m m' (outcome.Done v modules errors) version line before now last recheck cause later is prints =
-    rechecks_done told (standing_of m waiting) (standing_of m' waiting') recheck.program line before now recheck.edited
-    (same_standing recheck.program (program_in m'.committed) (m.version + 1) m'.version (unedited recheck.program) waiting'.rows
-    (sym recheck.commits.2 ∙ sym (ap program_with (first_modules m'.committed (payload.Root recheck.commits.0) recheck.commits.1))) (sym recheck.next) (sym recheck.rest))
+heap_rechecked : (before now : RecheckState) (o : Outcome) (version : ℕ) (line : Bytes) → Rechecked before now o → CountsReads before.folder now.folder o → before.folder.faults < 2 ^ 64 → version ≡ now.heap.version
+    → Prints o version line → HasRechecked (standing_of before.heap before.edits) (standing_of now.heap now.edits) line before.folder now.folder
+heap_rechecked before now (outcome.Done v modules errors) version line recheck reads bounded is prints =
+    rechecks_done (standing_of before.heap before.edits) (standing_of now.heap now.edits) recheck.program line before.folder now.folder recheck.edited
+    (same_standing recheck.program (program_in now.heap.committed) (before.heap.version + 1) now.heap.version (unedited recheck.program) now.edits.rows
+    (sym recheck.commits.2 ∙ sym (ap program_with (first_modules now.heap.committed (payload.Root recheck.commits.0) recheck.commits.1))) (sym recheck.next) (sym recheck.rest))
     (ap (λ n. done_line n (length recheck.program) (length recheck.program) (error_count (full1 recheck.program))) (sym recheck.next ∙ sym recheck.answers)
     ∙ ap (λ n. done_line v n n (error_count (full1 recheck.program))) (sym recheck.counts.0)
     ∙ ap (λ n. done_line v modules modules n) (sym recheck.counts.1)
     ∙ sym prints)
-    later
-heap_rechecked told waiting waiting' m m' (outcome.ReadFault path) version line before now last recheck cause later is prints =
-    rechecks_not told (standing_of m waiting) (standing_of m' waiting') path line before now recheck.1
-    (same_standing (program_in m.committed) (program_in m'.committed) m.version m'.version waiting.rows waiting'.rows
+    bounded reads
+heap_rechecked before now (outcome.ReadFault path) version line recheck reads bounded is prints =
+    rechecks_not (standing_of before.heap before.edits) (standing_of now.heap now.edits) path line before.folder now.folder recheck.1
+    (same_standing (program_in before.heap.committed) (program_in now.heap.committed) before.heap.version now.heap.version before.edits.rows now.edits.rows
     (ap (λ (n : Meaning Payload). program_in n.committed) (sym recheck.0.0)) (ap (λ (n : Meaning Payload). n.version) (sym recheck.0.0)) (sym recheck.0.1))
     (ap (fault_line path) (sym is) ∙ sym prints)
-    cause.0
-heap_rechecked told waiting waiting' m m' outcome.NoMemory version line before now last recheck cause later is prints = absurd prints
+    reads.0
+heap_rechecked before now outcome.NoMemory version line recheck reads bounded is prints = absurd prints
 
-pub rechecked : (told : Option Program) (waiting waiting' : Waiting) (m m' : Meaning Payload) (s : Standing) (o : Outcome) (version : ℕ) (line : Bytes) (before now : ℕ) (last : LastFault) →
-    standing_of m waiting ≡ s → Rechecked told waiting.rows waiting'.rows m m' o → HasReadCause before now last o → before ≤ now → version ≡ m'.version → Prints o version line
-    → HasRechecked told s (standing_of m' waiting') line before now
-rechecked told waiting waiting' m m' s o version line before now last at recheck cause later is prints =
-    subst (λ t. HasRechecked told t (standing_of m' waiting') line before now) at (heap_rechecked told waiting waiting' m m' o version line before now last recheck cause later is prints)
+pub rechecked : (before now : RecheckState) (s : Standing) (o : Outcome) (version : ℕ) (line : Bytes) → standing_of before.heap before.edits ≡ s → Rechecked before now o → CountsReads before.folder now.folder o
+    → before.folder.faults < 2 ^ 64 → version ≡ now.heap.version → Prints o version line → HasRechecked s (standing_of now.heap now.edits) line before.folder now.folder
+rechecked before now s o version line at recheck reads bounded is prints =
+    subst (λ t. HasRechecked t (standing_of now.heap now.edits) line before.folder now.folder) at (heap_rechecked before now o version line recheck reads bounded is prints)
 
 -- ---- turns
 
-of_turn : (told : Option Program) (said line : Line) (s s' : Standing) (printed more : Bytes) (faults before now : ℕ) → said ≡ line → more ≡ printed → Turns told line s s' faults printed
-    → RoseBy faults before now → HasTurned told said s s' more before now
-of_turn told said line s s' printed more faults before now is same turns counted = record {
+of_turn : (said line : Line) (s s' : Standing) (printed more : Bytes) (faults : ℕ) (before now : FolderSeen) → said ≡ line → more ≡ printed → Turns before.told line s s' faults printed
+    → RoseBy faults before.faults now.faults → HasTurned said s s' more before now
+of_turn said line s s' printed more faults before now is same turns counted = record {
   faults = faults;
-  turns = subst (λ l. Turns told l s s' faults more) (sym is) (subst (λ p. Turns told line s s' faults p) (sym same) turns);
+  turns = subst (λ l. Turns before.told l s s' faults more) (sym is) (subst (λ p. Turns before.told line s s' faults p) (sym same) turns);
   counted = counted;
 }
 
-pub turned_blank : (told : Option Program) (said : Line) (s : Standing) (printed : Bytes) (now : ℕ) → said ≡ line.Blank → printed ≡ [] → HasTurned told said s s printed now now
-turned_blank told said s printed now is none = of_turn told said line.Blank s s [] printed 0 now now is none (blank s) (rose_none now now (omega arith))
+pub turned_blank : (said : Line) (s : Standing) (printed : Bytes) (now : FolderSeen) → now.faults < 2 ^ 64 → said ≡ line.Blank → printed ≡ [] → HasTurned said s s printed now now
+turned_blank said s printed now bounded is none = of_turn said line.Blank s s [] printed 0 now now is none (blank s) (rose_none now.faults now.faults bounded refl)
 
-pub turned_edit : (told : Option Program) (said : Line) (path text : Bytes) (s s' : Standing) (printed : Bytes) (now : ℕ) → said ≡ line.Edit path text → HasEdited path text s s' printed
-    → HasTurned told said s s' printed now now
-turned_edit told said path text s s' printed now is (inl (few, same, none)) =
-    of_turn told said (line.Edit path text) s s' [] printed 0 now now is none (subst (λ t. Turns told (line.Edit path text) s t 0 []) (sym same) (edits s path text few)) (rose_none now now (omega arith))
-turned_edit told said path text s s' printed now is (inr (many, same, refused)) =
-    of_turn told said (line.Edit path text) s s' (refused_line (length (with_edit s path text).rows)) printed 0 now now is refused
-    (subst (λ t. Turns told (line.Edit path text) s t 0 (refused_line (length (with_edit s path text).rows))) (sym same) (refuses s path text many)) (rose_none now now (omega arith))
+pub turned_edit : (said : Line) (path text : Bytes) (s s' : Standing) (printed : Bytes) (now : FolderSeen) → now.faults < 2 ^ 64 → said ≡ line.Edit path text → HasEdited path text s s' printed
+    → HasTurned said s s' printed now now
+turned_edit said path text s s' printed now bounded is (inl (few, same, none)) =
+    of_turn said (line.Edit path text) s s' [] printed 0 now now is none (subst (λ t. Turns now.told (line.Edit path text) s t 0 []) (sym same) (edits s path text few)) (rose_none now.faults now.faults bounded refl)
+turned_edit said path text s s' printed now bounded is (inr (many, same, refused)) =
+    of_turn said (line.Edit path text) s s' (refused_line (length (with_edit s path text).rows)) printed 0 now now is refused
+    (subst (λ t. Turns now.told (line.Edit path text) s t 0 (refused_line (length (with_edit s path text).rows))) (sym same) (refuses s path text many)) (rose_none now.faults now.faults bounded refl)
 
-pub turned_recheck : (told : Option Program) (said : Line) (s s' : Standing) (text printed : Bytes) (before now : ℕ) → said ≡ line.Recheck → printed ≡ text → HasRechecked told s s' text before now
-    → HasTurned told said s s' printed before now
-turned_recheck told said s s' text printed before now is same recheck =
-    of_turn told said line.Recheck s s' text printed recheck.faults before now is same (rechecks s s' recheck.faults text recheck.rechecks) recheck.counted
+pub turned_recheck : (said : Line) (s s' : Standing) (text printed : Bytes) (before now : FolderSeen) → said ≡ line.Recheck → printed ≡ text → HasRechecked s s' text before now
+    → HasTurned said s s' printed before now
+turned_recheck said s s' text printed before now is same recheck =
+    of_turn said line.Recheck s s' text printed recheck.faults before now is same (rechecks s s' recheck.faults text recheck.rechecks) recheck.counted
 
-pub turned_status : (told : Option Program) (said : Line) (s : Standing) (printed : Bytes) (now : ℕ) → said ≡ line.Ask ask.Status → printed ≡ status_answer s.version s.program
-    → HasTurned told said s s printed now now
-turned_status told said s printed now is same = of_turn told said (line.Ask ask.Status) s s (status_answer s.version s.program) printed 0 now now is same (answers s) (rose_none now now (omega arith))
+pub turned_status : (said : Line) (s : Standing) (printed : Bytes) (now : FolderSeen) → now.faults < 2 ^ 64 → said ≡ line.Ask ask.Status → printed ≡ status_answer s.version s.program
+    → HasTurned said s s printed now now
+turned_status said s printed now bounded is same =
+    of_turn said (line.Ask ask.Status) s s (status_answer s.version s.program) printed 0 now now is same (answers s) (rose_none now.faults now.faults bounded refl)

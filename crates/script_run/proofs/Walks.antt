@@ -1,49 +1,27 @@
 -- The walk over the lines of a script, step by step.
-use Rattle.std.proofs.Common.{◌≡◌, ℕ, ◌+◌, ◌-◌, ◌^◌, ◌≤◌, List, [], ◌∷◌, ◌++◌, min, Option, Some, None, refl, sym, ap, ◌∙◌, subst, arith, append_assoc, length-append, inl, inr, ◌⊎◌}
+use Rattle.std.proofs.Common.{◌≡◌, ℕ, ◌+◌, ◌≤◌, List, [], ◌∷◌, ◌++◌, Option, Some, None, refl, sym, ap, ◌∙◌, subst, arith, append_assoc, length-append}
 use Rattle.std.specs.Option.{option_map}
 use Rattle.std.specs.Prelude.{Result, Ok, Err, OnErr, IfSome, IfNone}
-use Rattle.std.proofs.lemmas.Bool.{cases_lt}
-use Rattle.std.proofs.Math.Nat.{min-le_left, min-le_right, le-min}
 use Rattle.flow_base.specs.Program.{Bytes, Program}
+use Rattle.flow_base.specs.Causes.{RoseBy}
 use Rattle.flow_base.specs.Outside.{WhereTold, appended, HoldsFront}
+use Rattle.flow_base.specs.Seen.{FolderSeen, SourceSeen, SinkSeen, Outside}
 use Rattle.flow_model.specs.Errors.{full1, error_count}
 use Rattle.script_line.specs.declared.line.Line.{Line}
 use Rattle.script_reader.specs.Lines.{lines_left, TakesLine}
-use Rattle.script_run.specs.declared.ending.Ending.{Ending}
+use Rattle.script_run.specs.declared.ending.WalkEnd.{WalkEnd}
 use Rattle.script_run.specs.Transcript.{Standing, start, Rechecks, done, cannot_read, Turns, blank, edits, refuses, rechecks, answers, loads, goes, Ends, last_line, IsRun, IsRunSoFar, nothing, so_far, whole}
-use Rattle.script_run.specs.Session.{RoseBy, HasRechecked, HasTurned}
+use Rattle.script_run.specs.Session.{HasRechecked, HasTurned}
 use Rattle.script_run.specs.declared.command.Command.{Command}
 use Rattle.script_run.specs.declared.command.Command.TheVariants as command
-use Rattle.script_run.specs.Steps.{Reads, IsTaken, HasEnd, Takes, Closes, Breaks, silent, in_turn, in_end, BreaksOff, unsaid, begun, HasLoaded, BreaksLoad, unsaid_load, begun_load, HasWalked, HasRun, TookAllGiven, HasStopped, HasFront}
+use Rattle.script_run.specs.Steps.{WalkState, Reads, IsTaken, HasEnd, Takes, Closes, Breaks, silent, in_turn, in_end, BreaksOff, unsaid, begun, HasLoaded, BreaksLoad, unsaid_load, begun_load, HasWalked, HasRun, TookAllGiven, HasStopped, HasFront}
 use Rattle.script_run.proofs.Fronts.{front_none, front_all, front_behind}
 use Rattle.script_run.proofs.Writing.{appended_twice}
 
 -- ---- counts
 
-pub rose_later : (faults before now later : ℕ) → RoseBy faults before now → now ≤ later → RoseBy faults before later
-rose_later faults before now later rose le = omega (arith, rose)
-
-le_min_of : (a b n : ℕ) → (a ≤ n) ⊎ (b ≤ n) → min a b ≤ n
-le_min_of a b n (inl le) = omega (arith, min-le_left a b)
-le_min_of a b n (inr le) = omega (arith, min-le_right a b)
-
-min_below : (a b n : ℕ) → min a b ≤ n → (a ≤ n) ⊎ (b ≤ n)
-min_below a b n le = elim (cases_lt n a) [
-  | inl above ↦ elim (cases_lt n b) [
-    | inl over ↦ absurd (let both : n + 1 ≤ min a b = le-min (omega arith) (omega arith) in omega arith)
-    | inr below ↦ inr below
-  ]
-  | inr below ↦ inl below
-]
-
-pub rose_both : (f g before between now : ℕ) → RoseBy f before between → RoseBy g between now → between ≤ now → RoseBy (f + g) before now
-rose_both f g before between now first second later = elim (min_below (before + f) (2 ^ 64 - 1) between first) [
-  | inl rose ↦ elim (min_below (between + g) (2 ^ 64 - 1) now second) [
-    | inl more ↦ le_min_of (before + (f + g)) (2 ^ 64 - 1) now (inl (omega arith))
-    | inr full ↦ le_min_of (before + (f + g)) (2 ^ 64 - 1) now (inr full)
-  ]
-  | inr full ↦ le_min_of (before + (f + g)) (2 ^ 64 - 1) now (inr (omega arith))
-]
+rose_both : (f g before between now : ℕ) → RoseBy f before between → RoseBy g between now → RoseBy (f + g) before now
+rose_both f g before between now first second = omega (arith, first, second)
 
 -- ---- versions
 
@@ -93,42 +71,42 @@ some_of o x P is holds = subst (λ o. IfSome o P) is holds
 pub none_of : {A : Type 0} (o : Option A) (P : Type 0) → o ≡ None → IfNone o P → P
 none_of o P is holds = subst (λ o. IfNone o P) is holds
 
-pub breaks_off : (told : Option Program) (said : Line) (s s' : Standing) (piece printed : Bytes) (before now : Option Bytes) (f g : ℕ) → piece ≡ printed → HoldsFront before now piece
-    → HasTurned told said s s' printed f g → BreaksOff told said s before now
-breaks_off told said s s' piece printed before now f g is front turned = begun s' turned.faults printed turned.turns (subst (λ p. HoldsFront before now p) is front)
+pub breaks_off : (said : Line) (before now : WalkState) (piece printed : Bytes) (held : Option Bytes) → piece ≡ printed → HoldsFront before.out.written held piece
+    → HasTurned said before.standing now.standing printed before.folder now.folder → BreaksOff said before held
+breaks_off said before now piece printed held is front turned = begun now.standing turned.faults printed turned.turns (subst (λ p. HoldsFront before.out.written held p) is front)
 
-pub breaks_load : (told : Option Program) (listed : List Bytes) (s s' : Standing) (piece printed : Bytes) (before now : Option Bytes) (f g : ℕ) → s ≡ start listed → piece ≡ printed
-    → HoldsFront before now piece → HasRechecked told s s' printed f g → BreaksLoad told listed before now
-breaks_load told listed s s' piece printed before now f g is same front recheck =
-    begun_load s' recheck.faults printed (subst (λ t. Rechecks told t s' recheck.faults printed) is recheck.rechecks) (subst (λ p. HoldsFront before now p) same front)
+pub breaks_load : (before now : WalkState) (s : Standing) (piece printed : Bytes) (held : Option Bytes) → s ≡ before.standing → piece ≡ printed → HoldsFront before.out.written held piece
+    → HasRechecked s now.standing printed before.folder now.folder → BreaksLoad before held
+breaks_load before now s piece printed held is same front recheck =
+    begun_load now.standing recheck.faults printed (subst (λ t. Rechecks before.folder.told t now.standing recheck.faults printed) is recheck.rechecks) (subst (λ p. HoldsFront before.out.written held p) same front)
 
-pub breaks_turn : (told : Option Program) (next : Command) (said : Line) (taken : ℕ) (lines lines' : Option (List Bytes)) (s : Standing) (before now : Option Bytes) → next ≡ command.Takes said
-    → Reads next taken lines lines' → BreaksOff told said s before now → Breaks told taken lines s before now
-breaks_turn told next said taken lines lines' s before now is reads off = in_turn said lines' (subst (λ n. Reads n taken lines lines') is reads) off
+pub breaks_turn : (next : Command) (said : Line) (taken : ℕ) (lines lines' : Option (List Bytes)) (before : WalkState) (held : Option Bytes) → next ≡ command.Takes said
+    → Reads next taken lines lines' → BreaksOff said before held → Breaks taken lines before held
+breaks_turn next said taken lines lines' before held is reads off = in_turn said lines' (subst (λ n. Reads n taken lines lines') is reads) off
 
-pub breaks_end : (told : Option Program) (next : Command) (how : Ending) (taken : ℕ) (lines lines' : Option (List Bytes)) (s : Standing) (before now : Option Bytes) → next ≡ command.Ends how
-    → Reads next taken lines lines' → HoldsFront before now (last_line (taken + 1) how) → Breaks told taken lines s before now
-breaks_end told next how taken lines lines' s before now is reads front = in_end how (subst (λ n. Reads n taken lines lines') is reads) front
+pub breaks_end : (next : Command) (how : WalkEnd) (taken : ℕ) (lines lines' : Option (List Bytes)) (before : WalkState) (held : Option Bytes) → next ≡ command.Ends how
+    → Reads next taken lines lines' → HoldsFront before.out.written held (last_line (taken + 1) how) → Breaks taken lines before held
+breaks_end next how taken lines lines' before held is reads front = in_end how (subst (λ n. Reads n taken lines lines') is reads) front
 
 -- ---- the walk
 
-module _ (told : Option Program) (listed : List Bytes) (script : Option (List Bytes)) (before : Option Bytes) (faults : ℕ) where
-  pub begin : (s : Standing) (now : Option Bytes) (faults' : ℕ) → HasLoaded told listed s before now faults faults' → HasWalked told listed script script 0 s before now faults faults'
-  begin s now faults' loaded = record {
+module _ (listed : List Bytes) (script : Option (List Bytes)) (before : WalkState) where
+  pub begin : (now : WalkState) → before.standing ≡ start listed → HasLoaded before now → HasWalked listed script script 0 before now
+  begin now is loaded = record {
     lines = [];
     number = refl;
     leaves = unchanged script;
     read_faults = loaded.load.faults;
     printed = loaded.printed;
-    walk = loads s loaded.load.faults loaded.printed loaded.load.rechecks;
+    walk = loads now.standing loaded.load.faults loaded.printed (subst (λ s. Rechecks before.folder.told s now.standing loaded.load.faults loaded.printed) is loaded.load.rechecks);
     written = loaded.written;
     counted = loaded.load.counted;
-    version = omega (arith, recheck_version loaded.load.rechecks);
+    version = omega (arith, recheck_version loaded.load.rechecks, ap (λ (s : Standing). s.version) is);
   }
 
-  pub more : (left left' : Option (List Bytes)) (n : ℕ) (s s' : Standing) (now now' : Option Bytes) (faults' faults'' : ℕ) → faults' ≤ faults'' → HasWalked told listed script left n s before now faults faults'
-      → Takes told n left left' s s' now now' faults' faults'' → HasWalked told listed script left' (n + 1) s' before now' faults faults''
-  more left left' n s s' now now' faults' faults'' later walked takes =
+  pub more : (left left' : Option (List Bytes)) (n : ℕ) (mid now : WalkState) → mid.folder.told ≡ before.folder.told → HasWalked listed script left n before mid → Takes n left left' mid now
+      → HasWalked listed script left' (n + 1) before now
+  more left left' n mid now same walked takes =
       let is = takes.is in
       let turned = takes.answered.turned in
       record {
@@ -138,101 +116,122 @@ module _ (told : Option Program) (listed : List Bytes) (script : Option (List By
         read_faults = walked.read_faults + turned.faults;
         printed = walked.printed ++ takes.answered.printed;
         walk =
-            goes walked.lines s walked.read_faults walked.printed is.bytes takes.said s' turned.faults takes.answered.printed walked.walk (omega (arith, walked.number, is.few)) is.short is.says
-            turned.turns;
-        written = takes.answered.written ∙ ap (λ held. appended held takes.answered.printed) walked.written ∙ appended_twice before walked.printed takes.answered.printed;
-        counted = rose_both walked.read_faults turned.faults faults faults' faults'' walked.counted turned.counted later;
+            goes walked.lines mid.standing walked.read_faults walked.printed is.bytes takes.said now.standing turned.faults takes.answered.printed walked.walk (omega (arith, walked.number, is.few)) is.short is.says
+            (subst (λ told. Turns told takes.said mid.standing now.standing turned.faults takes.answered.printed) same turned.turns);
+        written = takes.answered.written ∙ ap (λ held. appended held takes.answered.printed) walked.written ∙ appended_twice before.out.written walked.printed takes.answered.printed;
+        counted = rose_both walked.read_faults turned.faults before.folder.faults mid.folder.faults now.folder.faults walked.counted turned.counted;
         version = omega (arith, walked.version, turn_version turned.turns);
       }
 
-  so_far_of : (left : Option (List Bytes)) (n : ℕ) (s : Standing) (now : Option Bytes) (faults' : ℕ) (walked : HasWalked told listed script left n s before now faults faults') → IsRunSoFar told listed script walked.read_faults walked.printed
-  so_far_of left n s now faults' walked =
+  so_far_of : (left : Option (List Bytes)) (n : ℕ) (now : WalkState) (walked : HasWalked listed script left n before now) → IsRunSoFar before.folder.told listed script walked.read_faults walked.printed
+  so_far_of left n now walked =
       let rest = some_rest left in
-      record { taken = walked.lines; rest = rest.0; lines = told_lines script left walked.lines rest.0 walked.leaves rest.1; standing = s; walk = walked.walk }
+      record { taken = walked.lines; rest = rest.0; lines = told_lines script left walked.lines rest.0 walked.leaves rest.1; standing = now.standing; walk = walked.walk }
 
-  run_of : (left : Option (List Bytes)) (n : ℕ) (s : Standing) (now : Option Bytes) (faults' : ℕ) (how : Ending) (walked : HasWalked told listed script left n s before now faults faults') → HasEnd how n left
-      → IsRun told listed script walked.read_faults (walked.printed ++ last_line (n + 1) how) how s.program
-  run_of left n s now faults' how walked end = record {
+  run_of : (left : Option (List Bytes)) (n : ℕ) (now : WalkState) (how : WalkEnd) (walked : HasWalked listed script left n before now) → HasEnd how n left
+      → IsRun before.folder.told listed script walked.read_faults (walked.printed ++ last_line (n + 1) how) how now.standing.program
+  run_of left n now how walked end = record {
     taken = walked.lines;
     rest = end.rest;
     lines = told_lines script left walked.lines end.rest walked.leaves end.lines;
-    version = s.version;
-    rows = s.rows;
+    version = now.standing.version;
+    rows = now.standing.rows;
     before = walked.printed;
     walk = walked.walk;
     ends = subst (λ k. Ends k end.rest how) (sym walked.number) end.ends;
     prints = ap (λ k. walked.printed ++ last_line (k + 1) how) (sym walked.number);
   }
 
-  pub finishes : (left : Option (List Bytes)) (n : ℕ) (s : Standing) (now now' : Option Bytes) (faults' faults'' : ℕ) (how : Ending) (errors : ℕ) → faults' ≤ faults'' → errors ≡ error_count (full1 s.program) →
-      HasWalked told listed script left n s before now faults faults' → Closes how n left now now' → HasRun told listed script how errors before now' faults faults''
-  finishes left n s now now' faults' faults'' how errors later counts walked closes = record {
+-- ---- whole runs
+
+-- the outside with this script, between two lines
+abbrev pub outside_at : WalkState → SourceSeen → Outside
+outside_at at script = record { folder = at.folder; script = script; out = at.out }
+
+module _ (listed : List Bytes) (before : WalkState) (source : SourceSeen) where
+  abbrev lines : Option (List Bytes)
+  lines = lines_left [] source.left
+
+  abbrev first : Outside
+  first = outside_at before source
+
+  pub finishes : (left : Option (List Bytes)) (n : ℕ) (mid now : WalkState) (source' : SourceSeen) (how : WalkEnd) (errors : ℕ) → errors ≡ error_count (full1 mid.standing.program) →
+      HasWalked listed lines left n before mid → Closes how n left mid now → HasRun listed how errors first (outside_at now source')
+  finishes left n mid now source' how errors counts walked closes = record {
     read_faults = walked.read_faults;
     printed = walked.printed ++ last_line (n + 1) how;
-    program = s.program;
-    run = run_of left n s now faults' how walked closes.is;
-    written = closes.written ∙ ap (λ held. appended held (last_line (n + 1) how)) walked.written ∙ appended_twice before walked.printed (last_line (n + 1) how);
-    counted = rose_later walked.read_faults faults faults' faults'' walked.counted later;
+    program = mid.standing.program;
+    run = run_of listed lines before left n mid how walked closes.is;
+    written = closes.written ∙ ap (λ held. appended held (last_line (n + 1) how)) walked.written ∙ appended_twice before.out.written walked.printed (last_line (n + 1) how);
+    counted = ap (λ (f : FolderSeen). f.faults) closes.folder ∙ walked.counted;
     counts = counts;
   }
 
-  pub front_of_run : (how : Ending) (errors : ℕ) (now : Option Bytes) (faults' : ℕ) → HasRun told listed script how errors before now faults faults' → HasFront told listed script before now
-  front_of_run how errors now faults' run =
-      record { printed = run.printed; prints = whole run.read_faults run.printed how run.program run.run; front = front_all before now run.printed run.written }
+  pub front_of_run : (how : WalkEnd) (errors : ℕ) (now : Outside) → HasRun listed how errors first now → HasFront listed first now
+  front_of_run how errors now run =
+      record { printed = run.printed; prints = whole run.read_faults run.printed how run.program run.run; front = front_all before.out.written now.out.written run.printed run.written }
 
-  pub front_of_walk : (left : Option (List Bytes)) (n : ℕ) (s : Standing) (now now' : Option Bytes) (faults' : ℕ) → now' ≡ now → HasWalked told listed script left n s before now faults faults' → HasFront told listed script before now'
-  front_of_walk left n s now now' faults' same walked = record {
+  pub front_of_walk : (left : Option (List Bytes)) (n : ℕ) (mid : WalkState) (now : Outside) → now.out.written ≡ mid.out.written → HasWalked listed lines left n before mid → HasFront listed first now
+  front_of_walk left n mid now same walked = record {
     printed = walked.printed;
-    prints = so_far walked.read_faults walked.printed (so_far_of left n s now faults' walked);
-    front = front_all before now' walked.printed (same ∙ walked.written);
+    prints = so_far walked.read_faults walked.printed (so_far_of listed lines before left n mid walked);
+    front = front_all before.out.written now.out.written walked.printed (same ∙ walked.written);
   }
 
-  front_of_turn : (left left' : Option (List Bytes)) (n : ℕ) (s : Standing) (now now' : Option Bytes) (faults' : ℕ) (said : Line) → HasWalked told listed script left n s before now faults faults' → IsTaken said n left left'
-      → BreaksOff told said s now now' → HasFront told listed script before now'
-  front_of_turn left left' n s now now' faults' said walked is (unsaid same) = front_of_walk left n s now now' faults' same walked
-  front_of_turn left left' n s now now' faults' said walked is (begun s' f printed turns front) =
+  front_of_turn : (left left' : Option (List Bytes)) (n : ℕ) (mid : WalkState) (now : Outside) (said : Line) → mid.folder.told ≡ before.folder.told → HasWalked listed lines left n before mid → IsTaken said n left left'
+      → BreaksOff said mid now.out.written → HasFront listed first now
+  front_of_turn left left' n mid now said told walked is (unsaid same) = front_of_walk left n mid now same walked
+  front_of_turn left left' n mid now said told walked is (begun s f printed turns front) =
       let rest = some_rest left' in
       record {
         printed = walked.printed ++ printed;
         prints = so_far (walked.read_faults + f) (walked.printed ++ printed) (record {
           taken = walked.lines ++ is.bytes ∷ [];
           rest = rest.0;
-          lines = told_lines script left' (walked.lines ++ is.bytes ∷ []) rest.0 (one_more script left left' walked.lines is.bytes walked.leaves is.takes) rest.1;
-          standing = s';
-          walk = goes walked.lines s walked.read_faults walked.printed is.bytes said s' f printed walked.walk (omega (arith, walked.number, is.few)) is.short is.says turns;
+          lines = told_lines lines left' (walked.lines ++ is.bytes ∷ []) rest.0 (one_more lines left left' walked.lines is.bytes walked.leaves is.takes) rest.1;
+          standing = s;
+          walk =
+              goes walked.lines mid.standing walked.read_faults walked.printed is.bytes said s f printed walked.walk (omega (arith, walked.number, is.few)) is.short is.says
+              (subst (λ t. Turns t said mid.standing s f printed) told turns);
         });
-        front = front_behind before now now' walked.printed printed walked.written front;
+        front = front_behind before.out.written mid.out.written now.out.written walked.printed printed walked.written front;
       }
 
-  pub front_of_break : (left : Option (List Bytes)) (n : ℕ) (s : Standing) (now now' : Option Bytes) (faults' : ℕ) → HasWalked told listed script left n s before now faults faults' → Breaks told n left s now now'
-      → HasFront told listed script before now'
-  front_of_break left n s now now' faults' walked (silent same) = front_of_walk left n s now now' faults' same walked
-  front_of_break left n s now now' faults' walked (in_turn said left' is off) = front_of_turn left left' n s now now' faults' said walked is off
-  front_of_break left n s now now' faults' walked (in_end how end front) = record {
+  pub front_of_break : (left : Option (List Bytes)) (n : ℕ) (mid : WalkState) (now : Outside) → mid.folder.told ≡ before.folder.told → HasWalked listed lines left n before mid → Breaks n left mid now.out.written
+      → HasFront listed first now
+  front_of_break left n mid now told walked (silent same) = front_of_walk left n mid now same walked
+  front_of_break left n mid now told walked (in_turn said left' is off) = front_of_turn left left' n mid now said told walked is off
+  front_of_break left n mid now told walked (in_end how end front) = record {
     printed = walked.printed ++ last_line (n + 1) how;
-    prints = whole walked.read_faults (walked.printed ++ last_line (n + 1) how) how s.program (run_of left n s now faults' how walked end);
-    front = front_behind before now now' walked.printed (last_line (n + 1) how) walked.written front;
+    prints = whole walked.read_faults (walked.printed ++ last_line (n + 1) how) how mid.standing.program (run_of listed lines before left n mid how walked end);
+    front = front_behind before.out.written mid.out.written now.out.written walked.printed (last_line (n + 1) how) walked.written front;
   }
 
-  pub front_of_load : (now : Option Bytes) → BreaksLoad told listed before now → HasFront told listed script before now
-  front_of_load now (unsaid_load same) = record { printed = []; prints = nothing; front = front_none before now [] same }
-  front_of_load now (begun_load s f printed load front) =
-      let rest = some_rest script in
+  pub front_of_load : (now : Outside) → before.standing ≡ start listed → BreaksLoad before now.out.written → HasFront listed first now
+  front_of_load now is (unsaid_load same) = record { printed = []; prints = nothing; front = front_none before.out.written now.out.written [] same }
+  front_of_load now is (begun_load s f printed load front) =
+      let rest = some_rest lines in
       record {
         printed = printed;
-        prints = so_far f printed (record { taken = []; rest = rest.0; lines = rest.1; standing = s; walk = loads s f printed load });
+        prints = so_far f printed (record {
+          taken = [];
+          rest = rest.0;
+          lines = rest.1;
+          standing = s;
+          walk = loads s f printed (subst (λ t. Rechecks before.folder.told t s f printed) is load);
+        });
         front = front;
       }
 
--- a walk that the script stopped
-pub stops : (told : Option Program) (listed : List Bytes) (script left before : Option Bytes) (faults : ℕ) (lines_now : Option (List Bytes)) (n : ℕ) (s : Standing) (now now' : Option Bytes) (faults' faults'' : ℕ) → faults' ≤ faults'' → now' ≡ now →
-    (walked : HasWalked told listed (lines_left [] script) lines_now n s before now faults faults') → TookAllGiven walked.lines script left → HasStopped told listed script left before now' faults faults''
-unfolding so_far_of
-stops told listed script left before faults lines_now n s now now' faults' faults'' later same walked took = record {
-  read_faults = walked.read_faults;
-  printed = walked.printed;
-  run = so_far_of told listed (lines_left [] script) before faults lines_now n s now faults' walked;
-  took_all = took;
-  written = same ∙ walked.written;
-  counted = rose_later walked.read_faults faults faults' faults'' walked.counted later;
-}
+  -- the script failed, where neither the folder nor the sink was used any more
+  pub stops : (left : Option (List Bytes)) (n : ℕ) (mid : WalkState) (now : Outside) → now.folder ≡ mid.folder → now.out ≡ mid.out → (walked : HasWalked listed lines left n before mid)
+      → TookAllGiven walked.lines source.left now.script.left → HasStopped listed first now
+  unfolding so_far_of
+  stops left n mid now unread unwritten walked took = record {
+    read_faults = walked.read_faults;
+    printed = walked.printed;
+    run = so_far_of listed lines before left n mid walked;
+    took_all = took;
+    written = ap (λ (k : SinkSeen). k.written) unwritten ∙ walked.written;
+    counted = ap (λ (f : FolderSeen). f.faults) unread ∙ walked.counted;
+  }

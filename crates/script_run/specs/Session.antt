@@ -1,6 +1,8 @@
 -- What a heap of modules and the edits that wait are to the walk.
-use Rattle.std.specs.Prelude.{◌≡◌, ◌<◌, ◌⊎◌, ℕ, ◌+◌, ◌-◌, ◌^◌, ◌≤◌, min, List, [], ◌∷◌, length, slice_get, false, Some, Option}
+use Rattle.std.specs.Prelude.{◌≡◌, ◌<◌, ◌⊎◌, ℕ, ◌^◌, ◌≤◌, List, [], ◌∷◌, length, slice_get, false, Some}
+use Rattle.flow_base.specs.Causes.{RoseBy}
 use Rattle.flow_base.specs.Program.{Bytes, Program}
+use Rattle.flow_base.specs.Seen.{FolderSeen}
 use Rattle.flow_model.specs.Errors.{errors1}
 use Rattle.flow_model.specs.declared.fault.Fault.{Fault}
 use Rattle.heap_core.specs.Meaning.{Meaning}
@@ -44,6 +46,7 @@ program_with modules = program_of (record { modules = modules })
 abbrev pub program_in : List Payload → Program
 program_in state = program_with (modules_in state)
 
+-- where the walk stands, by the heap and the edits that wait
 abbrev pub standing_of : Meaning Payload → Waiting → Standing
 standing_of m waiting = record { program = program_in m.committed; version = m.version; rows = waiting.rows }
 
@@ -62,21 +65,17 @@ pub record HasErrors (state : List Payload) (m : RootRow) : Type 0 where
 abbrev pub IsPlaced : Bytes → Fault → Type 0
 IsPlaced text fault = fault.span.end < 2 ^ 32 → IsPlace text fault.span.start
 
--- so many faults were counted at least, where the count did not come to its end
-abbrev pub RoseBy : ℕ → ℕ → ℕ → Type 0
-RoseBy faults before now = min (before + faults) (2 ^ 64 - 1) ≤ now
-
--- a recheck, what it prints, and how many faults of the folder were counted in it
-pub record HasRechecked (told : Option Program) (s s' : Standing) (printed : Bytes) (before now : ℕ) : Type 0 where
+-- a recheck, what it prints, and that the folder counted as many faults in it as it prints read faults
+pub record HasRechecked (s s' : Standing) (printed : Bytes) (before now : FolderSeen) : Type 0 where
   pub faults : ℕ
-  pub rechecks : Rechecks told s s' faults printed
-  pub counted : RoseBy faults before now
+  pub rechecks : Rechecks before.told s s' faults printed
+  pub counted : RoseBy faults before.faults now.faults
 
 -- the same of a line of the script
-pub record HasTurned (told : Option Program) (line : Line) (s s' : Standing) (printed : Bytes) (before now : ℕ) : Type 0 where
+pub record HasTurned (line : Line) (s s' : Standing) (printed : Bytes) (before now : FolderSeen) : Type 0 where
   pub faults : ℕ
-  pub turns : Turns told line s s' faults printed
-  pub counted : RoseBy faults before now
+  pub turns : Turns before.told line s s' faults printed
+  pub counted : RoseBy faults before.faults now.faults
 
 -- an edit joined the others, or was refused and changed nothing; what this prints
 abbrev pub HasEdited : Bytes → Bytes → Standing → Standing → Bytes → Type 0

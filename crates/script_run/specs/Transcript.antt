@@ -11,8 +11,8 @@ use Rattle.script_line.specs.declared.line.Ask.TheVariants as ask
 use Rattle.script_line.specs.Says.{Says}
 use Rattle.script_reader.specs.Lines.{LINE_LIMIT}
 use Rattle.script_print.specs.Printed.{done_line, fault_line, refused_line, bad_line, long_line, many_lines, status_answer}
-use Rattle.script_run.specs.declared.ending.Ending.{Ending}
-use Rattle.script_run.specs.declared.ending.Ending.TheVariants as ending
+use Rattle.script_run.specs.declared.ending.WalkEnd.{WalkEnd}
+use Rattle.script_run.specs.declared.ending.WalkEnd.TheVariants as ending
 
 -- where the walk stands: the committed program, its version, and the edited program that the next recheck takes
 pub record Standing : Type 0 where
@@ -20,10 +20,11 @@ pub record Standing : Type 0 where
   pub version : ℕ
   pub rows : Rows
 
--- the most modules, and the most lines of a script
+-- the most modules
 abbrev pub MOST_MODULES : ℕ
 MOST_MODULES = 1024
 
+-- the most lines of a script, blank ones counted
 abbrev pub MOST_LINES : ℕ
 MOST_LINES = 1048576
 
@@ -44,6 +45,7 @@ pub data Rechecks (told : Option Program) : Standing → Standing → ℕ → By
       (done_line (s.version + 1) (length program) (length program) (error_count (full1 program)))
   cannot_read : (s : Standing) (path : Bytes) → IsTouched s.rows path → Rechecks told s s 1 (fault_line path s.version)
 
+-- the standing after an edit of this path to this text, which the next recheck takes
 abbrev pub with_edit : Standing → Bytes → Bytes → Standing
 with_edit s path text = record { program = s.program; version = s.version; rows = edited s.rows path (take.Text text) }
 
@@ -66,7 +68,7 @@ pub data Walked (told : Option Program) (listed : List Bytes) : List Bytes → S
 
 -- After so many lines, with these to come, a walk ends like this: no line is left, or the next one says so; the next one is no command,
 -- or is too long; or as many as there may be were taken, and one is left.
-pub data Ends (taken : ℕ) : List Bytes → Ending → Type 0 where
+pub data Ends (taken : ℕ) : List Bytes → WalkEnd → Type 0 where
   no_line : Ends taken [] ending.Finished
   end_line : (bytes : Bytes) (rest : List Bytes) → taken < MOST_LINES → length bytes ≤ LINE_LIMIT → Says bytes line.End → Ends taken (bytes ∷ rest) ending.Finished
   bad : (bytes : Bytes) (rest : List Bytes) → taken < MOST_LINES → length bytes ≤ LINE_LIMIT → ((l : Line) → Says bytes l → ⊥) → Ends taken (bytes ∷ rest) ending.BadLine
@@ -74,14 +76,14 @@ pub data Ends (taken : ℕ) : List Bytes → Ending → Type 0 where
   many : (bytes : Bytes) (rest : List Bytes) → MOST_LINES ≤ taken → Ends taken (bytes ∷ rest) ending.ManyLines
 
 -- what such an end prints, by the number of the line that was not taken
-abbrev pub last_line : ℕ → Ending → Bytes
+abbrev pub last_line : ℕ → WalkEnd → Bytes
 last_line number ending.Finished = []
 last_line number ending.BadLine = bad_line number
 last_line number ending.LongLine = long_line
 last_line number ending.ManyLines = many_lines
 
 -- a run over a folder that lists these paths, and a script: where it tells its lines, these are they
-pub record IsRun (told : Option Program) (listed : List Bytes) (script : Option (List Bytes)) (faults : ℕ) (printed : Bytes) (how : Ending) (program : Program) : Type 0 where
+pub record IsRun (told : Option Program) (listed : List Bytes) (script : Option (List Bytes)) (faults : ℕ) (printed : Bytes) (how : WalkEnd) (program : Program) : Type 0 where
   pub taken : List Bytes
   pub rest : List Bytes
   pub lines : WhereTold script (λ its. its ≡ taken ++ rest)
@@ -104,4 +106,4 @@ pub record IsRunSoFar (told : Option Program) (listed : List Bytes) (script : Op
 pub data PrintsBetweenLines (told : Option Program) (listed : List Bytes) (script : Option (List Bytes)) : Bytes → Type 0 where
   nothing : PrintsBetweenLines told listed script []
   so_far : (faults : ℕ) (printed : Bytes) → IsRunSoFar told listed script faults printed → PrintsBetweenLines told listed script printed
-  whole : (faults : ℕ) (printed : Bytes) (how : Ending) (program : Program) → IsRun told listed script faults printed how program → PrintsBetweenLines told listed script printed
+  whole : (faults : ℕ) (printed : Bytes) (how : WalkEnd) (program : Program) → IsRun told listed script faults printed how program → PrintsBetweenLines told listed script printed

@@ -1,11 +1,11 @@
 ghost use Rattle.std.specs.Prelude.{◌≡◌, ◌<◌, ◌≤◌, [], ◌∷◌, List, length, IfOk, IfErr, IsErrOf};
 ghost use Rattle.flow_base.specs.Program.{Bytes};
-ghost use Rattle.flow_base.specs.Causes.{HasCause};
+ghost use Rattle.flow_base.specs.Causes.{Counts};
 ghost use Rattle.script_reader.specs.Lines.{bytes_left, lines_left, TakesFront, BreaksLine, LINE_LIMIT};
 ghost use Rattle.script_run.specs.Transcript.{Ends};
 ghost use Rattle.script_run.specs.Steps.{Means, Reads};
 
-use crate::{Ending, RunFault};
+use crate::{RunFault, WalkEnd};
 use flow_base::{Source, Text};
 use script_line::{Line, LineFault, read_line};
 use script_reader::{LineReader, ReadFault};
@@ -20,7 +20,7 @@ pub enum Command {
     /// The line is answered, and the walk goes on.
     Takes(Line),
     /// The walk ends.
-    Ends(Ending),
+    Ends(WalkEnd),
 }
 
 /// Reads the next line of a script of which so many were taken.
@@ -30,15 +30,15 @@ pub fn read_command<S: Source>(
     reader: &mut LineReader,
     script: &mut S,
 ) -> Result<Command, RunFault>
-    ensures reads { IfOk result (λ command. Reads command taken (lines_left reader.old (S.left script.old)) (lines_left reader.new (S.left script.new))) }
-    ensures front { TakesFront (bytes_left reader.old (S.left script.old)) (bytes_left reader.new (S.left script.new)) }
+    ensures reads { IfOk result (λ command. Reads command taken (lines_left reader.old (S.seen script.old).left) (lines_left reader.new (S.seen script.new).left)) }
+    ensures front { TakesFront (bytes_left reader.old (S.seen script.old).left) (bytes_left reader.new (S.seen script.new).left) }
     ensures ahead { IsErrOf result RunFault.ScriptFault → reader.new ≡ [] }
-    ensures broken { IsErrOf result RunFault.ScriptFault → BreaksLine (bytes_left reader.old (S.left script.old)) (bytes_left reader.new (S.left script.new)) }
-    ensures cause { HasCause RunFault.ScriptFault (S.faults script.old) (S.faults script.new) result }
+    ensures broken { IsErrOf result RunFault.ScriptFault → BreaksLine (bytes_left reader.old (S.seen script.old).left) (bytes_left reader.new (S.seen script.new).left) }
+    ensures counts { Counts (IsErrOf result RunFault.ScriptFault) (S.seen script.old).faults (S.seen script.new).faults }
     ensures no_sink { IsErrOf result RunFault.SinkFault → ⊥ }
 {
     match reader.next(script) {
-        Ok(None) => Ok(Command::Ends(Ending::Finished)),
+        Ok(None) => Ok(Command::Ends(WalkEnd::Finished)),
         Ok(Some(line)) => next_command(alloc, taken, &line),
         Err(ReadFault::TooLong) => Ok(Command::Ends(past_limit(taken))),
         Err(ReadFault::Failed) => Err(RunFault::ScriptFault),
@@ -53,23 +53,23 @@ fn next_command(alloc: Global, taken: u32, line: &Text) -> Result<Command, RunFa
     ensures memory { IfErr result (λ fault. fault ≡ RunFault.NoMemory) }
 {
     if taken >= MOST_LINES {
-        return Ok(Command::Ends(Ending::ManyLines));
+        return Ok(Command::Ends(WalkEnd::ManyLines));
     }
     match read_line(alloc, line.as_bytes()) {
-        Ok(Line::End) => Ok(Command::Ends(Ending::Finished)),
+        Ok(Line::End) => Ok(Command::Ends(WalkEnd::Finished)),
         Ok(line) => Ok(Command::Takes(line)),
-        Err(LineFault::BadLine) => Ok(Command::Ends(Ending::BadLine)),
+        Err(LineFault::BadLine) => Ok(Command::Ends(WalkEnd::BadLine)),
         Err(LineFault::NoMemory) => Err(RunFault::NoMemory),
     }
 }
 
 // How a walk ends at a line that is longer than a line may be.
-fn past_limit(taken: u32) -> Ending
+fn past_limit(taken: u32) -> WalkEnd
     ensures { (bytes : Bytes) (rest : List Bytes) → LINE_LIMIT < length bytes → Ends taken (bytes ∷ rest) result }
 {
     if taken >= MOST_LINES {
-        Ending::ManyLines
+        WalkEnd::ManyLines
     } else {
-        Ending::LongLine
+        WalkEnd::LongLine
     }
 }

@@ -7,7 +7,7 @@ use std::alloc::Global;
 
 /// How a walk over the lines of a script ends.
 #[derive(Clone, Copy, Debug, PartialEq, Eq)]
-pub enum Ending {
+pub enum WalkEnd {
     /// No line is left, or the next one ends the script.
     Finished,
     /// The next line is neither blank nor a command.
@@ -22,7 +22,7 @@ pub enum Ending {
 #[derive(Clone, Copy, Debug, PartialEq, Eq)]
 pub struct Ended {
     /// How the script ended.
-    pub ending: Ending,
+    pub ending: WalkEnd,
     /// The number of errors of the program that was committed last.
     pub errors: u64,
 }
@@ -49,13 +49,13 @@ impl From<NoMemory> for RunFault {
 }
 
 /// The line that the end of a walk prints, by the number of the line that was not taken.
-pub fn last_line(alloc: Global, number: u64, ending: Ending) -> Result<Vec<u8>, NoMemory>
+pub fn last_line(alloc: Global, number: u64, ending: WalkEnd) -> Result<Vec<u8>, NoMemory>
     ensures { IfOk result (λ line. line.items ≡ last_line number ending) }
 {
     match ending {
-        Ending::Finished => Ok(Vec::new(alloc)),
-        Ending::BadLine => Ok(bad_line(alloc, number)?.into_bytes()),
-        Ending::LongLine => Ok(Vec::from_slice(alloc, long_line())?),
-        Ending::ManyLines => Ok(Vec::from_slice(alloc, many_lines())?),
+        WalkEnd::Finished => Ok(Vec::new(alloc)),
+        WalkEnd::BadLine => Ok(bad_line(alloc, number)?.into_bytes()),
+        WalkEnd::LongLine => Ok(Vec::from_slice(alloc, long_line())?),
+        WalkEnd::ManyLines => Ok(Vec::from_slice(alloc, many_lines())?),
     }
 }

@@ -9,7 +9,7 @@ mod session;
 mod sinks;
 mod walk;
 
-pub use ending::{Ended, Ending, RunFault};
+pub use ending::{Ended, RunFault, WalkEnd};
 pub use places::each_fault_has_a_place;
 pub use sinks::write_all;
 pub use walk::run;

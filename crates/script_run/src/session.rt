@@ -55,9 +55,9 @@ impl Session {
     /// Rechecks, and gives the line that this prints.
     pub fn recheck<F: Folder>(&mut self, folder: &mut F) -> Result<String, NoMemory>
         requires { self.old.version + 1 < 2 ^ 31 }
-        ensures rechecked { IfOk result (λ line. HasRechecked (F.told folder.old) self.old self.new (string_bytes line) (F.faults folder.old) (F.faults folder.new)) }
-        ensures told { F.told folder.new ≡ F.told folder.old }
-        ensures later { F.faults folder.old ≤ F.faults folder.new }
+        ensures rechecked { IfOk result (λ line. HasRechecked self.old self.new (string_bytes line) (F.seen folder.old) (F.seen folder.new)) }
+        ensures told { (F.seen folder.new).told ≡ (F.seen folder.old).told }
+        ensures later { (F.seen folder.old).faults ≤ (F.seen folder.new).faults }
     {
         let outcome = recheck_all(self.alloc, &mut self.heap, &mut self.edits, folder);
         Ok(outcome_line(self.alloc, &outcome, self.heap.version())?)
@@ -94,9 +94,9 @@ impl Session {
     pub fn turn<F: Folder>(&mut self, folder: &mut F, line: Line) -> Result<Vec<u8>, NoMemory>
         requires version { self.old.version + 1 < 2 ^ 31 }
         requires goes_on { line ≡ Line.End → ⊥ }
-        ensures turned { IfOk result (λ printed. HasTurned (F.told folder.old) line self.old self.new printed.items (F.faults folder.old) (F.faults folder.new)) }
-        ensures told { F.told folder.new ≡ F.told folder.old }
-        ensures later { F.faults folder.old ≤ F.faults folder.new }
+        ensures turned { IfOk result (λ printed. HasTurned line self.old self.new printed.items (F.seen folder.old) (F.seen folder.new)) }
+        ensures told { (F.seen folder.new).told ≡ (F.seen folder.old).told }
+        ensures later { (F.seen folder.old).faults ≤ (F.seen folder.new).faults }
     {
         match line {
             Line::Blank => Ok(Vec::new(self.alloc)),

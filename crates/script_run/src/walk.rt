@@ -1,16 +1,17 @@
 ghost use Rattle.std.specs.Prelude.{◌≡◌, ◌≤◌, ◌+◌, ◌<◌, ◌^◌, [], length, IfOk, IfSome, IfNone, OnOk, OnErr, IsErrOf};
 ghost use Rattle.flow_base.specs.Program.{IsRising};
 ghost use Rattle.flow_base.specs.Outside.{appended, HoldsFront};
-ghost use Rattle.flow_base.specs.Causes.{Rose, HasCause};
+ghost use Rattle.flow_base.specs.Causes.{Counts};
+ghost use Rattle.flow_base.specs.Seen.{outside};
 ghost use Rattle.script_reader.specs.Lines.{bytes_left, lines_left, TakesFront, BreaksLine};
-ghost use Rattle.script_run.specs.Transcript.{MOST_MODULES, last_line};
-ghost use Rattle.script_run.specs.Steps.{Takes, Closes, Breaks, HasAnswered, BreaksOff, HasLoaded, BreaksLoad, HasRun, HasStopped, HasFront};
+ghost use Rattle.script_run.specs.Transcript.{MOST_MODULES, start, last_line};
+ghost use Rattle.script_run.specs.Steps.{walk_state, Takes, Closes, Breaks, HasAnswered, BreaksOff, HasLoaded, BreaksLoad, HasRun, HasStopped, HasFront};
 
 use crate::command::{Command, read_command};
 use crate::ending::last_line;
 use crate::session::Session;
 use crate::sinks::write_all;
-use crate::{Ended, Ending, RunFault};
+use crate::{Ended, RunFault, WalkEnd};
 use flow_base::{Folder, List, Path, Sink, SinkFault, Source};
 use script_line::Line;
 use script_reader::LineReader;
@@ -21,8 +22,8 @@ use std::alloc::Global;
 ///
 /// # Errors
 ///
-/// `ScriptFault` and `SinkFault` only where the script, or the sink, counted a fault, and `NoMemory`
-/// where memory is refused. After `ScriptFault` all whole lines that the script gave are answered,
+/// `ScriptFault` and `SinkFault` exactly where the script, or the sink, counted a fault, and then one,
+/// and `NoMemory` where memory is refused. After `ScriptFault` all whole lines that the script gave are answered,
 /// and what they print is written; after the others a front of what the run prints.
 pub fn run<F: Folder, S: Source, K: Sink>(
     alloc: Global,
@@ -33,15 +34,16 @@ pub fn run<F: Folder, S: Source, K: Sink>(
 ) -> Result<Ended, RunFault>
     requires rising { IsRising listed }
     requires few { length listed ≤ MOST_MODULES }
-    ensures ended { IfOk result (λ ended. HasRun (F.told folder.old) listed (lines_left [] (S.left script.old)) ended.ending ended.errors
-        (K.written out.old) (K.written out.new) (F.faults folder.old) (F.faults folder.new)) }
-    ensures stopped { IsErrOf result RunFault.ScriptFault → HasStopped (F.told folder.old) listed (S.left script.old) (S.left script.new)
-        (K.written out.old) (K.written out.new) (F.faults folder.old) (F.faults folder.new) }
-    ensures front { OnErr result (HasFront (F.told folder.old) listed (lines_left [] (S.left script.old)) (K.written out.old) (K.written out.new)) }
-    ensures script_cause { HasCause RunFault.ScriptFault (S.faults script.old) (S.faults script.new) result }
-    ensures sink_cause { HasCause RunFault.SinkFault (K.faults out.old) (K.faults out.new) result }
-    ensures told { F.told folder.new ≡ F.told folder.old }
-    ensures later { F.faults folder.old ≤ F.faults folder.new }
+    ensures ended { IfOk result (λ ended. HasRun listed ended.ending ended.errors
+        (outside (F.seen folder.old) (S.seen script.old) (K.seen out.old)) (outside (F.seen folder.new) (S.seen script.new) (K.seen out.new))) }
+    ensures stopped { IsErrOf result RunFault.ScriptFault → HasStopped listed
+        (outside (F.seen folder.old) (S.seen script.old) (K.seen out.old)) (outside (F.seen folder.new) (S.seen script.new) (K.seen out.new)) }
+    ensures front { OnErr result (HasFront listed
+        (outside (F.seen folder.old) (S.seen script.old) (K.seen out.old)) (outside (F.seen folder.new) (S.seen script.new) (K.seen out.new))) }
+    ensures script_counts { Counts (IsErrOf result RunFault.ScriptFault) (S.seen script.old).faults (S.seen script.new).faults }
+    ensures sink_counts { Counts (IsErrOf result RunFault.SinkFault) (K.seen out.old).faults (K.seen out.new).faults }
+    ensures told { (F.seen folder.new).told ≡ (F.seen folder.old).told }
+    ensures later { (F.seen folder.old).faults ≤ (F.seen folder.new).faults }
 {
     let mut session = load(alloc, listed, folder, out)?;
     let mut reader = LineReader::new(alloc)?;
@@ -66,12 +68,12 @@ fn load<F: Folder, K: Sink>(
 ) -> Result<Session, RunFault>
     requires rising { IsRising listed }
     requires few { length listed ≤ MOST_MODULES }
-    ensures loaded { IfOk result (λ session. HasLoaded (F.told folder.old) listed session (K.written out.old) (K.written out.new) (F.faults folder.old) (F.faults folder.new)) }
-    ensures front { OnErr result (BreaksLoad (F.told folder.old) listed (K.written out.old) (K.written out.new)) }
-    ensures cause { HasCause RunFault.SinkFault (K.faults out.old) (K.faults out.new) result }
+    ensures loaded { IfOk result (λ session. HasLoaded (walk_state (start listed) (F.seen folder.old) (K.seen out.old)) (walk_state session (F.seen folder.new) (K.seen out.new))) }
+    ensures front { OnErr result (BreaksLoad (walk_state (start listed) (F.seen folder.old) (K.seen out.old)) (K.seen out.new).written) }
+    ensures counts { Counts (IsErrOf result RunFault.SinkFault) (K.seen out.old).faults (K.seen out.new).faults }
     ensures no_script { IsErrOf result RunFault.ScriptFault → ⊥ }
-    ensures told { F.told folder.new ≡ F.told folder.old }
-    ensures later { F.faults folder.old ≤ F.faults folder.new }
+    ensures told { (F.seen folder.new).told ≡ (F.seen folder.old).told }
+    ensures later { (F.seen folder.old).faults ≤ (F.seen folder.new).faults }
 {
     let mut session = Session::open(alloc, listed)?;
     let line = session.recheck(folder)?;
@@ -89,20 +91,22 @@ fn step<F: Folder, S: Source, K: Sink>(
     folder: &mut F,
     script: &mut S,
     out: &mut K,
-) -> Result<Option<Ending>, RunFault>
+) -> Result<Option<WalkEnd>, RunFault>
     requires { session.old.version + 1 < 2 ^ 31 }
-    ensures takes { IfOk result (λ ending. IfNone ending (Takes (F.told folder.old) taken (lines_left reader.old (S.left script.old)) (lines_left reader.new (S.left script.new))
-        session.old session.new (K.written out.old) (K.written out.new) (F.faults folder.old) (F.faults folder.new))) }
-    ensures closes { IfOk result (λ ending. IfSome ending (λ how. Closes how taken (lines_left reader.old (S.left script.old)) (K.written out.old) (K.written out.new) × (session.new ≡ session.old))) }
-    ensures breaks { OnErr result (Breaks (F.told folder.old) taken (lines_left reader.old (S.left script.old)) session.old (K.written out.old) (K.written out.new)) }
-    ensures silent { IsErrOf result RunFault.ScriptFault → K.written out.new ≡ K.written out.old }
-    ensures front { TakesFront (bytes_left reader.old (S.left script.old)) (bytes_left reader.new (S.left script.new)) }
+    ensures takes { IfOk result (λ ending. IfNone ending (Takes taken (lines_left reader.old (S.seen script.old).left) (lines_left reader.new (S.seen script.new).left)
+        (walk_state session.old (F.seen folder.old) (K.seen out.old)) (walk_state session.new (F.seen folder.new) (K.seen out.new)))) }
+    ensures closes { IfOk result (λ ending. IfSome ending (λ how. Closes how taken (lines_left reader.old (S.seen script.old).left)
+        (walk_state session.old (F.seen folder.old) (K.seen out.old)) (walk_state session.new (F.seen folder.new) (K.seen out.new)))) }
+    ensures breaks { OnErr result (Breaks taken (lines_left reader.old (S.seen script.old).left) (walk_state session.old (F.seen folder.old) (K.seen out.old)) (K.seen out.new).written) }
+    ensures silent { IsErrOf result RunFault.ScriptFault → K.seen out.new ≡ K.seen out.old }
+    ensures unread { IsErrOf result RunFault.ScriptFault → F.seen folder.new ≡ F.seen folder.old }
+    ensures front { TakesFront (bytes_left reader.old (S.seen script.old).left) (bytes_left reader.new (S.seen script.new).left) }
     ensures ahead { IsErrOf result RunFault.ScriptFault → reader.new ≡ [] }
-    ensures broken { IsErrOf result RunFault.ScriptFault → BreaksLine (bytes_left reader.old (S.left script.old)) (bytes_left reader.new (S.left script.new)) }
-    ensures script_cause { HasCause RunFault.ScriptFault (S.faults script.old) (S.faults script.new) result }
-    ensures sink_cause { HasCause RunFault.SinkFault (K.faults out.old) (K.faults out.new) result }
-    ensures told { F.told folder.new ≡ F.told folder.old }
-    ensures later { F.faults folder.old ≤ F.faults folder.new }
+    ensures broken { IsErrOf result RunFault.ScriptFault → BreaksLine (bytes_left reader.old (S.seen script.old).left) (bytes_left reader.new (S.seen script.new).left) }
+    ensures script_counts { Counts (IsErrOf result RunFault.ScriptFault) (S.seen script.old).faults (S.seen script.new).faults }
+    ensures sink_counts { Counts (IsErrOf result RunFault.SinkFault) (K.seen out.old).faults (K.seen out.new).faults }
+    ensures told { (F.seen folder.new).told ≡ (F.seen folder.old).told }
+    ensures later { (F.seen folder.old).faults ≤ (F.seen folder.new).faults }
 {
     match read_command(alloc, taken, reader, script)? {
         Command::Takes(line) => {
@@ -125,12 +129,12 @@ fn answer<F: Folder, K: Sink>(
 ) -> Result<(), RunFault>
     requires version { session.old.version + 1 < 2 ^ 31 }
     requires goes_on { line ≡ Line.End → ⊥ }
-    ensures answered { OnOk result (HasAnswered (F.told folder.old) line session.old session.new (K.written out.old) (K.written out.new) (F.faults folder.old) (F.faults folder.new)) }
-    ensures breaks { OnErr result (BreaksOff (F.told folder.old) line session.old (K.written out.old) (K.written out.new)) }
-    ensures cause { HasCause RunFault.SinkFault (K.faults out.old) (K.faults out.new) result }
+    ensures answered { OnOk result (HasAnswered line (walk_state session.old (F.seen folder.old) (K.seen out.old)) (walk_state session.new (F.seen folder.new) (K.seen out.new))) }
+    ensures breaks { OnErr result (BreaksOff line (walk_state session.old (F.seen folder.old) (K.seen out.old)) (K.seen out.new).written) }
+    ensures counts { Counts (IsErrOf result RunFault.SinkFault) (K.seen out.old).faults (K.seen out.new).faults }
     ensures no_script { IsErrOf result RunFault.ScriptFault → ⊥ }
-    ensures told { F.told folder.new ≡ F.told folder.old }
-    ensures later { F.faults folder.old ≤ F.faults folder.new }
+    ensures told { (F.seen folder.new).told ≡ (F.seen folder.old).told }
+    ensures later { (F.seen folder.old).faults ≤ (F.seen folder.new).faults }
 {
     let printed = session.turn(folder, line)?;
     print(out, printed.as_slice())
@@ -138,10 +142,10 @@ fn answer<F: Folder, K: Sink>(
 
 // Prints the last line of a walk that took so many lines.
 #[tactic(auto, using(crate::proofs::Fronts::front_none))]
-fn close<K: Sink>(alloc: Global, taken: u32, ending: Ending, out: &mut K) -> Result<(), RunFault>
-    ensures closed { OnOk result (K.written out.new ≡ appended (K.written out.old) (last_line (taken + 1) ending)) }
-    ensures front { HoldsFront (K.written out.old) (K.written out.new) (last_line (taken + 1) ending) }
-    ensures cause { HasCause RunFault.SinkFault (K.faults out.old) (K.faults out.new) result }
+fn close<K: Sink>(alloc: Global, taken: u32, ending: WalkEnd, out: &mut K) -> Result<(), RunFault>
+    ensures closed { OnOk result ((K.seen out.new).written ≡ appended (K.seen out.old).written (last_line (taken + 1) ending)) }
+    ensures front { HoldsFront (K.seen out.old).written (K.seen out.new).written (last_line (taken + 1) ending) }
+    ensures counts { Counts (IsErrOf result RunFault.SinkFault) (K.seen out.old).faults (K.seen out.new).faults }
     ensures no_script { IsErrOf result RunFault.ScriptFault → ⊥ }
 {
     let printed = last_line(alloc, taken as u64 + 1, ending)?;
@@ -150,9 +154,9 @@ fn close<K: Sink>(alloc: Global, taken: u32, ending: Ending, out: &mut K) -> Res
 
 // Writes what was printed.
 fn print<K: Sink>(out: &mut K, printed: &[u8]) -> Result<(), RunFault>
-    ensures ok { OnOk result (K.written out.new ≡ appended (K.written out.old) printed.now) }
-    ensures front { HoldsFront (K.written out.old) (K.written out.new) printed.now }
-    ensures cause { HasCause RunFault.SinkFault (K.faults out.old) (K.faults out.new) result }
+    ensures ok { OnOk result ((K.seen out.new).written ≡ appended (K.seen out.old).written printed.now) }
+    ensures front { HoldsFront (K.seen out.old).written (K.seen out.new).written printed.now }
+    ensures counts { Counts (IsErrOf result RunFault.SinkFault) (K.seen out.old).faults (K.seen out.new).faults }
     ensures no_script { IsErrOf result RunFault.ScriptFault → ⊥ }
 {
     match write_all(out, printed) {

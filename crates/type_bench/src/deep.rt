@@ -1,6 +1,6 @@
 //! Walks of types that are deep: arrays in arrays, as `number[][]` makes them, and objects in
-//! objects, as lines `const x1 = {a: x0};` do. Each type is forgotten but where its drop is the
-//! walk, so that one walk alone takes stack.
+//! objects or functions to functions, as lines `const x1 = {a: x0};` do. Each type is forgotten but
+//! where its drop is the walk, so that one walk alone takes stack.
 use alias_members::members;
 use alias_table::AliasTable;
 use flow_values::{List, NoMemory, Shared, Text};
@@ -8,7 +8,7 @@ use std::alloc::Global;
 use std::cmp::Ordering;
 use std::mem;
 use type_terms::{brief, join, show, widen};
-use type_values::{FlowProp, FlowType, Param, Variance};
+use type_values::{FlowProp, FlowType, Variance};
 
 fn array(alloc: Global, t: FlowType) -> Result<FlowType, NoMemory> {
     Ok(FlowType::Array(Shared::new(alloc, t)?))
@@ -26,28 +26,10 @@ fn object(alloc: Global, t: FlowType) -> Result<FlowType, NoMemory> {
     Ok(FlowType::Object { exact: true, props })
 }
 
-fn tuple(alloc: Global, t: FlowType) -> Result<FlowType, NoMemory> {
-    let mut all = List::new(alloc);
-    all.push(t)?;
-    Ok(FlowType::Tuple(Shared::new(alloc, all)?))
-}
-
-// A union of one part, which no source makes.
-fn union(alloc: Global, t: FlowType) -> Result<FlowType, NoMemory> {
-    let mut all = List::new(alloc);
-    all.push(t)?;
-    Ok(FlowType::Union(Shared::new(alloc, all)?))
-}
-
 fn function(alloc: Global, t: FlowType) -> Result<FlowType, NoMemory> {
-    let mut params = List::new(alloc);
-    params.push(Param {
-        optional: false,
-        ty: t,
-    })?;
     Ok(FlowType::Function {
-        params: Shared::new(alloc, params)?,
-        result: Shared::new(alloc, FlowType::Void)?,
+        params: Shared::new(alloc, List::new(alloc))?,
+        result: Shared::new(alloc, t)?,
     })
 }
 
@@ -56,8 +38,6 @@ fn deep(alloc: Global, shape: &[u8], depth: u64) -> Result<FlowType, NoMemory> {
     for _ in 0..depth {
         t = match shape {
             b"objects" => object(alloc, t)?,
-            b"tuples" => tuple(alloc, t)?,
-            b"unions" => union(alloc, t)?,
             b"functions" => function(alloc, t)?,
             _ => array(alloc, t)?,
         };

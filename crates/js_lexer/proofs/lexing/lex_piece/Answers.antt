@@ -1,18 +1,19 @@
-use Rattle.std.proofs.Common.{drop, arith}
+use Rattle.std.proofs.Common.{◌≡◌, ◌∙◌, ℕ, List, ap, sym, drop, subst, length, take, ◌-◌}
 use Rattle.std.proofs.lemmas.List.{take_rest}
-use Rattle.js_lexer.proofs.Steps.{byte_len_take}
+use Rattle.std.specs.Str.{chars}
+use Rattle.lex_pieces.specs.Bytes.{IsTold}
+use Rattle.js_lexer.proofs.Steps.{told_step, told_fits}
 use Rattle.js_lexer.proofs.lexing.lex_piece.Goals as goal
 
-pub utf8_len-bytes-requires : goal.utf8_len-bytes-requires
-utf8_len-bytes-requires c =
-    rw (take_rest c.args.text.now c.args.from)
-    (omega (arith, byte_len_take (drop c.args.from c.args.text.now) c.in-Some.field-0.len, c.requires.fits))
+pub put_told-requires : goal.put_told-requires
+put_told-requires c =
+    let text : List ℕ = c.args.text.now in
+    let same : take (length c.as_bytes.result.now - c.args.at) (drop c.args.at c.as_bytes.result.now) ≡ drop c.args.at text = take_rest c.as_bytes.result.now c.args.at ∙ ap (drop c.args.at) c.as_bytes.ensures.value in
+    told_fits (drop c.args.from (chars text)) _ c.args.at c.in-Some.piece (subst (IsTold _) c.in-Some.is c.in_ok-told.ensures) (c.requires.place ∙ sym same) c.requires.fits
 
-pub overflow_add-span : goal.overflow_add-span
-overflow_add-span c =
-    omega (
-      arith,
-      byte_len_take (drop c.args.from c.args.text.now) c.in-Some.field-0.len,
-      c.requires.fits,
-      rw (take_rest c.args.text.now c.args.from) at c.utf8_len-bytes.ensures,
-    )
+pub returns-in_ok-put_told-in-Some-clause-step : goal.returns-in_ok-put_told-in-Some-clause-step
+returns-in_ok-put_told-in-Some-clause-step c =
+    let text : List ℕ = c.args.text.now in
+    let same : take (length c.as_bytes.result.now - c.args.at) (drop c.args.at c.as_bytes.result.now) ≡ drop c.args.at text = take_rest c.as_bytes.result.now c.args.at ∙ ap (drop c.args.at) c.as_bytes.ensures.value in
+    told_step (drop c.args.from (chars text)) _ c.args.at c.in-Some.piece c.args.tokens.now c.put_told.new.tokens c.in_ok-put_told-in-Some.field-0 (subst (IsTold _) c.in-Some.is c.in_ok-told.ensures) (c.requires.place ∙ sym same)
+    c.in_ok-put_told-in-Some.ensures

@@ -30,9 +30,9 @@ settle-requires-clause-rising g c =
 pub returns-clause-result : goal.returns-clause-result
 returns-clause-result g c =
     let few : length c.args.edits.now.rows ≤ c.capacity.result = omega (arith, c.rows.ensures.few, c.capacity.ensures) in
-    let taken = subst (λ rows. IsTaken (g.F.Folder.told c.args.folder.now) rows c.in-Ok.program) c.rows.ensures.rows c.in-Ok.ensures.program in
-    done _ c.args.edits.now.rows _ _ c.in-Ok-plan_of.plan taken c.in-Ok-plan_of.ensures few _ _ _ _ c.settle.ensures.rows (omega (arith, c.capacity.ensures, c.requires.room.entities))
+    let taken = subst (λ rows. IsTaken (g.F.Folder.seen c.args.folder.now).told rows c.in-Ok.program) c.rows.ensures.rows c.in-Ok.ensures.program in
+    done _ _ _ _ c.in-Ok-plan_of.plan taken c.in-Ok-plan_of.ensures few _ c.settle.ensures.rows (omega (arith, c.capacity.ensures, c.requires.room.entities))
     (rw c.as_slice.ensures.value at c.in-Ok-commit_state.ensures.ok)
 
 pub returns-clause-room : goal.returns-clause-room
-returns-clause-room g c = room_done _ _ _ _ _ _ _ _ c.args.edits.now.capacity _ (returns-clause-result g c) c.requires.room c.settle.ensures.capacity
+returns-clause-room g c = room_done _ _ _ _ _ c.args.edits.now.capacity _ (returns-clause-result g c) c.requires.room c.settle.ensures.capacity

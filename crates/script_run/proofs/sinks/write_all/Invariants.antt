@@ -5,8 +5,8 @@ use Rattle.script_run.proofs.sinks.write_all.Given as goal
 abbrev pub invariant-loop-at : goal.invariant-loop-at
 invariant-loop-at g l = record {
   within : l.at ≤ length l.bytes;
-  written : g.K.Sink.written l.out ≡ appended (g.K.Sink.written l.fn.out) (take l.at l.bytes);
-  later : g.K.Sink.faults l.fn.out ≤ g.K.Sink.faults l.out;
+  written : (g.K.Sink.seen l.out).written ≡ appended (g.K.Sink.seen l.fn.out).written (take l.at l.bytes);
+  faults : (g.K.Sink.seen l.out).faults ≡ (g.K.Sink.seen l.fn.out).faults;
 }
 
 abbrev pub decreases-loop-at : goal.decreases-loop-at

@@ -1,77 +1,104 @@
-use Rattle.std.proofs.Common.{rules, ◌≡◌, refl, sym, ap, ◌∙◌, subst, arith, []}
+use Rattle.std.proofs.Common.{rules, refl, sym, ap, ◌∙◌, subst, arith, []}
+use Rattle.flow_base.specs.Seen.{outside}
 use Rattle.flow_model.specs.Errors.{full1, error_count}
 use Rattle.script_reader.specs.Lines.{bytes_left, lines_left}
-use Rattle.script_run.specs.Transcript.{Standing}
-use Rattle.script_run.specs.Steps.{HasWalked, Takes, Closes, Breaks}
+use Rattle.script_run.specs.Transcript.{Standing, start}
+use Rattle.script_run.specs.Steps.{walk_state, HasWalked, Takes, Closes}
 use Rattle.script_run.proofs.Givens.{begins, then_front, took_all}
 use Rattle.script_run.proofs.Walks.{on_err, some_of, none_of, begin, more, stops, finishes, front_of_run, front_of_walk, front_of_break, front_of_load}
 use Rattle.script_run.proofs.walk.run.Goals as goal
 
 pub returns-in_err-session-clause-front : goal.returns-in_err-session-clause-front
 returns-in_err-session-clause-front g c =
-    on_err c.from_residual.result _ (front_of_load (g.F.Folder.told c.args.folder.now) c.args.listed (lines_left [] (g.S.Source.left c.args.script.now)) (g.K.Sink.written c.args.out.now) (g.F.Folder.faults c.args.folder.now) (g.K.Sink.written c.load.new.out) c.in_err-session.ensures.front)
+    on_err c.from_residual.result _
+    (front_of_load c.args.listed (walk_state (start c.args.listed) (g.F.Folder.seen c.args.folder.now) (g.K.Sink.seen c.args.out.now)) (g.S.Source.seen c.args.script.now)
+    (outside (g.F.Folder.seen c.load.new.folder) (g.S.Source.seen c.args.script.now) (g.K.Sink.seen c.load.new.out)) refl c.in_err-session.ensures.front)
 
 pub returns-in_err-reader-clause-front : goal.returns-in_err-reader-clause-front
 returns-in_err-reader-clause-front g c =
+    let before = walk_state (start c.args.listed) (g.F.Folder.seen c.args.folder.now) (g.K.Sink.seen c.args.out.now) in
+    let now = walk_state c.in_ok-session.session (g.F.Folder.seen c.load.new.folder) (g.K.Sink.seen c.load.new.out) in
+    let source = g.S.Source.seen c.args.script.now in
     on_err c.from_residual-in_err-reader.result _
-    (front_of_walk (g.F.Folder.told c.args.folder.now) c.args.listed (lines_left [] (g.S.Source.left c.args.script.now)) (g.K.Sink.written c.args.out.now) (g.F.Folder.faults c.args.folder.now) (lines_left [] (g.S.Source.left c.args.script.now)) 0 c.in_ok-session.session (g.K.Sink.written c.load.new.out) (g.K.Sink.written c.load.new.out)
-    (g.F.Folder.faults c.load.new.folder) refl (begin (g.F.Folder.told c.args.folder.now) c.args.listed (lines_left [] (g.S.Source.left c.args.script.now)) (g.K.Sink.written c.args.out.now) (g.F.Folder.faults c.args.folder.now) c.in_ok-session.session (g.K.Sink.written c.load.new.out) (g.F.Folder.faults c.load.new.folder) c.in_ok-session.ensures.loaded))
+    (front_of_walk c.args.listed before source (lines_left [] source.left) 0 now (outside now.folder source now.out) refl
+    (begin c.args.listed (lines_left [] source.left) before now refl c.in_ok-session.ensures.loaded))
 
 pub loop-reader-init : goal.loop-reader-init
-loop-reader-init g c = record {
-  walked =
-      subst (λ r. HasWalked (g.F.Folder.told c.args.folder.now) c.args.listed (lines_left [] (g.S.Source.left c.args.script.now)) (lines_left r (g.S.Source.left c.args.script.now)) 0 c.in_ok-session.session
-      (g.K.Sink.written c.args.out.now) (g.K.Sink.written c.load.new.out) (g.F.Folder.faults c.args.folder.now) (g.F.Folder.faults c.load.new.folder)) (sym c.in_ok-reader.ensures)
-      (begin (g.F.Folder.told c.args.folder.now) c.args.listed (lines_left [] (g.S.Source.left c.args.script.now)) (g.K.Sink.written c.args.out.now) (g.F.Folder.faults c.args.folder.now) c.in_ok-session.session (g.K.Sink.written c.load.new.out) (g.F.Folder.faults c.load.new.folder) c.in_ok-session.ensures.loaded);
-  front = begins (g.S.Source.left c.args.script.now) c.in_ok-reader.reader c.in_ok-reader.ensures;
-  few = omega arith;
-  told = c.load.ensures.told;
-  folder_later = c.load.ensures.later;
-  script_later = omega arith;
-  sink_later = c.load.ensures.cause.later;
-}
+loop-reader-init g c =
+    let before = walk_state (start c.args.listed) (g.F.Folder.seen c.args.folder.now) (g.K.Sink.seen c.args.out.now) in
+    let now = walk_state c.in_ok-session.session (g.F.Folder.seen c.load.new.folder) (g.K.Sink.seen c.load.new.out) in
+    let left = (g.S.Source.seen c.args.script.now).left in
+    record {
+      walked =
+          subst (λ r. HasWalked c.args.listed (lines_left [] left) (lines_left r left) 0 before now) (sym c.in_ok-reader.ensures)
+          (begin c.args.listed (lines_left [] left) before now refl c.in_ok-session.ensures.loaded);
+      front = begins left c.in_ok-reader.reader c.in_ok-reader.ensures;
+      few = omega arith;
+      told = c.load.ensures.told;
+      folder_later = c.load.ensures.later;
+      script_faults = refl;
+      sink_faults = c.in_ok-session.ensures.counts.stays (search rules);
+    }
 
 pub returns-in_err-ending-clause-stopped : goal.returns-in_err-ending-clause-stopped
 returns-in_err-ending-clause-stopped g c = λ is.
-    stops (g.F.Folder.told c.args.folder.now) c.args.listed (g.S.Source.left c.args.script.now) (g.S.Source.left c.step.new.script) (g.K.Sink.written c.args.out.now) (g.F.Folder.faults c.args.folder.now)
-    (lines_left c.loop-reader.reader (g.S.Source.left c.loop-reader.script)) c.loop-reader.taken c.loop-reader.session (g.K.Sink.written c.loop-reader.out) (g.K.Sink.written c.step.new.out)
-    (g.F.Folder.faults c.loop-reader.folder) (g.F.Folder.faults c.step.new.folder) c.step.ensures.later (search rules) c.loop-reader.invariant.walked
-    (took_all c.loop-reader.invariant.walked.lines (g.S.Source.left c.args.script.now) (bytes_left c.loop-reader.reader (g.S.Source.left c.loop-reader.script)) (g.S.Source.left c.step.new.script)
+    let before = walk_state (start c.args.listed) (g.F.Folder.seen c.args.folder.now) (g.K.Sink.seen c.args.out.now) in
+    let mid = walk_state c.loop-reader.session (g.F.Folder.seen c.loop-reader.folder) (g.K.Sink.seen c.loop-reader.out) in
+    let now = outside (g.F.Folder.seen c.step.new.folder) (g.S.Source.seen c.step.new.script) (g.K.Sink.seen c.step.new.out) in
+    let left = lines_left c.loop-reader.reader (g.S.Source.seen c.loop-reader.script).left in
+    stops c.args.listed before (g.S.Source.seen c.args.script.now) left c.loop-reader.taken mid now (search rules) (search rules) c.loop-reader.invariant.walked
+    (took_all c.loop-reader.invariant.walked.lines (g.S.Source.seen c.args.script.now).left (bytes_left c.loop-reader.reader (g.S.Source.seen c.loop-reader.script).left) (g.S.Source.seen c.step.new.script).left
     c.step.new.reader c.loop-reader.invariant.walked.leaves c.loop-reader.invariant.front (search rules) (search rules))
 
 pub returns-in_err-ending-clause-front : goal.returns-in_err-ending-clause-front
 returns-in_err-ending-clause-front g c =
+    let before = walk_state (start c.args.listed) (g.F.Folder.seen c.args.folder.now) (g.K.Sink.seen c.args.out.now) in
+    let mid = walk_state c.loop-reader.session (g.F.Folder.seen c.loop-reader.folder) (g.K.Sink.seen c.loop-reader.out) in
+    let now = outside (g.F.Folder.seen c.step.new.folder) (g.S.Source.seen c.step.new.script) (g.K.Sink.seen c.step.new.out) in
     on_err c.from_residual-in_err-ending.result _
-    (front_of_break (g.F.Folder.told c.args.folder.now) c.args.listed (lines_left [] (g.S.Source.left c.args.script.now)) (g.K.Sink.written c.args.out.now) (g.F.Folder.faults c.args.folder.now) (lines_left c.loop-reader.reader (g.S.Source.left c.loop-reader.script)) c.loop-reader.taken c.loop-reader.session (g.K.Sink.written c.loop-reader.out) (g.K.Sink.written c.step.new.out) (g.F.Folder.faults c.loop-reader.folder) c.loop-reader.invariant.walked
-    (subst (λ t. Breaks t c.loop-reader.taken (lines_left c.loop-reader.reader (g.S.Source.left c.loop-reader.script)) c.loop-reader.session (g.K.Sink.written c.loop-reader.out) (g.K.Sink.written c.step.new.out)) c.loop-reader.invariant.told c.in_err-ending.ensures.breaks))
+    (front_of_break c.args.listed before (g.S.Source.seen c.args.script.now) (lines_left c.loop-reader.reader (g.S.Source.seen c.loop-reader.script).left) c.loop-reader.taken mid now
+    c.loop-reader.invariant.told c.loop-reader.invariant.walked c.in_err-ending.ensures.breaks)
 
 pub returns-in_err-errors-in-Some-clause-front : goal.returns-in_err-errors-in-Some-clause-front
 returns-in_err-errors-in-Some-clause-front g c =
-    let closes = (some_of c.in_ok-ending.field-0 c.in-Some.ending (λ how. Closes how c.loop-reader.taken (lines_left c.loop-reader.reader (g.S.Source.left c.loop-reader.script)) (g.K.Sink.written c.loop-reader.out) (g.K.Sink.written c.step.new.out) × (c.step.new.session ≡ c.loop-reader.session)) c.in-Some.is c.in_ok-ending.ensures.closes) in
+    let before = walk_state (start c.args.listed) (g.F.Folder.seen c.args.folder.now) (g.K.Sink.seen c.args.out.now) in
+    let mid = walk_state c.loop-reader.session (g.F.Folder.seen c.loop-reader.folder) (g.K.Sink.seen c.loop-reader.out) in
+    let now = walk_state c.step.new.session (g.F.Folder.seen c.step.new.folder) (g.K.Sink.seen c.step.new.out) in
+    let source = g.S.Source.seen c.args.script.now in
+    let source' = g.S.Source.seen c.step.new.script in
+    let left = lines_left c.loop-reader.reader (g.S.Source.seen c.loop-reader.script).left in
+    let closes = some_of c.in_ok-ending.field-0 c.in-Some.ending (λ how. Closes how c.loop-reader.taken left mid now) c.in-Some.is c.in_ok-ending.ensures.closes in
     on_err c.from_residual-in_err-errors-in-Some.result _
-    (front_of_run (g.F.Folder.told c.args.folder.now) c.args.listed (lines_left [] (g.S.Source.left c.args.script.now)) (g.K.Sink.written c.args.out.now) (g.F.Folder.faults c.args.folder.now) c.in-Some.ending (error_count (full1 c.loop-reader.session.program)) (g.K.Sink.written c.step.new.out) (g.F.Folder.faults c.step.new.folder)
-    (finishes (g.F.Folder.told c.args.folder.now) c.args.listed (lines_left [] (g.S.Source.left c.args.script.now)) (g.K.Sink.written c.args.out.now) (g.F.Folder.faults c.args.folder.now) (lines_left c.loop-reader.reader (g.S.Source.left c.loop-reader.script)) c.loop-reader.taken c.loop-reader.session (g.K.Sink.written c.loop-reader.out) (g.K.Sink.written c.step.new.out) (g.F.Folder.faults c.loop-reader.folder) (g.F.Folder.faults c.step.new.folder) c.in-Some.ending (error_count (full1 c.loop-reader.session.program)) c.step.ensures.later refl c.loop-reader.invariant.walked closes.0))
+    (front_of_run c.args.listed before source c.in-Some.ending (error_count (full1 mid.standing.program)) (outside now.folder source' now.out)
+    (finishes c.args.listed before source left c.loop-reader.taken mid now source' c.in-Some.ending (error_count (full1 mid.standing.program)) refl c.loop-reader.invariant.walked closes))
 
 pub returns-in-Some-clause-ended : goal.returns-in-Some-clause-ended
 returns-in-Some-clause-ended g c =
-    let closes = (some_of c.in_ok-ending.field-0 c.in-Some.ending (λ how. Closes how c.loop-reader.taken (lines_left c.loop-reader.reader (g.S.Source.left c.loop-reader.script)) (g.K.Sink.written c.loop-reader.out) (g.K.Sink.written c.step.new.out) × (c.step.new.session ≡ c.loop-reader.session)) c.in-Some.is c.in_ok-ending.ensures.closes) in
-    finishes (g.F.Folder.told c.args.folder.now) c.args.listed (lines_left [] (g.S.Source.left c.args.script.now)) (g.K.Sink.written c.args.out.now) (g.F.Folder.faults c.args.folder.now) (lines_left c.loop-reader.reader (g.S.Source.left c.loop-reader.script)) c.loop-reader.taken c.loop-reader.session (g.K.Sink.written c.loop-reader.out) (g.K.Sink.written c.step.new.out) (g.F.Folder.faults c.loop-reader.folder) (g.F.Folder.faults c.step.new.folder) c.in-Some.ending c.in_ok-errors-in-Some.errors c.step.ensures.later
-    (c.in_ok-errors-in-Some.ensures ∙ ap (λ (s : Standing). error_count (full1 s.program)) closes.1) c.loop-reader.invariant.walked closes.0
+    let before = walk_state (start c.args.listed) (g.F.Folder.seen c.args.folder.now) (g.K.Sink.seen c.args.out.now) in
+    let mid = walk_state c.loop-reader.session (g.F.Folder.seen c.loop-reader.folder) (g.K.Sink.seen c.loop-reader.out) in
+    let now = walk_state c.step.new.session (g.F.Folder.seen c.step.new.folder) (g.K.Sink.seen c.step.new.out) in
+    let left = lines_left c.loop-reader.reader (g.S.Source.seen c.loop-reader.script).left in
+    let closes = some_of c.in_ok-ending.field-0 c.in-Some.ending (λ how. Closes how c.loop-reader.taken left mid now) c.in-Some.is c.in_ok-ending.ensures.closes in
+    finishes c.args.listed before (g.S.Source.seen c.args.script.now) left c.loop-reader.taken mid now (g.S.Source.seen c.step.new.script) c.in-Some.ending c.in_ok-errors-in-Some.errors
+    (c.in_ok-errors-in-Some.ensures ∙ ap (λ (s : Standing). error_count (full1 s.program)) closes.standing) c.loop-reader.invariant.walked closes
 
 pub loop-reader-preserved : goal.loop-reader-preserved
 loop-reader-preserved g c =
-    let takes =
-    subst (λ t. Takes t c.loop-reader.taken (lines_left c.loop-reader.reader (g.S.Source.left c.loop-reader.script)) (lines_left c.step.new.reader (g.S.Source.left c.step.new.script)) c.loop-reader.session c.step.new.session (g.K.Sink.written c.loop-reader.out) (g.K.Sink.written c.step.new.out) (g.F.Folder.faults c.loop-reader.folder) (g.F.Folder.faults c.step.new.folder)) c.loop-reader.invariant.told
-    (none_of c.in_ok-ending.field-0 _ c.in-None.is c.in_ok-ending.ensures.takes)
-    in
+    let before = walk_state (start c.args.listed) (g.F.Folder.seen c.args.folder.now) (g.K.Sink.seen c.args.out.now) in
+    let mid = walk_state c.loop-reader.session (g.F.Folder.seen c.loop-reader.folder) (g.K.Sink.seen c.loop-reader.out) in
+    let now = walk_state c.step.new.session (g.F.Folder.seen c.step.new.folder) (g.K.Sink.seen c.step.new.out) in
+    let left = lines_left c.loop-reader.reader (g.S.Source.seen c.loop-reader.script).left in
+    let left' = lines_left c.step.new.reader (g.S.Source.seen c.step.new.script).left in
+    let takes = none_of c.in_ok-ending.field-0 (Takes c.loop-reader.taken left left' mid now) c.in-None.is c.in_ok-ending.ensures.takes in
     record {
-      walked = more (g.F.Folder.told c.args.folder.now) c.args.listed (lines_left [] (g.S.Source.left c.args.script.now)) (g.K.Sink.written c.args.out.now) (g.F.Folder.faults c.args.folder.now) (lines_left c.loop-reader.reader (g.S.Source.left c.loop-reader.script)) (lines_left c.step.new.reader (g.S.Source.left c.step.new.script)) c.loop-reader.taken c.loop-reader.session c.step.new.session (g.K.Sink.written c.loop-reader.out) (g.K.Sink.written c.step.new.out) (g.F.Folder.faults c.loop-reader.folder) (g.F.Folder.faults c.step.new.folder) c.step.ensures.later c.loop-reader.invariant.walked takes;
+      walked = more c.args.listed (lines_left [] (g.S.Source.seen c.args.script.now).left) before left left' c.loop-reader.taken mid now
+          c.loop-reader.invariant.told c.loop-reader.invariant.walked takes;
       front =
-          then_front (g.S.Source.left c.args.script.now) (bytes_left c.loop-reader.reader (g.S.Source.left c.loop-reader.script)) (bytes_left c.step.new.reader (g.S.Source.left c.step.new.script))
+          then_front (g.S.Source.seen c.args.script.now).left (bytes_left c.loop-reader.reader (g.S.Source.seen c.loop-reader.script).left) (bytes_left c.step.new.reader (g.S.Source.seen c.step.new.script).left)
           c.loop-reader.invariant.front c.step.ensures.front;
       few = omega (arith, takes.is.few);
       told = c.step.ensures.told ∙ c.loop-reader.invariant.told;
       folder_later = omega (arith, c.step.ensures.later);
-      script_later = omega (arith, c.step.ensures.script_cause.later);
-      sink_later = omega (arith, c.step.ensures.sink_cause.later);
+      script_faults = c.in_ok-ending.ensures.script_counts.stays (search rules) ∙ c.loop-reader.invariant.script_faults;
+      sink_faults = c.in_ok-ending.ensures.sink_counts.stays (search rules) ∙ c.loop-reader.invariant.sink_faults;
     }

@@ -1,19 +1,19 @@
 use Rattle.std.proofs.Common.{◌≡◌, ◌≤◌, ◌-◌, []}
 use Rattle.script_reader.specs.Lines.{bytes_left, lines_left, TakesFront}
-use Rattle.script_run.specs.Transcript.{MOST_LINES}
-use Rattle.script_run.specs.Steps.{HasWalked}
+use Rattle.script_run.specs.Transcript.{start, MOST_LINES}
+use Rattle.script_run.specs.Steps.{walk_state, HasWalked}
 use Rattle.script_run.proofs.walk.run.Given as goal
 
 abbrev pub invariant-loop-reader : goal.invariant-loop-reader
 invariant-loop-reader g l = record {
-  walked : HasWalked (g.F.Folder.told l.fn.folder) l.fn.listed (lines_left [] (g.S.Source.left l.fn.script)) (lines_left l.reader (g.S.Source.left l.script)) l.taken l.session
-      (g.K.Sink.written l.fn.out) (g.K.Sink.written l.out) (g.F.Folder.faults l.fn.folder) (g.F.Folder.faults l.folder);
-  front : TakesFront (g.S.Source.left l.fn.script) (bytes_left l.reader (g.S.Source.left l.script));
+  walked : HasWalked l.fn.listed (lines_left [] (g.S.Source.seen l.fn.script).left) (lines_left l.reader (g.S.Source.seen l.script).left) l.taken
+      (walk_state (start l.fn.listed) (g.F.Folder.seen l.fn.folder) (g.K.Sink.seen l.fn.out)) (walk_state l.session (g.F.Folder.seen l.folder) (g.K.Sink.seen l.out));
+  front : TakesFront (g.S.Source.seen l.fn.script).left (bytes_left l.reader (g.S.Source.seen l.script).left);
   few : l.taken ≤ MOST_LINES;
-  told : g.F.Folder.told l.folder ≡ g.F.Folder.told l.fn.folder;
-  folder_later : g.F.Folder.faults l.fn.folder ≤ g.F.Folder.faults l.folder;
-  script_later : g.S.Source.faults l.fn.script ≤ g.S.Source.faults l.script;
-  sink_later : g.K.Sink.faults l.fn.out ≤ g.K.Sink.faults l.out;
+  told : (g.F.Folder.seen l.folder).told ≡ (g.F.Folder.seen l.fn.folder).told;
+  folder_later : (g.F.Folder.seen l.fn.folder).faults ≤ (g.F.Folder.seen l.folder).faults;
+  script_faults : (g.S.Source.seen l.script).faults ≡ (g.S.Source.seen l.fn.script).faults;
+  sink_faults : (g.K.Sink.seen l.out).faults ≡ (g.K.Sink.seen l.fn.out).faults;
 }
 
 abbrev pub decreases-loop-reader : goal.decreases-loop-reader

@@ -3,5 +3,5 @@ use Rattle.script_run.proofs.session.Session.recheck.Goals as goal
 
 pub returns-clause-rechecked : goal.returns-clause-rechecked
 returns-clause-rechecked g c =
-    rechecked (g.F.Folder.told c.args.folder.now) c.self.inside.edits c.recheck_all-outcome.new.edits _ _ c.args.self.now c.recheck_all-outcome.result c.version.result _ _ _ _
-    c.self.view_is c.recheck_all-outcome.ensures.result c.recheck_all-outcome.ensures.cause c.recheck_all-outcome.ensures.later c.version.ensures c.in_ok-outcome_line.ensures
+    rechecked _ _ c.args.self.now c.recheck_all-outcome.result c.version.result _ c.self.view_is c.recheck_all-outcome.ensures.result c.recheck_all-outcome.ensures.reads
+    (g.met.F.Folder.bounded c.args.folder.now) c.version.ensures c.in_ok-outcome_line.ensures

@@ -4,16 +4,16 @@ use Rattle.script_run.proofs.Sessions.{turned_blank, turned_edit, turned_recheck
 use Rattle.script_run.proofs.session.Session.turn.Goals as goal
 
 pub returns-in-Blank-clause-turned : goal.returns-in-Blank-clause-turned
-returns-in-Blank-clause-turned g c = turned_blank _ c.args.line c.args.self.now _ _ c.in-Blank.is c.new.ensures.items
+returns-in-Blank-clause-turned g c = turned_blank c.args.line c.args.self.now _ _ (g.met.F.Folder.bounded c.args.folder.now) c.in-Blank.is c.new.ensures.items
 
 pub returns-in-Edit-clause-turned : goal.returns-in-Edit-clause-turned
 returns-in-Edit-clause-turned g c =
-    IfOk-weaker c.edit.result _ _ (λ printed edited. turned_edit _ c.args.line c.in-Edit.path c.in-Edit.text c.args.self.now c.edit.new.self printed.items _ c.in-Edit.is edited) c.edit.ensures
+    IfOk-weaker c.edit.result _ _ (λ printed edited. turned_edit c.args.line c.in-Edit.path c.in-Edit.text c.args.self.now c.edit.new.self printed.items _ (g.met.F.Folder.bounded c.args.folder.now) c.in-Edit.is edited) c.edit.ensures
 
 pub returns-in_ok-recheck-in-Recheck-clause-turned : goal.returns-in_ok-recheck-in-Recheck-clause-turned
 returns-in_ok-recheck-in-Recheck-clause-turned g c =
-    turned_recheck _ c.args.line c.args.self.now c.recheck.new.self _ _ _ _ c.in-Recheck.is (ap (λ v. v.items) c.into_bytes.ensures.value) c.in_ok-recheck-in-Recheck.ensures.rechecked
+    turned_recheck c.args.line c.args.self.now c.recheck.new.self _ _ _ _ c.in-Recheck.is (ap (λ v. v.items) c.into_bytes.ensures.value) c.in_ok-recheck-in-Recheck.ensures.rechecked
 
 pub returns-in-Ask-Status-clause-turned : goal.returns-in-Ask-Status-clause-turned
 returns-in-Ask-Status-clause-turned g c =
-    IfOk-weaker c.status.result _ _ (λ printed is. turned_status _ c.args.line c.args.self.now printed.items _ (search rules) is) c.status.ensures
+    IfOk-weaker c.status.result _ _ (λ printed is. turned_status c.args.line c.args.self.now printed.items _ (g.met.F.Folder.bounded c.args.folder.now) (search rules) is) c.status.ensures
