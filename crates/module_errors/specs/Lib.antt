@@ -2,4 +2,3 @@ pub mod Program
 pub mod TopNames
 pub mod Items
 pub mod Errors
-pub mod KeyLaw

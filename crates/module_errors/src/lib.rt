@@ -1,12 +1,5 @@
-//! The errors of a module, and the law that they depend on other modules only where it reaches. The definitions stand in `specs/`;
-//! the code here is the law, as the contract of a function that does nothing.
+//! How the items of a module are read, and its errors. The definitions stand in `specs/`, apart from all code.
 #![tactic(auto)]
 
-ghost use Rattle.module_errors.specs.KeyLaw.{KeyLaw, OneAnswer};
-
-/// A module's errors are the same in all programs whose merged signatures agree where the module reaches, and there is one list of
-/// them.
-pub fn errors_by_reach()
-    ensures law { KeyLaw }
-    ensures one { OneAnswer }
-{}
+/// Nothing.
+pub fn nothing() {}

@@ -1,10 +1,11 @@
--- What agrees where a module reaches reaches the same.
-use Rattle.std.proofs.Common.{◌≡◌, Option, Some, None, sym, ap}
+-- What agrees where a module reaches reaches the same, and has the same table.
+use Rattle.std.proofs.Common.{◌≡◌, ℕ, List, Option, Some, None, sym}
 use Rattle.check_values.specs.Rows.{Bytes}
 use Rattle.check_values.specs.declared.signatures.Deps.{Deps}
 use Rattle.check_values.specs.declared.signatures.Sig.{Sig}
 use Rattle.merged_signatures.specs.Reach.{Reach, by_specifier, by_signature}
-use Rattle.module_errors.specs.KeyLaw.{Sigs, IsTable, errors_by, Agree, KeyLaw, OneAnswer}
+use Rattle.errors_by_reach.specs.Seen.{Sigs, IsTable}
+use Rattle.errors_by_reach.specs.Law.{Agree}
 
 there : (sigs others : Sigs) (deps : Deps) → Agree sigs deps others → (p : Bytes) → Reach sigs deps p → Reach others deps p
 there sigs others deps agree _ (by_specifier spec p e) = by_specifier spec p e
@@ -16,21 +17,16 @@ back sigs others deps agree _ (by_specifier spec p e) = by_specifier spec p e
 back sigs others deps agree _ (by_signature p q s r e c) =
     let h : Reach sigs deps p = back sigs others deps agree p r in by_signature p q s h (rw (sym (agree p h)) e) c
 
-same_table : (sigs others table : Sigs) (deps : Deps) → Agree sigs deps others → IsTable sigs deps table → IsTable others deps table
+pub same_table : (sigs others table : Sigs) (deps : Deps) → Agree sigs deps others → IsTable sigs deps table → IsTable others deps table
 same_table sigs others table deps agree t = record {
   has = λ p r. let h : Reach sigs deps p = back sigs others deps agree p r in rw (agree p h) (t.has p h);
   only = λ p s e. there sigs others deps agree p (t.only p s e);
 }
-
-pub key_law : KeyLaw
-key_law r path deps source sigs others errors agree h = (h.0, same_table sigs others h.0 deps agree h.1, h.2)
 
 at_path : (sigs a b : Sigs) (deps : Deps) → IsTable sigs deps a → IsTable sigs deps b → (p : Bytes) (x y : Option Sig) → a p ≡ x → b p ≡ y → a p ≡ b p
 at_path sigs a b deps t u p (Some s) y e f = let r = t.only p s e in rw (u.has p r) (t.has p r)
 at_path sigs a b deps t u p None (Some s) e f = let r = u.only p s f in rw (u.has p r) (t.has p r)
 at_path sigs a b deps t u p None None e f = rw e (sym f)
 
-pub one_answer : OneAnswer
-one_answer r path deps source sigs a b h k =
-    let same : h.0 ≡ k.0 = λ i p. at_path sigs h.0 k.0 deps h.1 k.1 p (h.0 p) (k.0 p) (λ _. h.0 p) (λ _. k.0 p) i in
-    rw h.2 (rw k.2 (ap (errors_by r path deps source) same))
+pub one_table : (sigs a b : Sigs) (deps : Deps) → IsTable sigs deps a → IsTable sigs deps b → a ≡ b
+one_table sigs a b deps t u = λ i p. at_path sigs a b deps t u p (a p) (b p) (λ _. a p) (λ _. b p) i
