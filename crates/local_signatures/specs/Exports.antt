@@ -9,7 +9,7 @@ use Rattle.js_grammar.specs.Items.{AliasOf, alias, exported, Exporteds, no_expor
 use Rattle.type_values.specs.declared.types.FlowType.{FlowType}
 use Rattle.type_values.specs.declared.types.FlowType as made
 use Rattle.type_names.specs.Names.{names_in}
-use Rattle.local_signatures.specs.Scope.{Binding, bound_import, bound_variable, bound_function, bound_alias, Scope, scope_of, items_in, default_name}
+use Rattle.local_signatures.specs.Scope.{Binding, bound_import, bound_variable, bound_function, bound_alias, Scope, scope_of, items_in, default_name, local_name}
 use Rattle.local_signatures.specs.Boundary.{boundary_value, boundary_function, boundary_declaration}
 
 pub data Told : Type 0 where
@@ -27,14 +27,14 @@ pub data Told : Type 0 where
 -- a variable, at its name
 abbrev pub told_variable : Scope → Declaration → Told
 told_variable scope (declaration first end binder word annotation e) =
-    told_value (boundary_declaration scope (declaration first end binder word annotation e)) (suc first) (suc (suc first))
+    told_value (boundary_declaration (local_name scope) (declaration first end binder word annotation e)) (suc first) (suc (suc first))
 
 -- a function, at its name; one that has none at the tokens from one place to another
 abbrev pub told_function : Scope → ℕ → ℕ → Function → Told
 told_function scope from to (function first end None signature body) =
-    told_value (boundary_function scope (function first end None signature body)) from to
+    told_value (boundary_function (local_name scope) (function first end None signature body)) from to
 told_function scope from to (function first end (Some word) signature body) =
-    told_value (boundary_function scope (function first end (Some word) signature body)) (suc first) (suc (suc first))
+    told_value (boundary_function (local_name scope) (function first end (Some word) signature body)) (suc first) (suc (suc first))
 
 -- what a name stands for that is exported as a type or as a value
 abbrev pub told_binding : Scope → Bool → Bytes → Option Binding → Told
@@ -74,7 +74,7 @@ told_by_export scope from to (export_alias a) = (alias_name a, told_name scope t
 told_by_export scope from to (export_names is_type names) = told_list (told_name scope is_type) names
 told_by_export scope from to (export_from is_type names spec) = told_list (λ word. told_elsewhere spec word is_type) names
 told_by_export scope from to (export_default_function f) = (default_name, told_function scope from to f) ∷ []
-told_by_export scope from to (export_default e) = (default_name, told_value (boundary_value scope e) from to) ∷ []
+told_by_export scope from to (export_default e) = (default_name, told_value (boundary_value (local_name scope) e) from to) ∷ []
 
 abbrev pub told_by_form : Scope → ℕ → ℕ → ItemForm → Rows Told
 told_by_form scope from to (exports form) = told_by_export scope from to form
