@@ -2,14 +2,14 @@
 use Rattle.std.proofs.Common.{◌≡◌, ℕ, ◌+◌, ◌*◌, ◌-◌, ◌^◌, ◌<◌, ◌≤◌, List, [], ◌∷◌, replicate, map, length, slice_get, Option, Some, refl, sym, ap, ◌∙◌, subst, arith}
 use Rattle.std.specs.Arc.{arc_value}
 use Rattle.std.proofs.lemmas.List.{length-map, length-replicate}
-use Rattle.heap_core.specs.Meaning.{Meaning, AllFit, opening}
+use Rattle.heap_core.specs.Meaning.{Meaning, AllFit, Appends, opening}
+use Rattle.heap_core.specs.Transactions.{with_state}
 use Rattle.flow_base.specs.Program.{Program, IsRising}
 use Rattle.flow_state.specs.State.{fits}
 use Rattle.flow_state.specs.declared.payload.Payload.{Payload}
 use Rattle.flow_state.specs.declared.payload.Payload.TheVariants as payload
 use Rattle.recheck_run.specs.Wanted.{Rows, paths}
 use Rattle.recheck_run.specs.Taking.{IsTaken}
-use Rattle.recheck_run.specs.Commit.{IsCommitted}
 use Rattle.recheck_run.specs.Recheck.{RecheckState, IsDone, HasRoom, IsEmptyHeap}
 use Rattle.recheck_run.specs.Staged.{root_of, state_of, IsPlanOf}
 use Rattle.recheck_run.specs.declared.plan.Plan.{Plan}
@@ -32,20 +32,24 @@ module _ (told : Option Program) (rows : Rows) (program : Program) (capacity : �
 
 -- the state of the plan was committed, and its rows settled
 pub done : (before now : RecheckState) (program : Program) (capacity : ℕ) (plan : Plan) → IsTaken before.folder.told before.edits.rows program → IsPlanOf program capacity plan → length before.edits.rows ≤ capacity → (version : ℕ)
-    → now.edits.rows ≡ plan.rows.items → length before.heap.committed ≡ 4 * capacity + 1 → IsCommitted (map arc_value plan.state.items) before.heap now.heap version → IsDone before now version plan.modules plan.errors
-done before now program capacity plan taken is_plan few version is size committed =
-    let state : now.heap.committed ≡ state_of capacity program = committed.committed ∙ is_plan.state in
+    → now.edits.rows ≡ plan.rows.items → length before.heap.committed ≡ 4 * capacity + 1 → now.heap ≡ with_state (map arc_value plan.state.items) before.heap → version ≡ now.heap.version → IsDone before now version plan.modules plan.errors
+done before now program capacity plan taken is_plan few version is size committed answers =
+    let state : now.heap.committed ≡ state_of capacity program = ap (λ (k : Meaning Payload). k.committed) committed ∙ is_plan.state in
     record {
       program = program;
       edited = taken.becomes;
       commits = (root_of program, ap (λ (l : List Payload). slice_get l 0) state, names_program program);
-      next = committed.next;
-      answers = committed.answers;
+      next = ap (λ (k : Meaning Payload). k.version) committed;
+      answers = answers;
       counts = (is_plan.modules, is_plan.errors);
       rest = is ∙ is_plan.rows;
-      closed = committed.closed;
+      closed = ap (λ (k : Meaning Payload). k.is_open) committed;
       size = ap length state ∙ length-state_of capacity program (room before.folder.told before.edits.rows program capacity plan taken is_plan few) ∙ sym size;
     }
+
+-- the state that the writer tells is the one that is committed now
+pub told_state : (before after : Option (List (List Payload))) (state : List Payload) (was now : Meaning Payload) → now ≡ with_state state was → Appends before state after → Appends before now.committed after
+told_state before after state was now is told = subst (λ (xs : List Payload). Appends before xs after) (sym (ap (λ (k : Meaning Payload). k.committed) is)) told
 
 -- a recheck that is done leaves the heap its room
 pub room_done : (before now : RecheckState) (version modules errors capacity capacity' : ℕ) → IsDone before now version modules errors → HasRoom before.heap capacity → capacity' ≡ capacity → HasRoom now.heap capacity'

@@ -1,4 +1,3 @@
-pub mod Commits
 pub mod Editing
 pub mod Finishing
 pub mod States

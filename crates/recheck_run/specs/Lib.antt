@@ -1,4 +1,3 @@
-pub mod Commit
 pub mod Place
 pub mod Recheck
 pub mod Staged

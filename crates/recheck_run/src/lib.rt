@@ -1,7 +1,6 @@
 //! The edits that wait for the next recheck, and the recheck of all modules.
 #![tactic(auto)]
 
-mod commit;
 mod edits;
 mod laws;
 mod opening;

@@ -2,12 +2,12 @@ ghost use Rattle.std.specs.Prelude.{◌≡◌, ◌+◌, ◌^◌, ◌<◌, ◌≤
 ghost use Rattle.recheck_run.specs.Recheck.{HasRoom, Rechecked, CountsReads, Tells};
 
 use crate::Edits;
-use crate::commit::commit_state;
 use crate::plan::{Plan, plan_of};
 use crate::reading::{Unread, read_program};
 use flow_base::{Folder, Path};
 use flow_state::Payload;
 use heap_core::HeapWriter;
+use heap_core::transactions::commit_state;
 use std::alloc::Global;
 
 /// How a recheck ended.
