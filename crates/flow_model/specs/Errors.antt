@@ -41,6 +41,7 @@ AreErrors source faults =
     ((ds : List Declaration) × IsFirstForm source ds × (faults ≡ faults_from 0 ds))
     ⊎ (((ds : List Declaration) → ¬ (IsFirstForm source ds)) × (faults ≡ NOT_BUILT))
 
+-- the errors of a source of these declarations, or of one that isn't of the first form
 abbrev pub or_not_built : Option (List Declaration) → List Fault
 or_not_built None = NOT_BUILT
 or_not_built (Some ds) = faults_from 0 ds

@@ -76,6 +76,7 @@ pub record Declaration : Type 0 where
   pub literal : Bytes
   pub given : Kind
 
+-- its name may be one, and its literal is of the type that it is given with
 pub record IsDeclaration (d : Declaration) : Type 0 where
   pub named : IsTrue (is_name d.name)
   pub valued : IsLiteral d.given d.literal

@@ -48,12 +48,15 @@ kind_at bytes =
     else if starts_with nat_eq bytes (codes "boolean") then Some (Boolean, drop 7 bytes)
     else None
 
+-- the declaration of a name, a type and a literal, where this text is a literal
 abbrev pub with_literal : Bytes → Kind → Bytes → Option Declaration
 with_literal name kind literal = option_map (λ given. record { name = name; kind = kind; literal = literal; given = given }) (literal_kind literal)
 
+-- the declaration of this name, from its type and what follows it: ` = LITERAL;`
 abbrev pub after_kind : Bytes → Kind × Bytes → Option Declaration
 after_kind name at = option_and_then (λ rest. option_and_then (with_literal name at.0) (before_mark rest)) (after (codes " = ") at.1)
 
+-- the declaration of this name, where it may be one, from what follows it: `: TYPE = LITERAL;`
 abbrev pub after_name : Bytes → Bytes → Option Declaration
 after_name name rest =
     if is_name name then option_and_then (λ more. option_and_then (after_kind name) (kind_at more)) (after (codes ": ") rest) else None
