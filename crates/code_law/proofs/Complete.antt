@@ -13,7 +13,7 @@ use Rattle.js_grammar.specs.Code.{Prefix, negation, minus_sign, plus_sign, kind_
 use Rattle.js_grammar.specs.CodeSpelling.{mark_of, prefix_token, binder_word, spell_prefixes, spell_annotation, spell_name, spell_sig, spell_ex, spell_ex_form, spell_exs, spell_listed, spell_link, spell_link_form, spell_links, spell_operands, spell_field, spell_fields, spell_entries, spell_arms, spell_block, spell_stmts, spell_stmt, spell_stmt_form, spell_simple, spell_simple_form, spell_body, spell_branch, spell_branches, spell_elses, spell_else}
 use Rattle.js_grammar.specs.CodePlaces.{stop_prefixes, stop_annotation, stop_name, stop_sig, stop_ex, stop_ex_form, stop_exs, stop_listed, stop_link, stop_link_form, stop_links, stop_operands, stop_field, stop_fields, stop_entries, stop_arms, stop_function, stop_declaration, stop_stmts, stop_stmt, stop_stmt_form, stop_simple, stop_simple_form, stop_body, stop_branch, stop_branches, stop_elses, stop_else}
 use Rattle.js_grammar.specs.CodeFits.{Context, inside, looping, body_context, InFunction, InLoop, FitsPrefixes, FitsAnnotation, FitsEx, FitsExForm, FitsExs, FitsLink, FitsLinkForm, FitsLinks, FitsOperands, FitsField, FitsFields, FitsArms, FitsSig, IsNamed, FitsFunction, FitsDeclaration, FitsStmts, FitsStmt, FitsStmtForm, FitsSimple, FitsSimpleForm, FitsBody, FitsBranch, FitsBranches, FitsElse}
-use Rattle.code_law.specs.Frames.{FunctionKind, is_value, is_statement, Row, array_row, call_row, returns, throws, assigns, evaluates, cast_type, declared_type, in_prefix, in_chain, in_last, in_branch, in_parens, in_row, in_index, in_field, in_arrow, in_body, in_simple, in_declaration, in_if_test, in_loop_test, in_if, in_else, in_loop, in_function, in_block, Mode, want, after_links, row_start, fields_start, after_word, function_start, settled, statements_start, after_binder, after_declared, after_return, after_simple, want_body, after_branch, after_else, Stack, go, start_ex, start_sig, start_key, context, within_function, within_loop}
+use Rattle.code_law.specs.Frames.{FunctionKind, is_value, is_statement, Row, array_row, call_row, returns, throws, assigns, evaluates, cast_type, declared_type, in_prefix, in_chain, in_last, in_branch, in_parens, in_row, in_index, in_field, in_arrow, in_body, in_simple, in_declaration, in_if_test, in_loop_test, in_if, in_else, in_loop, in_function, in_block, Mode, want, after_links, row_start, fields_start, after_word, function_start, settled, statements_start, after_binder, after_declared, after_return, after_simple, want_body, after_branch, after_else, Stack, Step, go, start_ex, start_sig, start_key, context, within_function, within_loop}
 use Rattle.code_law.specs.Bodies.{give_body, give_declaration, give_function, end_simple}
 use Rattle.code_law.specs.Ladder.{Joint, applies, casts, joins, ends, turn, joint_level, ask, begin, open_chain, join, settle_at, settle, close_row, close_fields, after_field}
 use Rattle.code_law.specs.Expressions.{marked, linked, field_step}
@@ -277,6 +277,11 @@ abbrev awaits : Branches → ℕ → ℕ → Stmts → Mode
 awaits no_branch i s ss = statements_start s ss
 awaits (more_branch bs b) i s ss = after_else i (more_branch bs b)
 
+-- the last token of a body
+abbrev pub body_end : Body → TokenKind
+body_end (block_body b) = Punct CloseBrace
+body_end (simple_body y) = Punct Semicolon
+
 if_read : (bs : Branches) (i j : ℕ) → j ≡ stop_elses bs i → (s : ℕ) (ss : Stmts) (k : Stack) (l : Tokens) →
     run j (under bs s ss k) (awaits bs i s ss) (Name (codes "if") ∷ Punct OpenParen ∷ l) ≡ run (suc (suc j)) (in_if_test i bs j ∷ in_block s ss ∷ k) want l
 if_read no_branch i j q s ss k l = ap (λ i. run (suc (suc j)) (in_if_test i no_branch j ∷ in_block s ss ∷ k) want l) q
@@ -308,7 +313,7 @@ mutual
   c_form (fields fs c) i h k a = λ l. c_fields fs c i (suc i) (h.0) (h.1) k l
   c_form (function_ex (function f t n g b)) i h k a =
       λ l. let j = stop_function (function f t n g b) i in
-      c_function (function f t n g b) i h is_value (λ e. absurd (value_statement e)) k l k (after_links (ex i j (function_ex (function f t n g b))) no_link)
+      c_function (function f t n g b) i h is_value (λ e. absurd (value_statement e)) k l (go k (after_links (ex i j (function_ex (function f t n g b))) no_link))
       (ap (λ p. go k (after_links (ex p j (function_ex (function f t n g b))) no_link)) (h.0))
   c_form (postfixed e no_link) i h k a = absurd (false≢true (h.2))
   c_form (postfixed e (more_link ls y)) i h k a =
@@ -432,9 +437,9 @@ mutual
       ∙ ap (λ y. run (suc z) (in_last i (more_arm hs y) ∷ k) want l) (ap₂ (λ f t. arm f t d g) (start-of d j (h.1.3) ∙ sym (h.1.0)) (sym (h.1.1)))
 
   -- a function behind its word
-  pub c_function : (y : Function) (i : ℕ) → FitsFunction y i → (q : FunctionKind) → (q ≡ is_statement → IsNamed y) → (k : Stack) (l : Tokens) (d : Stack) (m : Mode) → give_function (stop_function y i) k q y ≡ go d m →
-      run (suc i) k (function_start q i) (behind y l) ≡ run (stop_function y i) d m l
-  c_function (function f t n g (block a e ss)) i h q y k l d m r =
+  pub c_function : (y : Function) (i : ℕ) → FitsFunction y i → (q : FunctionKind) → (q ≡ is_statement → IsNamed y) → (k : Stack) (l : Tokens) (s : Step) → give_function (stop_function y i) k q y ≡ s →
+      run (suc i) k (function_start q i) (behind y l) ≡ resume (λ k m. run (stop_function y i) k m l) s (Punct CloseBrace ∷ l)
+  c_function (function f t n g (block a e ss)) i h q y k l _ r =
       let j = stop_sig g (stop_name n (suc i)) in let z = suc (stop_stmts ss (suc j)) in
       c_function_sig k q n g i (h.2) y (h.3) (spell_stmts ss (Punct CloseBrace ∷ l))
       ∙ c_stmts ss body_context (suc j) (h.4.2) j (in_function q i n g ∷ k) refl (Punct CloseBrace ∷ l) refl
@@ -442,20 +447,20 @@ mutual
       (ap (λ y. give_function z k q y) (same_function n g i f z t (block j z ss) (block a e ss) (sym (h.0)) (sym (h.1)) (ap₂ (λ f t. block f t ss) (sym (h.4.0)) (sym (h.4.1)))) ∙ r)
 
   -- a declaration behind its first word
-  pub c_declaration : (y : Declaration) (i : ℕ) → FitsDeclaration y i → (k : Stack) (l : Tokens) (d : Stack) (m : Mode) → give_declaration (suc (stop_declaration y i)) k i y ≡ go d m →
-      run (suc i) k (after_binder i (binder_of y)) (behind_binder y (Punct Semicolon ∷ l)) ≡ run (suc (stop_declaration y i)) d m l
-  c_declaration (declaration f t w n v e) i h k l d m r =
+  pub c_declaration : (y : Declaration) (i : ℕ) → FitsDeclaration y i → (k : Stack) (l : Tokens) (s : Step) → give_declaration (suc (stop_declaration y i)) k i y ≡ s →
+      run (suc i) k (after_binder i (binder_of y)) (behind_binder y (Punct Semicolon ∷ l)) ≡ resume (λ k m. run (suc (stop_declaration y i)) k m l) s (Punct Semicolon ∷ l)
+  c_declaration (declaration f t w n v e) i h k l _ r =
       let j = stop_annotation v (suc (suc i)) in let z = stop_ex e (suc j) in let p = Punct Semicolon ∷ l in
       name_declared w n (h.2) i (suc i) k (spell_annotation v (Punct Assign ∷ spell_ex e p)) ∙ annotation_read v w n i (suc (suc i)) (h.3) k (spell_ex e p)
       ∙ c_ex e (suc j) (h.4) (in_declaration i w n v ∷ k) (omega arith) p (omega arith)
       ∙ ap (λ s. resume (λ k m. run (suc z) k m l) s p) (ap (λ y. give_declaration (suc z) k i y) (ap₂ (λ f t. declaration f t w n v e) (sym (h.0)) (sym (h.1))) ∙ r)
 
-  c_stmts : (ss : Stmts) (c : Context) (i : ℕ) → FitsStmts ss c i → (s : ℕ) (k : Stack) → context k ≡ c → (l : Tokens) → is_else (first l) ≡ false → run i k (statements_start s no_stmt) (spell_stmts ss l) ≡ run (stop_stmts ss i) k (statements_start s ss) l
+  pub c_stmts : (ss : Stmts) (c : Context) (i : ℕ) → FitsStmts ss c i → (s : ℕ) (k : Stack) → context k ≡ c → (l : Tokens) → is_else (first l) ≡ false → run i k (statements_start s no_stmt) (spell_stmts ss l) ≡ run (stop_stmts ss i) k (statements_start s ss) l
   c_stmts no_stmt c i h s k u l e = refl
   c_stmts (more_stmt ss y) c i h s k u l e =
       let j = stop_stmts ss i in c_stmts ss c i (h.0) s k u (spell_stmt y l) (stmt_else y c j (h.1) l) ∙ c_stmt y c j (h.1) s ss k u l e
 
-  c_stmt : (y : Stmt) (c : Context) (i : ℕ) → FitsStmt y c i → (s : ℕ) (ss : Stmts) (k : Stack) → context k ≡ c → (l : Tokens) → is_else (first l) ≡ false →
+  pub c_stmt : (y : Stmt) (c : Context) (i : ℕ) → FitsStmt y c i → (s : ℕ) (ss : Stmts) (k : Stack) → context k ≡ c → (l : Tokens) → is_else (first l) ≡ false →
       run i k (statements_start s ss) (spell_stmt y l) ≡ run (stop_stmt y i) k (statements_start s (more_stmt ss y)) l
   c_stmt (stmt f t x) c i h s ss k u l e =
       c_stmt_form x c i (h.2) s ss k u l e ∙ ap (λ y. run (stop_stmt_form x i) k (statements_start s (more_stmt ss y)) l) (ap₂ (λ f t. stmt f t x) (sym (h.0)) (sym (h.1)))
@@ -465,14 +470,14 @@ mutual
   c_stmt_form (declares (declaration f t w n v d)) c i h s ss k u l e =
       let y = declares (declaration f t w n v d) in
       binder_read w i s ss k (Name n ∷ spell_annotation v (Punct Assign ∷ spell_ex d (Punct Semicolon ∷ l)))
-      ∙ c_declaration (declaration f t w n v d) i h (in_block s ss ∷ k) l k (statements_start s (more_stmt ss (stmt i (stop_stmt_form y i) y))) refl
+      ∙ c_declaration (declaration f t w n v d) i h (in_block s ss ∷ k) l (go k (statements_start s (more_stmt ss (stmt i (stop_stmt_form y i) y)))) refl
   c_stmt_form (function_stmt (function f t n g b)) c i h s ss k u l e =
       let j = stop_function (function f t n g b) i in
-      c_function (function f t n g b) i (h.1) is_statement (λ q. h.0) (in_block s ss ∷ k) l k (statements_start s (more_stmt ss (stmt i j (function_stmt (function f t n g b)))))
+      c_function (function f t n g b) i (h.1) is_statement (λ q. h.0) (in_block s ss ∷ k) l (go k (statements_start s (more_stmt ss (stmt i j (function_stmt (function f t n g b))))))
       (ap (λ p. go k (statements_start s (more_stmt ss (stmt p j (function_stmt (function f t n g b)))))) (h.1.0))
   c_stmt_form (does (simple f t x)) c i h s ss k u l e =
       let j = suc (stop_simple_form x i) in
-      c_simple (simple f t x) c i h k (statements_start s ss) (in_block s ss ∷ k) u (takes_statement i k s ss) k (statements_start s (more_stmt ss (stmt i j (does (simple f t x)))))
+      c_simple (simple f t x) c i h k (statements_start s ss) (in_block s ss ∷ k) u (takes_statement i k s ss) (go k (statements_start s (more_stmt ss (stmt i j (does (simple f t x))))))
       (ap (λ p. go k (statements_start s (more_stmt ss (stmt p j (does (simple f t x)))))) (h.0)) l
   c_stmt_form (branches bs y) c i h s ss k u l e =
       c_branches bs c i (h.1) (h.0) s ss k u (spell_else y l) ∙ c_else y c (stop_branches bs i) (h.2) i bs s ss k u l e
@@ -480,15 +485,15 @@ mutual
       let z = suc (stop_ex d (suc (suc i))) in let a = in_block s ss ∷ k in
       c_ex d (suc (suc i)) (h.0) (in_loop_test i ∷ a) (omega arith) (Punct CloseParen ∷ spell_body b l) (omega arith)
       ∙ c_body b (looping c) z (h.1) (in_loop i d ∷ a) want_body (in_loop i d ∷ a) (ap looping u) (body_taken z (in_loop i d ∷ a) (λ z b. refl) (λ z y. refl))
-      k (statements_start s (more_stmt ss (stmt i (stop_body b z) (loop d b)))) refl l
+      (go k (statements_start s (more_stmt ss (stmt i (stop_body b z) (loop d b))))) refl l
   c_stmt_form (nested (block f t y)) c i h s ss k u l e =
       let z = suc (stop_stmts y (suc i)) in
       c_stmts y c (suc i) (h.2) i (in_block s ss ∷ k) u (Punct CloseBrace ∷ l) refl
       ∙ ap (λ b. run z k (statements_start s (more_stmt ss (stmt i z (nested b)))) l) (ap₂ (λ f t. block f t y) (sym (h.0)) (sym (h.1)))
 
-  c_simple : (y : Simple) (c : Context) (i : ℕ) → FitsSimple y c i → (k : Stack) (m : Mode) (a : Stack) → context a ≡ c → TakesSimple i k m a → (d : Stack) (o : Mode) → end_simple (stop_simple y i) a y ≡ go d o → (l : Tokens) →
-      run i k m (spell_simple y (Punct Semicolon ∷ l)) ≡ run (suc (stop_simple y i)) d o l
-  c_simple (simple f t x) c i h k m a u w d o r l =
+  pub c_simple : (y : Simple) (c : Context) (i : ℕ) → FitsSimple y c i → (k : Stack) (m : Mode) (a : Stack) → context a ≡ c → TakesSimple i k m a → (s : Step) → end_simple (stop_simple y i) a y ≡ s → (l : Tokens) →
+      run i k m (spell_simple y (Punct Semicolon ∷ l)) ≡ resume (λ k m. run (suc (stop_simple y i)) k m l) s (Punct Semicolon ∷ l)
+  c_simple (simple f t x) c i h k m a u w _ r l =
       let j = stop_simple_form x i in
       c_simple_form x c i (h.2) k m a u w l ∙ ap (λ s. resume (λ k m. run (suc j) k m l) s (Punct Semicolon ∷ l)) (ap (λ y. end_simple j a y) (ap₂ (λ f t. simple f t x) (sym (h.0)) (sym (h.1))) ∙ r)
 
@@ -512,14 +517,14 @@ mutual
       let n = Punct Semicolon ∷ l in
       begin_evaluate e i (h.1) (h.0) k a m w n ∙ c_ex e i (h.1) (in_simple i evaluates ∷ a) (omega arith) n (omega arith)
 
-  c_body : (b : Body) (c : Context) (i : ℕ) → FitsBody b c i → (k : Stack) (m : Mode) (a : Stack) → context a ≡ c → TakesBody i k m a → (d : Stack) (o : Mode) → give_body (stop_body b i) a b ≡ go d o → (l : Tokens) →
-      run i k m (spell_body b l) ≡ run (stop_body b i) d o l
-  c_body (block_body (block f t ss)) c i h k m a u w d o r l =
+  pub c_body : (b : Body) (c : Context) (i : ℕ) → FitsBody b c i → (k : Stack) (m : Mode) (a : Stack) → context a ≡ c → TakesBody i k m a → (s : Step) → give_body (stop_body b i) a b ≡ s → (l : Tokens) →
+      run i k m (spell_body b l) ≡ resume (λ k m. run (stop_body b i) k m l) s (body_end b ∷ l)
+  c_body (block_body (block f t ss)) c i h k m a u w _ r l =
       let z = suc (stop_stmts ss (suc i)) in let n = Punct CloseBrace ∷ l in
       ap (λ s. resume (λ k m. run (suc i) k m (spell_stmts ss n)) s (Punct OpenBrace ∷ spell_stmts ss n)) (w.1)
       ∙ c_stmts ss c (suc i) (h.2) i a u n refl
       ∙ ap (λ s. resume (λ k m. run z k m l) s n) (w.2 z (block i z ss) ∙ ap (λ b. give_body z a (block_body b)) (ap₂ (λ f t. block f t ss) (sym (h.0)) (sym (h.1))) ∙ r)
-  c_body (simple_body y) c i h k m a u w d o r l = c_simple y c i h k m a u (w.0) d o (w.3 (stop_simple y i) y ∙ r) l
+  c_body (simple_body y) c i h k m a u w s r l = c_simple y c i h k m a u (w.0) s (w.3 (stop_simple y i) y ∙ r) l
 
   c_branches : (bs : Branches) (c : Context) (i : ℕ) → FitsBranches bs c i → has_branches bs ≡ true → (s : ℕ) (ss : Stmts) (k : Stack) → context k ≡ c → (l : Tokens) →
       run i k (statements_start s ss) (spell_branches bs l) ≡ run (stop_branches bs i) (in_block s ss ∷ k) (after_branch i bs) l
@@ -538,7 +543,7 @@ mutual
       let z = suc (stop_ex e (suc (suc j))) in let a = in_if i bs j e ∷ in_block s ss ∷ k in
       if_read bs i j q s ss k (spell_ex e (Punct CloseParen ∷ spell_body b l))
       ∙ c_ex e (suc (suc j)) (h.2) (in_if_test i bs j ∷ in_block s ss ∷ k) (omega arith) (Punct CloseParen ∷ spell_body b l) (omega arith)
-      ∙ c_body b c z (h.3) a want_body a u (body_taken z a (λ z b. refl) (λ z y. refl)) (in_block s ss ∷ k) (after_branch i (more_branch bs (branch f t e b)))
+      ∙ c_body b c z (h.3) a want_body a u (body_taken z a (λ z b. refl) (λ z y. refl)) (go (in_block s ss ∷ k) (after_branch i (more_branch bs (branch f t e b))))
       (ap (λ y. go (in_block s ss ∷ k) (after_branch i (more_branch bs y))) (ap₂ (λ f t. branch f t e b) (sym (h.0)) (sym (h.1)))) l
 
   c_else : (y : Else) (c : Context) (j : ℕ) → FitsElse y c j → (i : ℕ) (bs : Branches) (s : ℕ) (ss : Stmts) (k : Stack) → context k ≡ c → (l : Tokens) → is_else (first l) ≡ false →
@@ -548,4 +553,4 @@ mutual
       ∙ sym (run-then j k (statements_start s (more_stmt ss (stmt i j (branches bs no_else)))) l)
   c_else (else_body b) c j h i bs s ss k u l e =
       c_body b c (suc j) h (in_block s ss ∷ k) (after_else i bs) (in_else i bs ∷ in_block s ss ∷ k) u (else_taken (suc j) (in_block s ss ∷ k) i bs)
-      k (statements_start s (more_stmt ss (stmt i (stop_body b (suc j)) (branches bs (else_body b))))) refl l
+      (go k (statements_start s (more_stmt ss (stmt i (stop_body b (suc j)) (branches bs (else_body b)))))) refl l

@@ -23,5 +23,6 @@ pub mod KeptStatements
 pub mod KeptParameters
 pub mod KeptModules
 pub mod Kept
+pub mod InFront
 pub mod Main
 pub mod Within

@@ -15,7 +15,7 @@ use Rattle.js_grammar.specs.CodeSpelling.{binder_word, spell_ex}
 use Rattle.js_grammar.specs.CodePlaces.{stop_ex, stop_function, stop_declaration}
 use Rattle.js_grammar.specs.CodeFits.{BeginsNot}
 use Rattle.js_grammar.specs.Items.{ImportList, import_list, exported, Exporteds, no_exported, more_exported, ExportList, export_list, ImportForm, import_default, import_both, import_names, import_types, import_only, alias, ExportForm, export_declaration, export_function, export_alias, export_names, export_from, export_default_function, export_default, ItemForm, imports, exports, declares_item, function_item, alias_item, does_item, Item, item, Items, no_item, more_item, from_word, type_word, spell_import_list, spell_export_list, spell_import, spell_export, spell_item_form, spell_item, spell_items, stop_importeds, stop_import_list, stop_exporteds, stop_export_list, stop_import, stop_export, stop_item_form, stop_item, stop_items, FitsImportList, AreNames, AreLocal, base_names, IsNoneOf, FitsExportList, FitsImport, FitsExport, FitsItemForm, FitsItem, FitsItems}
-use Rattle.code_law.specs.Frames.{FunctionKind, is_statement, is_default, plain_item, exported_item, default_item, opens_names, opens_both, opens_types, opens_exports, alias_type, evaluates, assigns, in_simple, in_item, in_default, Mode, after_binder, items_start, after_type_word, after_import, import_comma, after_list, after_export, export_type, after_exports, after_default, item_end, typing, Stack}
+use Rattle.code_law.specs.Frames.{FunctionKind, is_statement, is_default, plain_item, exported_item, default_item, opens_names, opens_both, opens_types, opens_exports, alias_type, evaluates, assigns, in_simple, in_item, in_default, Mode, after_binder, items_start, after_type_word, after_import, import_comma, after_list, after_export, export_type, after_exports, after_default, item_end, typing, Stack, go}
 use Rattle.code_law.specs.Expressions.{want_step}
 use Rattle.code_law.specs.Statements.{StatementWord, plain_word, statement_word}
 use Rattle.code_law.specs.Modules.{default_word, is_none_of, may_alias, are_names, are_local}
@@ -125,9 +125,9 @@ module _ (k : Stack) (i : ℕ) (is : Items) where
   c_export : (e : ExportForm) → FitsExport e (suc i) → (l : Tokens) → run (suc i) k (after_export i is) (spell_export e l) ≡ run (stop_export e (suc i)) k (with_item (stop_export e (suc i)) (exports e)) l
   c_export (export_declaration (declaration f t w n v d)) h l =
       let y = declaration f t w n v d in
-      binder_export w (behind_binder y (Punct Semicolon ∷ l)) ∙ c_declaration y (suc i) h (in_item i exported_item is ∷ k) l k (with_item (suc (stop_declaration y (suc i))) (exports (export_declaration y))) refl
+      binder_export w (behind_binder y (Punct Semicolon ∷ l)) ∙ c_declaration y (suc i) h (in_item i exported_item is ∷ k) l (go k (with_item (suc (stop_declaration y (suc i))) (exports (export_declaration y)))) refl
   c_export (export_function (function f t n g b)) h l =
-      let y = function f t n g b in c_function y (suc i) (h.1) is_statement (λ q. h.0) (in_item i exported_item is ∷ k) l k (with_item (stop_function y (suc i)) (exports (export_function y))) refl
+      let y = function f t n g b in c_function y (suc i) (h.1) is_statement (λ q. h.0) (in_item i exported_item is ∷ k) l (go k (with_item (stop_function y (suc i)) (exports (export_function y)))) refl
   c_export (export_alias (alias f t n v)) h l =
       let j = suc i in let p = suc (suc (suc j)) in let z = stop v p in
       exported_alias n (alias_named n (h.2) (h.3)) (suc j) j (spell v (Punct Semicolon ∷ l)) ∙ c_type p k (alias_type i exported_item is j n) v (h.4) (λ g. refl) (Punct Semicolon ∷ l) refl
@@ -136,7 +136,7 @@ module _ (k : Stack) (i : ℕ) (is : Items) where
   c_export (export_from o ns s) h l = c_export_list o ns (suc i) h (from_word ∷ Str s ∷ Punct Semicolon ∷ l)
   c_export (export_default_function (function f t n g b)) h l =
       let y = function f t n g b in let j = suc (suc i) in
-      c_function y j h is_default (λ q. absurd (default_statement q)) (in_item i default_item is ∷ k) l k (with_item (stop_function y j) (exports (export_default_function y))) refl
+      c_function y j h is_default (λ q. absurd (default_statement q)) (in_item i default_item is ∷ k) l (go k (with_item (stop_function y j) (exports (export_default_function y)))) refl
   c_export (export_default e) h l =
       let j = suc (suc i) in let a = in_default i is ∷ k in
       begin_with e j (h.1) j k a (after_default i is) (λ x s. default_opens e (h.0) j i k is x s) (Punct Semicolon ∷ l) ∙ c_ex e j (h.1) a (omega arith) (Punct Semicolon ∷ l) (omega arith)
@@ -146,9 +146,9 @@ module _ (k : Stack) (i : ℕ) (is : Items) where
   c_item_form (exports e) h l = c_export e h l
   c_item_form (declares_item (declaration f t w n v d)) h l =
       let y = declaration f t w n v d in
-      binder_top w (behind_binder y (Punct Semicolon ∷ l)) ∙ c_declaration y i h (in_item i plain_item is ∷ k) l k (with_item (suc (stop_declaration y i)) (declares_item y)) refl
+      binder_top w (behind_binder y (Punct Semicolon ∷ l)) ∙ c_declaration y i h (in_item i plain_item is ∷ k) l (go k (with_item (suc (stop_declaration y i)) (declares_item y))) refl
   c_item_form (function_item (function f t n g b)) h l =
-      let y = function f t n g b in c_function y i (h.1) is_statement (λ q. h.0) (in_item i plain_item is ∷ k) l k (with_item (stop_function y i) (function_item y)) refl
+      let y = function f t n g b in c_function y i (h.1) is_statement (λ q. h.0) (in_item i plain_item is ∷ k) l (go k (with_item (stop_function y i) (function_item y))) refl
   c_item_form (alias_item (alias f t n v)) h l =
       let p = suc (suc (suc i)) in let z = stop v p in
       alias_read n (alias_named n (h.2) (h.3)) (spell v (Punct Semicolon ∷ l)) ∙ c_type p k (alias_type i plain_item is i n) v (h.4) (λ g. refl) (Punct Semicolon ∷ l) refl
@@ -168,7 +168,7 @@ module _ (k : Stack) (i : ℕ) (is : Items) where
       begin_top i k is e (q.1) (q.0) n (h.1 l) ∙ c_ex e i (q.1) (in_simple i evaluates ∷ a) (omega arith) n (omega arith)
       ∙ ap (λ y. run (suc z) k (with_item (suc z) (does_item y)) l) (ap₂ (λ f t. simple f t (evaluate e)) (sym (h.2.0)) (sym (h.2.1)))
 
-c_item : (y : Item) (i : ℕ) → FitsItem y i → (k : Stack) (is : Items) (l : Tokens) → run i k (items_start is) (spell_item y l) ≡ run (stop_item y i) k (items_start (more_item is y)) l
+pub c_item : (y : Item) (i : ℕ) → FitsItem y i → (k : Stack) (is : Items) (l : Tokens) → run i k (items_start is) (spell_item y l) ≡ run (stop_item y i) k (items_start (more_item is y)) l
 c_item (item f t x) i h k is l =
     c_item_form k i is x (h.2) l ∙ ap (λ y. run (stop_item_form x i) k (items_start (more_item is y)) l) (ap₂ (λ f t. item f t x) (sym (h.0)) (sym (h.1)))
 

@@ -54,7 +54,7 @@ takes_statement i k s ss (Punct CloseBrace) h = absurd (false≢true h)
 takes_statement i k s ss (Punct OpenBrace) h = absurd (false≢true h)
 takes_statement i k s ss x h = refl
 
-takes_body : (i : ℕ) (k : Stack) → TakesSimple i k want_body k
+pub takes_body : (i : ℕ) (k : Stack) → TakesSimple i k want_body k
 takes_body i k (Punct OpenBrace) h = absurd (false≢true h)
 takes_body i k x h = refl
 

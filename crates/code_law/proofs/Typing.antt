@@ -37,5 +37,5 @@ module _ (can : Bool) (z : ℕ) where
   finish_typing i a m q r = let c : TypeCompletes can z (so_far a m) = type_viable can z a m i (r.fits) in (
     c.0,
     c.2,
-    λ l e. sym (r.runs (c.2 ++ l)) ∙ ap (ty.run can z [] ty.want) (sym (append_assoc q (c.2) l) ∙ ap (λ w. w ++ l) (sym (r.spelled (c.2)) ∙ sym (c.3)) ∙ sym (spelled_before (c.0) z (c.1.0) l)) ∙ reads_spelling can (c.0) z (c.1.0) (c.1.1) l e,
+    λ l e. sym (r.runs (c.2 ++ l)) ∙ ap (ty.run can z [] ty.want) (sym (append_assoc q (c.2) l) ∙ ap (λ w. w ++ l) (sym (r.spelled (c.2)) ∙ sym (c.3)) ∙ sym (spelled_before (c.0) l)) ∙ reads_spelling can (c.0) z (c.1.0) (c.1.1) l e,
   )

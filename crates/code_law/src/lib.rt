@@ -2,7 +2,7 @@
 //! contracts of functions that do nothing.
 #![tactic(auto)]
 
-ghost use Rattle.code_law.specs.Law.{SameSpellingSameExpression, SameFrontSameExpression, SameSpellingSameModule};
+ghost use Rattle.code_law.specs.Law.{SameSpellingSameExpression, SameFrontSameExpression, SameFrontSameBlock, SameFrontSameStatement, SameSpellingSameModule};
 ghost use Rattle.code_law.specs.Reads.{ReadsEachModule, ReadsOnlyModules};
 ghost use Rattle.code_law.specs.Within.{ReadsEachWithin, ReadsOnlyWithin};
 
@@ -11,6 +11,17 @@ ghost use Rattle.code_law.specs.Within.{ReadsEachWithin, ReadsOnlyWithin};
 pub fn one_expression()
     ensures alone { SameSpellingSameExpression }
     ensures in_front { SameFrontSameExpression }
+{}
+
+/// Two blocks of a function that begin at one place, and stand in front of one list of tokens, are equal, whatever follows.
+pub fn one_block()
+    ensures { SameFrontSameBlock }
+{}
+
+/// Two statements of a function that begin at one place, and stand in front of one list of tokens, are equal, where neither is
+/// followed by `else`.
+pub fn one_statement()
+    ensures { SameFrontSameStatement }
 {}
 
 /// Two modules of the grammar with one spelling are equal, their numbers too.

@@ -3,6 +3,8 @@ pub mod Complete
 pub mod Sound
 pub mod Kept
 pub mod Viable
+pub mod Front
 pub mod Limit
 pub mod Main
 pub mod OneAnswer
+pub mod Spans

@@ -1,6 +1,5 @@
 -- Reading answers a type exactly where one stands, and else the place of the fault.
-use Rattle.std.proofs.Common.{◌≡◌, refl, sym, ◌∙◌, ap, subst, ℕ, suc, ◌+◌, Bool, true, false, [], ◌∷◌, ◌++◌, length, append_assoc, append-nil, arith, if◌then◌else◌}
-use Rattle.std.proofs.lemmas.List.{length-append}
+use Rattle.std.proofs.Common.{◌≡◌, refl, sym, ◌∙◌, ap, subst, ℕ, suc, Bool, true, false, [], ◌∷◌, ◌++◌, append_assoc, append-nil, if◌then◌else◌}
 use Rattle.std.proofs.lemmas.Bool.{false≢true}
 use Rattle.js_token.specs.declared.token.TokenKind.{TokenKind}
 use Rattle.js_token.specs.declared.token.TokenKind.TheVariants.{Punct}
@@ -8,7 +7,6 @@ use Rattle.js_token.specs.declared.punct.Punct.TheVariants.{OpenBracket, Arrow, 
 use Rattle.js_grammar.specs.Words.{Bytes}
 use Rattle.js_grammar.specs.Types.{Places, no_place, Ty, ty, more_pre, pre, fun, post, Base, base, paren, Params, no_param, more_param, plain, named}
 use Rattle.js_grammar.specs.TypeSpelling.{Tokens, spell}
-use Rattle.js_grammar.specs.TypeFits.{stop}
 use Rattle.js_grammar.specs.Machine.{TypeWord, type_name, null_word, void_word, truth_of, array_word, other_word, type_word, Open, open_at, in_array, in_group, in_named, in_result, in_tuple, in_prop, Mode, want, want_pre, after_base, after_bracket, after_array, group_start, group_name, group_mark, closed, tuple_start, object_start, after_dots, after_sign, after_key, after_mark, Stack, Step, fault, go, done, end_mark, can_fun, start_base, finish, give, base_step, name_rest, single, closed_step, step, Outcome, faulty, whole, resume, run, read_tokens}
 use Rattle.js_grammar.specs.Reads.{IsType, Begins, BeginsWithin, IsGreatest, Finds, Faults}
 use Rattle.js_grammar.specs.Nesting.{no_nest, WithinLimit}
@@ -98,23 +96,18 @@ done_end fault t e = absurd (not_whole [] t [] e)
 done_end (go k m) t e = absurd (not_whole [] t [] e)
 done_end (done s) t e = refl
 
--- a further token, a further place
-count_more : (start i : ℕ) (q : Tokens) (x : TokenKind) → i ≡ start + length q → suc i ≡ start + length (q ++ x ∷ [])
-count_more start i q x e = let a : length (q ++ x ∷ []) ≡ length q + 1 = length-append q (x ∷ []) in omega arith
-
 module _ (can : Bool) (start : ℕ) where
   -- what reading answers without a limit of nesting
-  abbrev pub Longest : Tokens → Tokens → Type 0
+  abbrev Longest : Tokens → Tokens → Type 0
   Longest q rest = (x : TokenKind) (r : Tokens) → rest ≡ x ∷ r → Begins can start (q ++ x ∷ []) → ⊥
 
-  abbrev pub Answers : Tokens → Outcome → Type 0
-  Answers l (whole t rest) = (q : Tokens) × (l ≡ q ++ rest) × IsType can start t × ((w : Tokens) → spell t w ≡ q ++ w) × Longest q rest × (stop t start ≡ start + length q)
+  abbrev Answers : Tokens → Outcome → Type 0
+  Answers l (whole t rest) = (q : Tokens) × (l ≡ q ++ rest) × IsType can start t × ((w : Tokens) → spell t w ≡ q ++ w) × Longest q rest
   Answers l (faulty rest) = (q : Tokens) × (l ≡ q ++ rest) × Begins can start q × Longest q rest × ((t : Ty) → IsType can start t → spell t [] ≡ q → ⊥)
 
   -- the state that the tokens q lead to, up to the place i
   record Reached (q : Tokens) (i : ℕ) (k : Stack) (m : Mode) : Type 0 where
     fits : FitsMode can start k m i
-    counts : i ≡ start + length q
     spelled : (w : Tokens) → so_far k m w ≡ q ++ w
     runs : (w : Tokens) → run can start [] want (q ++ w) ≡ run can i k m w
 
@@ -136,7 +129,7 @@ module _ (can : Bool) (start : ℕ) where
   at_end : (q : Tokens) (i : ℕ) (k : Stack) (m : Mode) → Reached q i k m → (s : Step) → step can i k m end_mark ≡ s → Follows (so_far k m) end_mark s → FitsStep can start i s → Answers (q ++ []) (resume (λ k m. faulty []) s [])
   at_end q i k m r fault e f h = (q, refl, begins q i k m r, longest_end q, λ t j d. not_whole [] t [] (sym (ap (λ s. resume (λ k m. faulty []) s []) e) ∙ ends_at q i k m r t j d))
   at_end q i k m r (go k' m') e f h = (q, refl, begins q i k m r, longest_end q, λ t j d. not_whole [] t [] (sym (ap (λ s. resume (λ k m. faulty []) s []) e) ∙ ends_at q i k m r t j d))
-  at_end q i k m r (done t) e f h = (q, refl, h.0, (λ w. f w ∙ r.spelled w), longest_end q, sym (h.1) ∙ r.counts)
+  at_end q i k m r (done t) e f h = (q, refl, h.0, (λ w. f w ∙ r.spelled w), longest_end q)
 
   at_token : (q : Tokens) (i : ℕ) (k : Stack) (m : Mode) → Reached q i k m → (x : TokenKind) (l : Tokens) → ((q : Tokens) (i : ℕ) (k : Stack) (m : Mode) → Reached q i k m → Answers (q ++ l) (run can i k m l)) →
       (s : Step) → step can i k m x ≡ s → Follows (so_far k m) x s → FitsStep can start i s → Answers (q ++ x ∷ l) (resume (λ k m. run can (suc i) k m l) s (x ∷ l))
@@ -151,7 +144,6 @@ module _ (can : Bool) (start : ℕ) where
       subst (λ z. Answers z (run can (suc i) k' m' l)) (append_assoc q (x ∷ []) l)
       (ih (q ++ x ∷ []) (suc i) k' m' (record {
         fits = h;
-        counts = count_more start i q x (r.counts);
         spelled = λ w. f w ∙ r.spelled (x ∷ w) ∙ sym (append_assoc q (x ∷ []) w);
         runs = λ w. ap (run can start [] want) (append_assoc q (x ∷ []) w) ∙ r.runs (x ∷ w) ∙ ap (λ s. resume (λ k m. run can (suc i) k m w) s (x ∷ w)) e;
       }))
@@ -161,15 +153,14 @@ module _ (can : Bool) (start : ℕ) where
     h.0,
     (λ w. f w ∙ r.spelled w),
     (λ y w j. subst (λ z. Begins can start (q ++ z ∷ []) → ⊥) (heads j) (past q i k m r x (λ w t' j. whole_rest t t' x w (sym (ap (λ s. resume (λ k m. run can (suc i) k m w) s (x ∷ w)) e) ∙ j)))),
-    sym (h.1) ∙ r.counts,
   )
 
   reads : (l q : Tokens) (i : ℕ) (k : Stack) (m : Mode) → Reached q i k m → Answers (q ++ l) (run can i k m l)
   reads [] q i k m r = at_end q i k m r (step can i k m end_mark) refl (sound can i k m end_mark) (kept can start k m i end_mark (r.fits))
   reads (x ∷ l) q i k m r = at_token q i k m r x l (reads l) (step can i k m x) refl (sound can i k m x) (kept can start k m i x (r.fits))
 
-  pub all_reads : (l : Tokens) → Answers l (read_tokens can start l)
-  all_reads l = reads l [] start [] want (record { fits = refl; counts = omega arith; spelled = λ w. refl; runs = λ w. refl })
+  all_reads : (l : Tokens) → Answers l (read_tokens can start l)
+  all_reads l = reads l [] start [] want (record { fits = refl; spelled = λ w. refl; runs = λ w. refl })
 
 -- a is within the limit, and with the next token of b it is not
 abbrev pub EndsWithin : Tokens → Tokens → Type 0

@@ -4,13 +4,13 @@ use Rattle.std.proofs.lemmas.List.{length-append}
 use Rattle.js_token.specs.declared.token.TokenKind.{TokenKind}
 use Rattle.js_grammar.specs.Types.{Ty, ty}
 use Rattle.js_grammar.specs.TypeSpelling.{Tokens, spell}
-use Rattle.js_grammar.specs.TypeFits.{stop, Fits}
+use Rattle.js_grammar.specs.TypeFits.{Fits}
 use Rattle.js_grammar.specs.GoesOn.{goes_on_type, IsEnded}
 use Rattle.js_grammar.specs.Machine.{first, whole, read_tokens}
 use Rattle.js_grammar.specs.Reads.{IsType, BeginsWithin, IsGreatest}
 use Rattle.js_grammar.specs.Law.{SameSpellingSameType, SameFrontSameType, EndsBehindItsTokens, EndsWhereTheRestBegins, FindsOneType, FaultsAtOnePlace, FindsOrFaults}
 use Rattle.js_grammar.proofs.Complete.{reads_spelling}
-use Rattle.js_grammar.proofs.Main.{Answers, all_reads}
+use Rattle.js_grammar.proofs.Front.{counted, f_ty}
 
 same_whole : (a b : Ty) (m n : Tokens) → whole a m ≡ whole b n → a ≡ b
 same_whole a b m n e = cc
@@ -29,30 +29,24 @@ same_front plain i a b f g m n e p q = same_whole a b m n (sym (in_front plain i
 pub same_type : SameSpellingSameType
 same_type i a b f g e = same_front true i a b (f, λ x. refl) (g, λ x. refl) [] [] e tt tt
 
-answered : (i : ℕ) (t : Ty) → Fits t i → Answers true i (spell t []) (whole t [])
-answered i t h = subst (Answers true i (spell t [])) (in_front true i t (h, λ x. refl) [] tt) (all_reads true i (spell t []))
-
 -- the spelling before tokens is the spelling, and then the tokens
-pub spelled_before : (t : Ty) (i : ℕ) → Fits t i → (l : Tokens) → spell t l ≡ spell t [] ++ l
-spelled_before t i h l = let a = answered i t h in a.3 l ∙ ap (λ q. q ++ l) (sym (a.1 ∙ append-nil (a.0)))
-
-counted : (t : Ty) (i : ℕ) → Fits t i → stop t i ≡ i + length (spell t [])
-counted t i h = let a = answered i t h in a.5 ∙ ap (λ q. i + length q) (sym (a.1 ∙ append-nil (a.0)))
+pub spelled_before : (t : Ty) (l : Tokens) → spell t l ≡ spell t [] ++ l
+spelled_before t l = let a = f_ty t in a.1 l ∙ ap (λ q. q ++ l) (sym (a.1 [] ∙ append-nil (a.0)))
 
 pub ends_behind : EndsBehindItsTokens
-ends_behind i (ty f t lead ps) h = (h.0, h.1 ∙ counted (ty f t lead ps) i h)
+ends_behind i (ty f t lead ps) h = (h.0, h.1 ∙ counted (f_ty (ty f t lead ps)) i)
 
 pub ends_before_rest : EndsWhereTheRestBegins
 ends_before_rest plain l from end t least most f =
     let p = ends_behind from t (f.0.0) in
-    let whole : length (drop from l) ≡ length (spell t []) + length (drop end l) = ap length (f.1 ∙ spelled_before t from (f.0.0) (drop end l)) ∙ length-append (spell t []) (drop end l) in
+    let whole : length (drop from l) ≡ length (spell t []) + length (drop end l) = ap length (f.1 ∙ spelled_before t (drop end l)) ∙ length-append (spell t []) (drop end l) in
     (p.0, (let a = p.1 in let b = length-drop from l in let c = length-drop end l in omega arith))
 
 tails : {x y : TokenKind} {l r : Tokens} → x ∷ l ≡ y ∷ r → (x ≡ y) × (l ≡ r)
 tails e = ((let f = e in cc), (let f = e in cc))
 
 -- of two parts in front of one list, one is in front of the other
-apart : (a b r s : Tokens) → a ++ r ≡ b ++ s → ((m : Tokens) × (b ≡ a ++ m) × (r ≡ m ++ s)) ⊎ ((m : Tokens) × (a ≡ b ++ m) × (s ≡ m ++ r))
+pub apart : (a b r s : Tokens) → a ++ r ≡ b ++ s → ((m : Tokens) × (b ≡ a ++ m) × (r ≡ m ++ s)) ⊎ ((m : Tokens) × (a ≡ b ++ m) × (s ≡ m ++ r))
 apart [] b r s e = inl (b, refl, e)
 apart (x ∷ a) [] r s e = inr (x ∷ a, refl, sym e)
 apart (x ∷ a) (y ∷ b) r s e = further (apart a b r s ((tails e).1))
@@ -73,7 +67,7 @@ module _ (plain : Bool) (i : ℕ) where
 
 pub finds_one : FindsOneType
 finds_one plain i l t u r s f g =
-    let p = one_part plain i (spell t []) (spell u []) r s (sym (spelled_before t i (f.0.0) r) ∙ sym (f.1) ∙ g.1 ∙ spelled_before u i (g.0.0) s) (f.2) (g.2) in
+    let p = one_part plain i (spell t []) (spell u []) r s (sym (spelled_before t r) ∙ sym (f.1) ∙ g.1 ∙ spelled_before u s) (f.2) (g.2) in
     (same_type i t u (f.0.0) (g.0.0) (p.0), p.1)
 
 pub faults_once : FaultsAtOnePlace
@@ -81,4 +75,4 @@ faults_once plain i l r s f g = (one_part plain i (f.0) (g.0) r s (sym (f.1) ∙
 
 pub finds_or_faults : FindsOrFaults
 finds_or_faults plain i l t r s f g =
-    let p = one_part plain i (spell t []) (g.0) r s (sym (spelled_before t i (f.0.0) r) ∙ sym (f.1) ∙ g.1) (f.2) (g.2) in g.3 t (f.0) (p.0)
+    let p = one_part plain i (spell t []) (g.0) r s (sym (spelled_before t r) ∙ sym (f.1) ∙ g.1) (f.2) (g.2) in g.3 t (f.0) (p.0)

@@ -3,6 +3,10 @@ use Rattle.std.specs.Prelude.{◌≡◌, ℕ, ◌+◌, ◌≤◌, Bool, [], leng
 use Rattle.js_grammar.specs.Types.{Ty, ty}
 use Rattle.js_grammar.specs.TypeSpelling.{Tokens, spell}
 use Rattle.js_grammar.specs.TypeFits.{Fits}
+use Rattle.js_grammar.specs.Code.{ExForm, ex, StmtForm, stmt}
+use Rattle.js_grammar.specs.CodeSpelling.{spell_ex_form, spell_stmt_form}
+use Rattle.js_grammar.specs.CodeFits.{Context, FitsEx, FitsStmt}
+use Rattle.js_grammar.specs.Items.{ItemForm, item, Items, module_of, spell_item_form, spell_module, FitsItem, FitsModule}
 use Rattle.js_grammar.specs.GoesOn.{goes_on_type, IsEnded}
 use Rattle.js_grammar.specs.Reads.{IsType, Finds, Faults}
 
@@ -26,6 +30,19 @@ end_place (ty f t lead ps) = t
 -- a type ends as many places behind its first as its spelling has tokens
 abbrev pub EndsBehindItsTokens : Type 0
 EndsBehindItsTokens = (i : ℕ) (t : Ty) → Fits t i → (first_place t ≡ i) × (end_place t ≡ i + length (spell t []))
+
+-- so do the other nodes
+abbrev pub ExpressionsEndBehindTheirTokens : Type 0
+ExpressionsEndBehindTheirTokens = (i f t : ℕ) (x : ExForm) → FitsEx (ex f t x) i → (f ≡ i) × (t ≡ i + length (spell_ex_form x []))
+
+abbrev pub StatementsEndBehindTheirTokens : Type 0
+StatementsEndBehindTheirTokens = (c : Context) (i f t : ℕ) (x : StmtForm) → FitsStmt (stmt f t x) c i → (f ≡ i) × (t ≡ i + length (spell_stmt_form x []))
+
+abbrev pub ItemsEndBehindTheirTokens : Type 0
+ItemsEndBehindTheirTokens = (i f t : ℕ) (x : ItemForm) → FitsItem (item f t x) i → (f ≡ i) × (t ≡ i + length (spell_item_form x []))
+
+abbrev pub ModulesEndBehindTheirTokens : Type 0
+ModulesEndBehindTheirTokens = (f t : ℕ) (is : Items) → FitsModule (module_of f t is) → (f ≡ 0) × (t ≡ length (spell_module (module_of f t is)))
 
 -- what is read from a place on begins there, and ends where the rest begins
 abbrev pub EndsWhereTheRestBegins : Type 0

@@ -2,7 +2,7 @@
 //! the code here is the laws, as the contracts of functions that do nothing.
 #![tactic(auto)]
 
-ghost use Rattle.js_grammar.specs.Law.{SameSpellingSameType, SameFrontSameType, EndsBehindItsTokens, EndsWhereTheRestBegins, FindsOneType, FaultsAtOnePlace, FindsOrFaults};
+ghost use Rattle.js_grammar.specs.Law.{SameSpellingSameType, SameFrontSameType, EndsBehindItsTokens, ExpressionsEndBehindTheirTokens, StatementsEndBehindTheirTokens, ItemsEndBehindTheirTokens, ModulesEndBehindTheirTokens, EndsWhereTheRestBegins, FindsOneType, FaultsAtOnePlace, FindsOrFaults};
 
 /// Two types of the grammar that begin at one place and have one spelling are equal, their numbers too; and so are two that
 /// stand in front of one list of tokens, where neither is followed by a token that can go on it.
@@ -11,10 +11,14 @@ pub fn one_type()
     ensures in_front { SameFrontSameType }
 {}
 
-/// A type of the grammar ends as many places behind its first token as its spelling has tokens; so one that is read begins
+/// A node of the grammar ends as many places behind its first token as its spelling has tokens; so a type that is read begins
 /// where reading began, and ends where the rest begins.
 pub fn ends_behind_its_tokens()
-    ensures every { EndsBehindItsTokens }
+    ensures types { EndsBehindItsTokens }
+    ensures expressions { ExpressionsEndBehindTheirTokens }
+    ensures statements { StatementsEndBehindTheirTokens }
+    ensures items { ItemsEndBehindTheirTokens }
+    ensures modules { ModulesEndBehindTheirTokens }
     ensures as_read { EndsWhereTheRestBegins }
 {}
 
