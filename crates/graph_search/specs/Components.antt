@@ -17,9 +17,15 @@ Begins lists k x = (members : List ℕ) × (slice_get lists k ≡ Some members) 
 
 -- each number stands in one component, and two in the same one exactly where each leads to the other
 pub record AreComponents (edges components : List (List ℕ)) : Type 0 where
+  -- a component has a member, and its members rise
   pub each : (k : ℕ) (members : List ℕ) → slice_get components k ≡ Some members → IsRising members × (0 < length members)
+  -- the components stand in the order of their first members
   pub order : (k j x y : ℕ) → k < j → Begins components k x → Begins components j y → x < y
+  -- each number stands in a component
   pub whole : (x : ℕ) → x < length edges → (k : ℕ) × StandsIn components k x
+  -- only numbers that have a list stand in one
   pub within : (k x : ℕ) → StandsIn components k x → x < length edges
+  -- two numbers of one component lead to each other
   pub together : (k x y : ℕ) → StandsIn components k x → StandsIn components k y → AreMutual edges x y
+  -- two that lead to each other stand in one component
   pub apart : (k j x y : ℕ) → StandsIn components k x → StandsIn components j y → AreMutual edges x y → k ≡ j

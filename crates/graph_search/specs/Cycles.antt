@@ -6,6 +6,7 @@ pub data Leads {X : Type 0} (Along : X → X → Type 0) : X → X → Type 0 wh
   here : {p : X} → Leads Along p p
   along : {p q r : X} → Along p q → Leads Along q r → Leads Along p r
 
+-- x stands somewhere in the list
 abbrev pub Has : List ℕ → ℕ → Type 0
 Has xs x = (i : ℕ) × (slice_get xs i ≡ Some x)
 
@@ -17,6 +18,7 @@ Edge edges x y = (ys : List ℕ) × (slice_get edges x ≡ Some ys) × Has ys y
 abbrev pub IsOnCycle : List (List ℕ) → ℕ → Type 0
 IsOnCycle edges x = (y : ℕ) × Edge edges x y × Leads (Edge edges) y x
 
+-- the mark of x is on
 abbrev pub IsOn : List Bool → ℕ → Type 0
 IsOn marks x = slice_get marks x ≡ Some true
 

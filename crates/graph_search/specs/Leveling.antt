@@ -20,6 +20,7 @@ Asks edges owners k j = (k ≢ j) × ((x : ℕ) × (y : ℕ) × (slice_get owner
 -- no level is higher than what its component asks for needs
 pub record AreLow (edges : List (List ℕ)) (owners : List ℕ) (count : ℕ) (levels : List ℕ) : Type 0 where
   pub len : length levels ≡ count
+  -- a level above 0 is at most one above that of some component for which its own asks
   pub low : (k w : ℕ) → slice_get levels k ≡ Some (w + 1) → (j : ℕ) × (v : ℕ) × Asks edges owners k j × (slice_get levels j ≡ Some v) × (w ≤ v)
 
 -- how far the levels may still rise, each up to n
@@ -30,6 +31,7 @@ room n (level ∷ levels) = (n - level) + room n levels
 -- the levels rose, or they stand still, as `rose` tells
 pub record Rises (before after : List ℕ) (rose : Bool) : Type 0 where
   pub len : length after ≡ length before
+  -- where they rose, there is less room left
   pub less : IsTrue rose → room (length before) after < room (length before) before
   pub still : ¬ (IsTrue rose) → after ≡ before
 
@@ -59,15 +61,18 @@ IsHigh edges owners levels x = (k y : ℕ) → slice_get owners x ≡ Some k →
 pub record HasRisen (edges : List (List ℕ)) (owners : List ℕ) (x : ℕ) (before after : List ℕ) (rose : Bool) : Type 0 where
   pub low : AreLow edges owners (length before) after
   pub rises : Rises before after rose
+  -- where nothing rose, the owner of x was high
   pub high : ¬ (IsTrue rose) → IsHigh edges owners after x
 
 -- one of the owners of the first n numbers rose, or they were high
 pub record HaveRisen (edges : List (List ℕ)) (owners : List ℕ) (n : ℕ) (before after : List ℕ) (rose : Bool) : Type 0 where
   pub low : AreLow edges owners (length before) after
   pub rises : Rises before after rose
+  -- where nothing rose, the owners of the first n were high
   pub high : ¬ (IsTrue rose) → (x : ℕ) → x < n → IsHigh edges owners after x
 
 -- each level is one above the highest of those for which its component asks
 pub record AreLevels (edges : List (List ℕ)) (owners : List ℕ) (count : ℕ) (levels : List ℕ) : Type 0 where
   pub low : AreLow edges owners count levels
+  -- a component is above each for which it asks
   pub high : (k j : ℕ) → Asks edges owners k j → IsAbove levels k j

@@ -21,26 +21,35 @@ open_count (false ∷ marks) = open_count marks
 pub record Closes (ys : List ℕ) (before : List Bool) (found : List ℕ) (after : List Bool) (listed : List ℕ) : Type 0 where
   pub len : length after ≡ length before
   pub keeps : (z : ℕ) → IsOn after z → IsOn before z
+  -- what was found before stays where it is listed
   pub front : (i z : ℕ) → slice_get found i ≡ Some z → slice_get listed i ≡ Some z
+  -- what was open stays open, or is listed
   pub split : (z : ℕ) → IsOn before z → IsOn after z ⊎ Has listed z
+  -- what is listed was found before, or is one of ys that this closed
   pub fresh : (z : ℕ) → Has listed z → Has found z ⊎ (Has ys z × IsOn before z × ¬ (IsOn after z))
   pub shut : (z : ℕ) → Has ys z → ¬ (IsOn after z)
+  -- at least as many are closed as are newly listed
   pub lighter : open_count after + length listed ≤ open_count before + length found
 
 -- a search on its way: the first `at` of what was found have the ends of their edges closed
 pub record Search (edges : List (List ℕ)) (starts : List ℕ) (first opened : List Bool) (found : List ℕ) (at : ℕ) : Type 0 where
   pub len : length opened ≡ length first
+  -- the starts are closed
   pub starts_shut : (s : ℕ) → Has starts s → ¬ (IsOn opened s)
   pub keeps : (z : ℕ) → IsOn opened z → IsOn first z
+  -- what was open at first is open still, or found
   pub split : (z : ℕ) → IsOn first z → IsOn opened z ⊎ Has found z
   pub sound : (z : ℕ) → Has found z → IsOpened edges starts first z
+  -- what is found is closed
   pub closed : (z : ℕ) → Has found z → ¬ (IsOn opened z)
+  -- what has an edge from one of the first `at` found is closed
   pub done : (i x y : ℕ) → i < at → slice_get found i ≡ Some x → Edge edges x y → ¬ (IsOn opened y)
 
 -- what a search found is exactly what is reached, and it alone was closed
 pub record HasFound (edges : List (List ℕ)) (starts : List ℕ) (first opened : List Bool) (found : List ℕ) : Type 0 where
   pub len : length opened ≡ length first
   pub keeps : (z : ℕ) → IsOn opened z → IsOn first z
+  -- what was open at first is open still, or found
   pub split : (z : ℕ) → IsOn first z → IsOn opened z ⊎ Has found z
   pub closed : (z : ℕ) → Has found z → ¬ (IsOn opened z)
   pub sound : (z : ℕ) → Has found z → IsOpened edges starts first z

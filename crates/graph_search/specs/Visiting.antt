@@ -14,5 +14,6 @@ abbrev pub untaken : List (List ℕ) → List (ℕ × ℕ) → ℕ
 untaken edges [] = 0
 untaken edges (at ∷ path) = 1 + (length (get_or edges at.0 []) - at.1) + untaken edges path
 
+-- what the search has to do with the numbers that it has not seen, and along its path
 abbrev pub still_to_do : List (List ℕ) → List Bool → List (ℕ × ℕ) → ℕ
 still_to_do edges seen path = unseen edges seen + untaken edges path

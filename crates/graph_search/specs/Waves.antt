@@ -11,9 +11,15 @@ DependsOn edges components k j = (k ≢ j) × ((x : ℕ) × (y : ℕ) × StandsI
 -- Each component stands in one wave: one behind the last of those on which it depends, and the first where there are none.
 -- The first wave is list 0.
 pub record AreWaves (edges components waves : List (List ℕ)) : Type 0 where
+  -- a wave has a component, and its components rise
   pub each : (w : ℕ) (ks : List ℕ) → slice_get waves w ≡ Some ks → IsRising ks × (0 < length ks)
+  -- each component stands in a wave
   pub whole : (k : ℕ) → k < length components → (w : ℕ) × StandsIn waves w k
+  -- nothing but components stands in one
   pub within : (w k : ℕ) → StandsIn waves w k → k < length components
+  -- a component stands in one wave only
   pub once : (w v k : ℕ) → StandsIn waves w k → StandsIn waves v k → w ≡ v
+  -- a component's wave comes behind those of the components on which it depends
   pub later : (k j w v : ℕ) → DependsOn edges components k j → StandsIn waves w k → StandsIn waves v j → v < w
+  -- in a later wave it depends on a component of the wave before
   pub tight : (k w : ℕ) → StandsIn waves (w + 1) k → (j : ℕ) × DependsOn edges components k j × StandsIn waves w j

@@ -26,6 +26,7 @@ pub data Level : Type 0 where
   sum_level : Level
   product_level : Level
 
+-- the operators between two expressions
 pub data Operator : Type 0 where
   nullish : Operator
   or : Operator
@@ -50,9 +51,11 @@ pub data Binder : Type 0 where
   let_word : Binder
 
 mutual
+  -- an expression: where it begins and ends, and its form
   pub data Ex : Type 0 where
     ex : ℕ → ℕ → ExForm → Ex
 
+  -- the forms of expressions
   pub data ExForm : Type 0 where
     variable : Bytes → ExForm
     number : Bytes → ExForm
@@ -72,10 +75,12 @@ mutual
     cond : Arms → Ex → ExForm
     arrow : Sig → ArrowBody → ExForm
 
+  -- the elements of an array, or the arguments of a call
   pub data Exs : Type 0 where
     no_ex : Exs
     more_ex : Exs → Ex → Exs
 
+  -- what follows an expression at once, with its place
   pub data Link : Type 0 where
     link : ℕ → ℕ → LinkForm → Link
 
@@ -89,6 +94,7 @@ mutual
     no_link : Links
     more_link : Links → Link → Links
 
+  -- an operator and what stands behind it, with its place
   pub data Operand : Type 0 where
     operand : ℕ → ℕ → OperandForm → Operand
 
@@ -101,6 +107,7 @@ mutual
     no_operand : Operands
     more_operand : Operands → Operand → Operands
 
+  -- a property of an object with its place
   pub data Field : Type 0 where
     field : ℕ → ℕ → FieldForm → Field
 
@@ -137,10 +144,12 @@ mutual
     no_parameter : Parameters
     more_parameter : Parameters → Parameter → Parameters
 
+  -- what stands behind `=>`: a block or an expression
   pub data ArrowBody : Type 0 where
     arrow_block : Block → ArrowBody
     arrow_value : Ex → ArrowBody
 
+  -- statements in braces
   pub data Block : Type 0 where
     block : ℕ → ℕ → Stmts → Block
 
@@ -148,9 +157,11 @@ mutual
     no_stmt : Stmts
     more_stmt : Stmts → Stmt → Stmts
 
+  -- a statement: where it begins and ends, and its form
   pub data Stmt : Type 0 where
     stmt : ℕ → ℕ → StmtForm → Stmt
 
+  -- the forms of statements; `does` is a simple one and its semicolon
   pub data StmtForm : Type 0 where
     declares : Declaration → StmtForm
     function_stmt : Function → StmtForm
@@ -163,9 +174,11 @@ mutual
   pub data Declaration : Type 0 where
     declaration : ℕ → ℕ → Binder → Bytes → Option Ty → Ex → Declaration
 
+  -- a statement that holds no other one, without its semicolon
   pub data Simple : Type 0 where
     simple : ℕ → ℕ → SimpleForm → Simple
 
+  -- the forms of simple statements
   pub data SimpleForm : Type 0 where
     return_bare : SimpleForm
     return_value : Ex → SimpleForm
@@ -189,10 +202,12 @@ mutual
     no_branch : Branches
     more_branch : Branches → Branch → Branches
 
+  -- the last arm of an `if`, behind `else`, or none
   pub data Else : Type 0 where
     no_else : Else
     else_body : Body → Else
 
+-- whether each list has one
 abbrev pub has_exs : Exs → Bool
 has_exs no_ex = false
 has_exs (more_ex es e) = true
@@ -245,13 +260,15 @@ operand_rank relation_level = 6
 operand_rank sum_level = 7
 operand_rank product_level = 8
 
--- how tight prefixes, links and what stands alone bind
+-- how tight an expression behind prefixes binds
 abbrev pub prefixed_rank : ℕ
 prefixed_rank = 8
 
+-- how tight an expression with links behind it binds
 abbrev pub postfixed_rank : ℕ
 postfixed_rank = 9
 
+-- how tight what stands alone binds
 abbrev pub primary_rank : ℕ
 primary_rank = 10
 
@@ -264,9 +281,11 @@ form_rank (prefixed ps e) = prefixed_rank
 form_rank (postfixed e ls) = postfixed_rank
 form_rank x = primary_rank
 
+-- how tight an expression binds
 abbrev pub ex_rank : Ex → ℕ
 ex_rank (ex f t x) = form_rank x
 
+-- the level of the chains in which an operator stands
 abbrev pub level_of : Operator → Level
 level_of nullish = nullish_level
 level_of or = or_level

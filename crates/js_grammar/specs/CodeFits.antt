@@ -23,15 +23,19 @@ BeginsPlain e = BeginsNot (Punct OpenBrace) e × BeginsNot (Name (codes "functio
 pub data Context : Type 0 where
   inside : Bool → Bool → Context
 
+-- inside a function, where a `return` may stand
 abbrev pub InFunction : Context → Type 0
 InFunction (inside in_function in_loop) = in_function ≡ true
 
+-- inside a loop, where a `break` and a `continue` may stand
 abbrev pub InLoop : Context → Type 0
 InLoop (inside in_function in_loop) = in_loop ≡ true
 
+-- the same place inside a loop
 abbrev pub looping : Context → Context
 looping (inside in_function in_loop) = inside in_function true
 
+-- directly in the body of a function
 abbrev pub body_context : Context
 body_context = inside true false
 
@@ -40,10 +44,12 @@ abbrev pub FitsPrefixes : Prefixes → ℕ → Type 0
 FitsPrefixes no_prefix i = Unit {0}
 FitsPrefixes (more_prefix ps p x) i = FitsPrefixes ps i × (p ≡ stop_prefixes ps i)
 
+-- the type stands behind a colon at place i
 abbrev pub FitsAnnotation : Option Ty → ℕ → Type 0
 FitsAnnotation None i = Unit {0}
 FitsAnnotation (Some t) i = Fits t (suc i)
 
+-- a name, where there is one, is no reserved word
 abbrev pub FitsName : Option Bytes → Type 0
 FitsName None = Unit {0}
 FitsName (Some n) = IsName n
@@ -57,10 +63,12 @@ abbrev pub FitsParameter : Parameter → ℕ → Type 0
 FitsParameter (parameter f t n o a) i =
     (f ≡ i) × (t ≡ stop_annotation a (bump o (suc i))) × IsName n × (o ≡ true → is_some a ≡ true) × FitsAnnotation a (bump o (suc i))
 
+-- each parameter fits where it stands
 abbrev pub FitsParameters : Parameters → ℕ → Type 0
 FitsParameters no_parameter i = Unit {0}
 FitsParameters (more_parameter ps p) i = FitsParameters ps i × FitsParameter p (stop_named ps i)
 
+-- a signature that begins at place i; a last comma stands behind a parameter
 abbrev pub FitsSig : Sig → ℕ → Type 0
 FitsSig (sig f t ps c r) i =
     (f ≡ i) × (t ≡ stop_annotation r (suc (bump c (stop_parameters ps (suc i))))) × FitsParameters ps (suc i) × CommaFits c (has_parameters ps)
@@ -76,12 +84,15 @@ abbrev pub IsPlainResult : Option Ty → Type 0
 IsPlainResult None = Unit {0}
 IsPlainResult (Some t) = has_fun t ≡ false
 
+-- an arrow's parameters have types, and its result type is no function type outside brackets
 abbrev pub IsArrowSig : Sig → Type 0
 IsArrowSig (sig f t ps c r) = AllTyped ps × IsPlainResult r
 
+-- the function has a name
 abbrev pub IsNamed : Function → Type 0
 IsNamed (function f t n s b) = is_some n ≡ true
 
+-- A form that begins at place i keeps the grammar's conditions, and its numbers are the places of its tokens.
 abbrev mutual
   pub FitsEx : Ex → ℕ → Type 0
   FitsEx (ex f t x) i = (f ≡ i) × (t ≡ stop_ex_form x i) × FitsExForm x i
@@ -118,9 +129,11 @@ abbrev mutual
   FitsLinks no_link i = Unit {0}
   FitsLinks (more_link ls k) i = FitsLinks ls i × FitsLink k (stop_links ls i)
 
+  -- in a chain of this level
   pub FitsOperand : Operand → Level → ℕ → Type 0
   FitsOperand (operand f t x) p i = (f ≡ i) × (t ≡ stop_operand_form x i) × FitsOperandForm x p i
 
+  -- the operator is one of the level, and its right side binds as tight as the level asks; `as` is a relation
   pub FitsOperandForm : OperandForm → Level → ℕ → Type 0
   FitsOperandForm (right_side o e) p i = (level_of o ≡ p) × (operand_rank p ≤ ex_rank e) × FitsEx e (suc i)
   FitsOperandForm (as_type v) p i = (p ≡ relation_level) × Fits v (suc i)
@@ -148,6 +161,7 @@ abbrev mutual
   FitsArms no_arm i = Unit {0}
   FitsArms (more_arm hs a) i = FitsArms hs i × FitsArm a (stop_arms hs i)
 
+  -- its body is a function's, outside any loop
   pub FitsFunction : Function → ℕ → Type 0
   FitsFunction (function f t n s b) i =
       (f ≡ i) × (t ≡ stop_block b (stop_sig s (stop_name n (suc i)))) × FitsName n × FitsSig s (stop_name n (suc i))
@@ -157,6 +171,7 @@ abbrev mutual
   FitsArrowBody (arrow_block b) i = FitsBlock b body_context i
   FitsArrowBody (arrow_value e) i = BeginsNot (Punct OpenBrace) e × FitsEx e i
 
+  -- a block in a context
   pub FitsBlock : Block → Context → ℕ → Type 0
   FitsBlock (block f t ss) c i = (f ≡ i) × (t ≡ suc (stop_stmts ss (suc i))) × FitsStmts ss c (suc i)
 
@@ -167,6 +182,7 @@ abbrev mutual
   pub FitsStmt : Stmt → Context → ℕ → Type 0
   FitsStmt (stmt f t s) c i = (f ≡ i) × (t ≡ stop_stmt_form s i) × FitsStmtForm s c i
 
+  -- the body of a loop stands in one
   pub FitsStmtForm : StmtForm → Context → ℕ → Type 0
   FitsStmtForm (declares d) c i = FitsDeclaration d i
   FitsStmtForm (function_stmt f) c i = IsNamed f × FitsFunction f i
@@ -183,6 +199,7 @@ abbrev mutual
   pub FitsSimple : Simple → Context → ℕ → Type 0
   FitsSimple (simple f t s) c i = (f ≡ i) × (t ≡ stop_simple_form s i) × FitsSimpleForm s c i
 
+  -- each where its context lets it stand
   pub FitsSimpleForm : SimpleForm → Context → ℕ → Type 0
   FitsSimpleForm return_bare c i = InFunction c
   FitsSimpleForm (return_value e) c i = InFunction c × FitsEx e (suc i)
@@ -192,6 +209,7 @@ abbrev mutual
   FitsSimpleForm (assign a e) c i = (is_target a ≡ true) × BeginsPlain a × FitsEx a i × FitsEx e (suc (stop_ex a i))
   FitsSimpleForm (evaluate e) c i = BeginsPlain e × FitsEx e i
 
+  -- an arm, or a loop's body, in a context
   pub FitsBody : Body → Context → ℕ → Type 0
   FitsBody (block_body b) c i = FitsBlock b c i
   FitsBody (simple_body s) c i = FitsSimple s c i
@@ -204,6 +222,7 @@ abbrev mutual
   FitsBranches no_branch c i = Unit {0}
   FitsBranches (more_branch bs b) c i = FitsBranches bs c i × FitsBranch b c (stop_elses bs i)
 
+  -- the body stands behind `else`
   pub FitsElse : Else → Context → ℕ → Type 0
   FitsElse no_else c i = Unit {0}
   FitsElse (else_body b) c i = FitsBody b c (suc i)

@@ -5,10 +5,12 @@ use Rattle.js_grammar.specs.Types.{Ty}
 use Rattle.js_grammar.specs.TypeFits.{bump, stop}
 use Rattle.js_grammar.specs.Code.{Prefixes, no_prefix, more_prefix, Ex, ex, ExForm, variable, number, text, truth_value, null_value, parens, elements, fields, function_ex, postfixed, prefixed, chain, cond, arrow, Exs, no_ex, more_ex, Link, link, LinkForm, member, index, call, Links, no_link, more_link, Operand, operand, OperandForm, right_side, as_type, Operands, no_operand, more_operand, Field, field, FieldForm, shorthand, valued, Fields, no_field, more_field, Arm, arm, Arms, no_arm, more_arm, Function, function, Sig, sig, Parameter, parameter, Parameters, no_parameter, more_parameter, ArrowBody, arrow_block, arrow_value, Block, block, Stmts, no_stmt, more_stmt, Stmt, stmt, StmtForm, declares, function_stmt, does, branches, loop, nested, Declaration, declaration, Simple, simple, SimpleForm, return_bare, return_value, throw_value, break_loop, continue_loop, assign, evaluate, Body, block_body, simple_body, Branch, branch, Branches, no_branch, more_branch, Else, no_else, else_body}
 
+-- the place behind marks in a row
 abbrev pub stop_prefixes : Prefixes → ℕ → ℕ
 stop_prefixes no_prefix i = i
 stop_prefixes (more_prefix ps p x) i = suc (stop_prefixes ps i)
 
+-- the place behind a colon and a type, or behind nothing
 abbrev pub stop_annotation : Option Ty → ℕ → ℕ
 stop_annotation None i = i
 stop_annotation (Some t) i = stop t (suc i)
@@ -20,6 +22,7 @@ stop_name (Some n) i = suc i
 abbrev pub stop_parameter : Parameter → ℕ → ℕ
 stop_parameter (parameter f t n o a) i = stop_annotation a (bump o (suc i))
 
+-- behind parameters with a comma behind each
 abbrev pub stop_named : Parameters → ℕ → ℕ
 stop_named no_parameter i = i
 stop_named (more_parameter ps p) i = suc (stop_parameter p (stop_named ps i))
@@ -31,6 +34,7 @@ stop_parameters (more_parameter ps p) i = stop_parameter p (stop_named ps i)
 abbrev pub stop_sig : Sig → ℕ → ℕ
 stop_sig (sig f t ps c r) i = stop_annotation r (suc (bump c (stop_parameters ps (suc i))))
 
+-- the place behind a form that begins at a place
 abbrev mutual
   pub stop_ex : Ex → ℕ → ℕ
   stop_ex (ex f t x) i = stop_ex_form x i
@@ -55,6 +59,7 @@ abbrev mutual
   stop_exs no_ex i = i
   stop_exs (more_ex es e) i = stop_ex e (stop_listed es i)
 
+  -- behind expressions with a comma behind each
   pub stop_listed : Exs → ℕ → ℕ
   stop_listed no_ex i = i
   stop_listed (more_ex es e) i = suc (stop_ex e (stop_listed es i))
@@ -93,6 +98,7 @@ abbrev mutual
   stop_fields no_field i = i
   stop_fields (more_field fs f) i = stop_field f (stop_entries fs i)
 
+  -- behind properties with a comma behind each
   pub stop_entries : Fields → ℕ → ℕ
   stop_entries no_field i = i
   stop_entries (more_field fs f) i = suc (stop_field f (stop_entries fs i))
@@ -155,6 +161,7 @@ abbrev mutual
   stop_branches no_branch i = i
   stop_branches (more_branch bs b) i = stop_branch b (stop_elses bs i)
 
+  -- behind branches with `else` behind each
   pub stop_elses : Branches → ℕ → ℕ
   stop_elses no_branch i = i
   stop_elses (more_branch bs b) i = suc (stop_branch b (stop_elses bs i))

@@ -9,6 +9,7 @@ use Rattle.js_grammar.specs.Types.{Ty}
 use Rattle.js_grammar.specs.TypeSpelling.{Tokens, opt, spell, spell_key}
 use Rattle.js_grammar.specs.Code.{Prefix, negation, minus_sign, plus_sign, kind_of, Prefixes, no_prefix, more_prefix, Operator, nullish, or, and, strict_equal, strict_not_equal, loose_equal, loose_not_equal, less, greater, less_or_equal, greater_or_equal, add, subtract, multiply, divide, remainder, Binder, const, let_word, Ex, ex, ExForm, variable, number, text, truth_value, null_value, parens, elements, fields, function_ex, postfixed, prefixed, chain, cond, arrow, Exs, no_ex, more_ex, Link, link, LinkForm, member, index, call, Links, no_link, more_link, Operand, operand, OperandForm, right_side, as_type, Operands, no_operand, more_operand, Field, field, FieldForm, shorthand, valued, Fields, no_field, more_field, Arm, arm, Arms, no_arm, more_arm, Function, function, Sig, sig, Parameter, parameter, Parameters, no_parameter, more_parameter, ArrowBody, arrow_block, arrow_value, Block, block, Stmts, no_stmt, more_stmt, Stmt, stmt, StmtForm, declares, function_stmt, does, branches, loop, nested, Declaration, declaration, Simple, simple, SimpleForm, return_bare, return_value, throw_value, break_loop, continue_loop, assign, evaluate, Body, block_body, simple_body, Branch, branch, Branches, no_branch, more_branch, Else, no_else, else_body}
 
+-- the mark of an operator
 abbrev pub mark_of : Operator → Mark
 mark_of nullish = QuestionQuestion
 mark_of or = OrOr
@@ -27,6 +28,7 @@ mark_of multiply = Star
 mark_of divide = Slash
 mark_of remainder = Percent
 
+-- the token of a mark before an expression
 abbrev pub prefix_token : Prefix → TokenKind
 prefix_token negation = Punct Bang
 prefix_token minus_sign = Punct Minus
@@ -37,6 +39,7 @@ abbrev pub spell_prefixes : Prefixes → Tokens → Tokens
 spell_prefixes no_prefix l = l
 spell_prefixes (more_prefix ps p x) l = spell_prefixes ps (prefix_token x ∷ l)
 
+-- the word of a binder
 abbrev pub binder_word : Binder → Bytes
 binder_word const = codes "const"
 binder_word let_word = codes "let"
@@ -65,6 +68,7 @@ spell_parameters (more_parameter ps p) l = spell_named ps (spell_parameter p l)
 abbrev pub spell_sig : Sig → Tokens → Tokens
 spell_sig (sig f t ps c r) l = Punct OpenParen ∷ spell_parameters ps (opt c (Punct Comma) (Punct CloseParen ∷ spell_annotation r l))
 
+-- each form's tokens, and then those that follow
 abbrev mutual
   pub spell_ex : Ex → Tokens → Tokens
   spell_ex (ex f t x) l = spell_ex_form x l
@@ -133,6 +137,7 @@ abbrev mutual
   spell_entries no_field l = l
   spell_entries (more_field fs f) l = spell_entries fs (spell_field f (Punct Comma ∷ l))
 
+  -- `test ? branch :`
   pub spell_arm : Arm → Tokens → Tokens
   spell_arm (arm f t a b) l = spell_ex a (Punct Question ∷ spell_ex b (Punct Colon ∷ l))
 
@@ -196,6 +201,7 @@ abbrev mutual
   spell_elses no_branch l = l
   spell_elses (more_branch bs b) l = spell_elses bs (spell_branch b (Name (codes "else") ∷ l))
 
+  -- `else` and a body, or nothing
   pub spell_else : Else → Tokens → Tokens
   spell_else no_else l = l
   spell_else (else_body b) l = Name (codes "else") ∷ spell_body b l

@@ -17,6 +17,7 @@ use Rattle.js_grammar.specs.CodeFits.{Context, inside, BeginsNot, IsNamed, FitsE
 pub data Imported : Type 0 where
   imported : ℕ → ℕ → Option Bytes → Bytes → Imported
 
+-- the names of an import, in order
 pub data Importeds : Type 0 where
   no_imported : Importeds
   more_imported : Importeds → Imported → Importeds
@@ -29,10 +30,12 @@ pub data ImportList : Type 0 where
 pub data Exported : Type 0 where
   exported : ℕ → ℕ → Bytes → Option Bytes → Exported
 
+-- the names of an export, in order
 pub data Exporteds : Type 0 where
   no_exported : Exporteds
   more_exported : Exporteds → Exported → Exporteds
 
+-- exported names in braces, their last comma or not
 pub data ExportList : Type 0 where
   export_list : ℕ → ℕ → Exporteds → Bool → ExportList
 
@@ -58,6 +61,7 @@ pub data ExportForm : Type 0 where
   export_default_function : Function → ExportForm
   export_default : Ex → ExportForm
 
+-- the forms of items; an import has its specifier, and `does_item` is a simple statement and its semicolon
 pub data ItemForm : Type 0 where
   imports : ImportForm → Bytes → ItemForm
   exports : ExportForm → ItemForm
@@ -66,6 +70,7 @@ pub data ItemForm : Type 0 where
   alias_item : AliasOf → ItemForm
   does_item : Simple → ItemForm
 
+-- an item: where it begins and ends, and its form
 pub data Item : Type 0 where
   item : ℕ → ℕ → ItemForm → Item
 
@@ -73,9 +78,11 @@ pub data Items : Type 0 where
   no_item : Items
   more_item : Items → Item → Items
 
+-- a module: where it begins and ends, and its items
 pub data Module : Type 0 where
   module_of : ℕ → ℕ → Items → Module
 
+-- whether each list has one
 abbrev pub has_importeds : Importeds → Bool
 has_importeds no_imported = false
 has_importeds (more_imported ns n) = true
@@ -117,12 +124,15 @@ spell_exporteds (more_exported ns n) l = spell_begun_exports ns (spell_exported 
 abbrev pub spell_export_list : ExportList → Tokens → Tokens
 spell_export_list (export_list f t ns c) l = Punct OpenBrace ∷ spell_exporteds ns (opt c (Punct Comma) (Punct CloseBrace ∷ l))
 
+-- `from`, behind what is imported
 abbrev pub from_word : TokenKind
 from_word = Name (codes "from")
 
+-- `type`, before what is imported or exported as types
 abbrev pub type_word : TokenKind
 type_word = Name (codes "type")
 
+-- what stands between `import` and the specifier
 abbrev pub spell_import : ImportForm → Tokens → Tokens
 spell_import (import_default n) l = Name n ∷ from_word ∷ l
 spell_import (import_both n ns) l = Name n ∷ Punct Comma ∷ spell_import_list ns (from_word ∷ l)
@@ -133,6 +143,7 @@ spell_import import_only l = l
 abbrev pub spell_alias : AliasOf → Tokens → Tokens
 spell_alias (alias f t n v) l = type_word ∷ Name n ∷ Punct Assign ∷ spell v l
 
+-- what stands behind `export`
 abbrev pub spell_export : ExportForm → Tokens → Tokens
 spell_export (export_declaration d) l = spell_declaration d (Punct Semicolon ∷ l)
 spell_export (export_function f) l = spell_function f l
@@ -157,6 +168,7 @@ abbrev pub spell_items : Items → Tokens → Tokens
 spell_items no_item l = l
 spell_items (more_item is i) l = spell_items is (spell_item i l)
 
+-- all tokens of a module
 abbrev pub spell_module : Module → Tokens
 spell_module (module_of f t is) = spell_items is []
 
@@ -165,6 +177,7 @@ abbrev pub stop_imported : Imported → ℕ → ℕ
 stop_imported (imported f t None n) i = suc i
 stop_imported (imported f t (Some w) n) i = suc (suc (suc i))
 
+-- behind names with a comma behind each
 abbrev pub stop_begun_imports : Importeds → ℕ → ℕ
 stop_begun_imports no_imported i = i
 stop_begun_imports (more_imported ns n) i = suc (stop_imported n (stop_begun_imports ns i))
@@ -180,6 +193,7 @@ abbrev pub stop_exported : Exported → ℕ → ℕ
 stop_exported (exported f t n None) i = suc i
 stop_exported (exported f t n (Some w)) i = suc (suc (suc i))
 
+-- behind names with a comma behind each
 abbrev pub stop_begun_exports : Exporteds → ℕ → ℕ
 stop_begun_exports no_exported i = i
 stop_begun_exports (more_exported ns n) i = suc (stop_exported n (stop_begun_exports ns i))
@@ -255,6 +269,7 @@ abbrev pub AreNames : Exporteds → Type 0
 AreNames no_exported = Unit {0}
 AreNames (more_exported ns (exported f t n w)) = AreNames ns × IsName n
 
+-- the list exports what has a name in this module
 abbrev pub AreLocal : ExportList → Type 0
 AreLocal (export_list f t ns c) = AreNames ns
 
@@ -270,13 +285,16 @@ abbrev pub base_names : List Bytes
 base_names =
     codes "any" ∷ codes "mixed" ∷ codes "empty" ∷ codes "number" ∷ codes "string" ∷ codes "boolean" ∷ codes "Array" ∷ codes "$ReadOnlyArray" ∷ []
 
+-- the name is no word of the list
 abbrev pub IsNoneOf : List Bytes → Bytes → Type 0
 IsNoneOf [] n = Unit {0}
 IsNoneOf (w ∷ ws) n = (n ≡ w → ⊥) × IsNoneOf ws n
 
+-- an alias bears no name of a type that the language gives
 abbrev pub FitsAlias : AliasOf → ℕ → Type 0
 FitsAlias (alias f t n v) i = (f ≡ i) × (t ≡ stop v (suc (suc (suc i)))) × IsName n × IsNoneOf base_names n × Fits v (suc (suc (suc i)))
 
+-- a function behind `export` has a name, and behind `default` it needs none
 abbrev pub FitsExport : ExportForm → ℕ → Type 0
 FitsExport (export_declaration d) i = FitsDeclaration d i
 FitsExport (export_function f) i = IsNamed f × FitsFunction f i
@@ -292,9 +310,11 @@ IsTopForm (assign a e) = Unit {0}
 IsTopForm (evaluate e) = Unit {0}
 IsTopForm s = ⊥
 
+-- the simple statement may stand at top level
 abbrev pub IsTop : Simple → Type 0
 IsTop (simple f t s) = IsTopForm s
 
+-- the first token is a word
 abbrev pub begins_word : Tokens → Bool
 begins_word (Name n ∷ l) = true
 begins_word l = false
@@ -308,9 +328,11 @@ begins_alias l = false
 abbrev pub BeginsNoAlias : Simple → Type 0
 BeginsNoAlias s = (l : Tokens) → begins_alias (spell_simple s (Punct Semicolon ∷ l)) ≡ false
 
+-- outside functions and loops
 abbrev pub top_context : Context
 top_context = inside false false
 
+-- a simple statement at top level does not begin as an alias does
 abbrev pub FitsItemForm : ItemForm → ℕ → Type 0
 FitsItemForm (imports m s) i = FitsImport m (suc i)
 FitsItemForm (exports e) i = FitsExport e (suc i)
@@ -326,5 +348,6 @@ abbrev pub FitsItems : Items → ℕ → Type 0
 FitsItems no_item i = Unit {0}
 FitsItems (more_item is n) i = FitsItems is i × FitsItem n (stop_items is i)
 
+-- a module begins at place 0
 abbrev pub FitsModule : Module → Type 0
 FitsModule (module_of f t is) = (f ≡ 0) × (t ≡ stop_items is 0) × FitsItems is 0

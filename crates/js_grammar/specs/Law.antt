@@ -20,10 +20,11 @@ abbrev pub SameFrontSameType : Type 0
 SameFrontSameType = (plain : Bool) (i : ℕ) (a b : Ty) → IsType plain i a → IsType plain i b → (m n : Tokens) → spell a m ≡ spell b n →
     IsEnded (goes_on_type plain) m → IsEnded (goes_on_type plain) n → a ≡ b
 
--- the place of a type's first token, and the place behind its last
+-- the place of a type's first token
 abbrev pub first_place : Ty → ℕ
 first_place (ty f t lead ps) = f
 
+-- the place behind a type's last token
 abbrev pub end_place : Ty → ℕ
 end_place (ty f t lead ps) = t
 
@@ -31,16 +32,19 @@ end_place (ty f t lead ps) = t
 abbrev pub EndsBehindItsTokens : Type 0
 EndsBehindItsTokens = (i : ℕ) (t : Ty) → Fits t i → (first_place t ≡ i) × (end_place t ≡ i + length (spell t []))
 
--- so do the other nodes
+-- and so does an expression
 abbrev pub ExpressionsEndBehindTheirTokens : Type 0
 ExpressionsEndBehindTheirTokens = (i f t : ℕ) (x : ExForm) → FitsEx (ex f t x) i → (f ≡ i) × (t ≡ i + length (spell_ex_form x []))
 
+-- and so does a statement
 abbrev pub StatementsEndBehindTheirTokens : Type 0
 StatementsEndBehindTheirTokens = (c : Context) (i f t : ℕ) (x : StmtForm) → FitsStmt (stmt f t x) c i → (f ≡ i) × (t ≡ i + length (spell_stmt_form x []))
 
+-- and so does an item
 abbrev pub ItemsEndBehindTheirTokens : Type 0
 ItemsEndBehindTheirTokens = (i f t : ℕ) (x : ItemForm) → FitsItem (item f t x) i → (f ≡ i) × (t ≡ i + length (spell_item_form x []))
 
+-- and a module, which begins at place 0
 abbrev pub ModulesEndBehindTheirTokens : Type 0
 ModulesEndBehindTheirTokens = (f t : ℕ) (is : Items) → FitsModule (module_of f t is) → (f ≡ 0) × (t ≡ length (spell_module (module_of f t is)))
 
@@ -53,8 +57,10 @@ EndsWhereTheRestBegins = (plain : Bool) (l : Tokens) (from end : ℕ) (t : Ty) �
 abbrev pub FindsOneType : Type 0
 FindsOneType = (plain : Bool) (i : ℕ) (l : Tokens) (t u : Ty) (r s : Tokens) → Finds plain i l t r → Finds plain i l u s → (t ≡ u) × (r ≡ s)
 
+-- two faults of reading one list of tokens leave the same rest
 abbrev pub FaultsAtOnePlace : Type 0
 FaultsAtOnePlace = (plain : Bool) (i : ℕ) (l : Tokens) (r s : Tokens) → Faults plain i l r → Faults plain i l s → r ≡ s
 
+-- where a type is found, there is no fault
 abbrev pub FindsOrFaults : Type 0
 FindsOrFaults = (plain : Bool) (i : ℕ) (l : Tokens) (t : Ty) (r s : Tokens) → Finds plain i l t r → Faults plain i l s → ⊥

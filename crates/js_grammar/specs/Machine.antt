@@ -18,6 +18,7 @@ pub data TypeWord : Type 0 where
   array_word : Bool → TypeWord
   other_word : TypeWord
 
+-- what a reserved word is there
 abbrev pub reserved_word : Bytes → TypeWord
 reserved_word n =
     if bytes_eq n (codes "null") then null_word
@@ -26,6 +27,7 @@ reserved_word n =
     else if bytes_eq n (codes "false") then truth_of false
     else other_word
 
+-- what any word is there
 abbrev pub type_word : Bytes → TypeWord
 type_word n =
     if is_reserved n then reserved_word n
@@ -65,6 +67,7 @@ pub data Mode : Type 0 where
   after_key : Open → ℕ → Props → ℕ → Sign → Key → Mode
   after_mark : Open → ℕ → Props → ℕ → Sign → Key → Mode
 
+-- the forms that are open, the innermost first
 abbrev pub Stack : Type 0
 Stack = List Frame
 
@@ -87,29 +90,32 @@ can_fun can (f ∷ k) = true
 abbrev pub fresh : ℕ → Open
 fresh i = open_at i false no_pre i no_place
 
--- where it begins
+-- where a base begins
 abbrev pub start_base : Base → ℕ
 start_base (base f t x) = f
 
--- Each step has the place of its token.
+-- the whole union, whose last member this core ends before place i
 abbrev pub finish : ℕ → Open → Core → Ty
 finish i (open_at f lead m p q) c = ty f i lead (more_pre m (pre p i q c))
 
--- Each form behind a whole part of it: a token ends the form, or a further part begins.
+-- Each form behind a whole part of it: the token, at place i, ends the form, or a further part begins.
 abbrev pub after_param : Bool → Stack → Open → ℕ → Params → TokenKind → Step
 after_param can k u s g (Punct CloseParen) = go k (closed u s g false)
 after_param can k u s g (Punct Comma) = if can then go k (group_start u s g) else fault
 after_param can k u s g _ = fault
 
+-- behind an element of a tuple
 abbrev pub after_type : ℕ → Stack → Open → ℕ → Types → TokenKind → Step
 after_type i k u s g (Punct CloseBracket) = go k (after_base u (base s (suc i) (tuple g false)) no_place)
 after_type i k u s g (Punct Comma) = go k (tuple_start u s g)
 after_type i k u s g _ = fault
 
+-- behind the element type of an array
 abbrev pub after_element : ℕ → Stack → Open → ℕ → Bool → Ty → TokenKind → Step
 after_element i k u s o t (Punct GreaterThan) = go k (after_base u (base s (suc i) (array o t)) no_place)
 after_element i k u s o t _ = fault
 
+-- behind a property of an object
 abbrev pub after_prop : ℕ → Stack → Open → ℕ → Props → TokenKind → Step
 after_prop i k u s g (Punct CloseBrace) = go k (after_base u (base s (suc i) (object g bare)) no_place)
 after_prop i k u s g (Punct Comma) = go k (object_start u s g)
@@ -125,17 +131,21 @@ give can i (in_result u s g c ∷ k) t x = give can i k (finish i u (fun s i g c
 give can i (in_tuple u s g ∷ k) t x = after_type i k u s (more_type g t) x
 give can i (in_prop u s g a v y o ∷ k) t x = after_prop i k u s (more_prop g (prop a i v y o t)) x
 
+-- behind a member of a union
 abbrev pub after_pres : Bool → ℕ → Stack → ℕ → Bool → Pres → TokenKind → Step
 after_pres can i k f lead m (Punct Bar) = go k (want_pre (open_at f lead m (suc i) no_place))
 after_pres can i k f lead m x = give can i k (ty f i lead m) x
 
+-- behind a member that is whole with this core
 abbrev pub after_core : Bool → ℕ → Stack → Open → Core → TokenKind → Step
 after_core can i k (open_at f lead m p q) c x = after_pres can i k f lead (more_pre m (pre p i q c)) x
 
+-- behind a base and its brackets: one more pair opens, or the member is whole
 abbrev pub base_step : Bool → ℕ → Stack → Open → Base → Places → TokenKind → Step
 base_step can i k u b bs (Punct OpenBracket) = go k (after_bracket u b bs i)
 base_step can i k u b bs x = after_core can i k u (post (start_base b) i b bs) x
 
+-- a word where a member of a union may begin
 abbrev pub word_step : ℕ → Stack → Open → Bytes → TypeWord → Step
 word_step i k u n type_name = go k (after_base u (base i (suc i) (name n)) no_place)
 word_step i k u n null_word = go k (after_base u (base i (suc i) null) no_place)
@@ -144,6 +154,7 @@ word_step i k u n (truth_of b) = go k (after_base u (base i (suc i) (truth b)) n
 word_step i k u n (array_word o) = go k (after_array u i o)
 word_step i k u n other_word = fault
 
+-- where a member of a union may begin
 abbrev pub pre_step : ℕ → Stack → Open → TokenKind → Step
 pre_step i k (open_at f lead m p q) (Punct Question) = go k (want_pre (open_at f lead m p (more_place q i)))
 pre_step i k u (Name n) = word_step i k u n (type_word n)
@@ -154,14 +165,17 @@ pre_step i k u (Punct OpenBracket) = go k (tuple_start u i no_type)
 pre_step i k u (Punct OpenBrace) = go k (object_start u i no_prop)
 pre_step i k u (Punct _) = fault
 
+-- where a type may begin, a bar before it or not
 abbrev pub want_step : ℕ → Stack → TokenKind → Step
 want_step i k (Punct Bar) = go k (want_pre (open_at i true no_pre (suc i) no_place))
 want_step i k x = pre_step i k (fresh i) x
 
+-- behind `[` that stands behind a base
 abbrev pub bracket_step : Stack → Open → Base → Places → ℕ → TokenKind → Step
 bracket_step k u b bs j (Punct CloseBracket) = go k (after_base u b (more_place bs j))
 bracket_step k u b bs j _ = fault
 
+-- behind the name of an array type
 abbrev pub array_step : Stack → Open → ℕ → Bool → TokenKind → Step
 array_step k u s o (Punct LessThan) = go (in_array u s o ∷ k) want
 array_step k u s o _ = fault
@@ -171,6 +185,7 @@ abbrev pub close_at : Bool → Stack → Open → ℕ → Params → Step
 close_at can k u s no_param = if can then go k (closed u s no_param false) else fault
 close_at can k u s (more_param g p) = go k (closed u s (more_param g p) true)
 
+-- behind `(`, or a comma in a group
 abbrev pub start_step : Bool → ℕ → Stack → Open → ℕ → Params → TokenKind → Step
 start_step can i k u s g (Punct CloseParen) = close_at (can_fun can k) k u s g
 start_step can i k u s g (Name n) = if is_reserved n then want_step i (in_group u s g ∷ k) (Name n) else go k (group_name u s g i n)
@@ -182,11 +197,13 @@ name_rest can i k u s g a n type_name x = base_step can i (in_group u s g ∷ k)
 name_rest can i k u s g a n (array_word o) x = array_step (in_group u s g ∷ k) (fresh a) a o x
 name_rest can i k u s g a n w x = fault
 
+-- behind a name in a group
 abbrev pub name_step : Bool → ℕ → Stack → Open → ℕ → Params → ℕ → Bytes → TokenKind → Step
 name_step can i k u s g a n (Punct Question) = if can_fun can k then go k (group_mark u s g a n) else fault
 name_step can i k u s g a n (Punct Colon) = if can_fun can k then go (in_named u s g a n false ∷ k) want else fault
 name_step can i k u s g a n x = name_rest can i k u s g a n (type_word n) x
 
+-- behind a name and `?` in a group
 abbrev pub mark_step : Stack → Open → ℕ → Params → ℕ → Bytes → TokenKind → Step
 mark_step k u s g a n (Punct Colon) = go (in_named u s g a n true ∷ k) want
 mark_step k u s g a n _ = fault
@@ -196,10 +213,12 @@ abbrev pub single : Bool → ℕ → Stack → Open → ℕ → Params → Bool 
 single can i k u s (more_param no_param (plain t)) false x = base_step can i k u (base s i (paren t)) no_place x
 single can i k u s _ _ x = fault
 
+-- behind the `)` of a group
 abbrev pub closed_step : Bool → ℕ → Stack → Open → ℕ → Params → Bool → TokenKind → Step
 closed_step can i k u s g c (Punct Arrow) = if can_fun can k then go (in_result u s g c ∷ k) want else single can i k u s g c (Punct Arrow)
 closed_step can i k u s g c x = single can i k u s g c x
 
+-- behind `[`, or a comma in a tuple
 abbrev pub tuple_step : ℕ → Stack → Open → ℕ → Types → TokenKind → Step
 tuple_step i k u s g (Punct CloseBracket) = go k (after_base u (base s (suc i) (tuple g (has_types g))) no_place)
 tuple_step i k u s g x = want_step i (in_tuple u s g ∷ k) x
@@ -209,11 +228,13 @@ abbrev pub ending_of : Props → Ending
 ending_of no_prop = bare
 ending_of (more_prop ps p) = comma
 
+-- where a key must stand, behind a sign or none
 abbrev pub key_step : ℕ → Stack → Open → ℕ → Props → ℕ → Sign → TokenKind → Step
 key_step i k u s g a v (Name n) = go k (after_key u s g a v (key i (suc i) (word_key n)))
 key_step i k u s g a v (Str n) = go k (after_key u s g a v (key i (suc i) (text_key n)))
 key_step i k u s g a v _ = fault
 
+-- behind `{`, or a comma in an object
 abbrev pub object_step : ℕ → Stack → Open → ℕ → Props → TokenKind → Step
 object_step i k u s g (Punct CloseBrace) = go k (after_base u (base s (suc i) (object g (ending_of g))) no_place)
 object_step i k u s g (Punct Ellipsis) = go k (after_dots u s g)
@@ -221,15 +242,18 @@ object_step i k u s g (Punct Plus) = go k (after_sign u s g i plus)
 object_step i k u s g (Punct Minus) = go k (after_sign u s g i minus)
 object_step i k u s g x = key_step i k u s g i unsigned x
 
+-- behind `...` in an object
 abbrev pub dots_step : ℕ → Stack → Open → ℕ → Props → TokenKind → Step
 dots_step i k u s g (Punct CloseBrace) = go k (after_base u (base s (suc i) (object g dots)) no_place)
 dots_step i k u s g _ = fault
 
+-- behind a key
 abbrev pub colon_step : Stack → Open → ℕ → Props → ℕ → Sign → Key → TokenKind → Step
 colon_step k u s g a v y (Punct Question) = go k (after_mark u s g a v y)
 colon_step k u s g a v y (Punct Colon) = go (in_prop u s g a v y false ∷ k) want
 colon_step k u s g a v y _ = fault
 
+-- behind a key and `?`
 abbrev pub marked_step : Stack → Open → ℕ → Props → ℕ → Sign → Key → TokenKind → Step
 marked_step k u s g a v y (Punct Colon) = go (in_prop u s g a v y true ∷ k) want
 marked_step k u s g a v y _ = fault

@@ -52,6 +52,7 @@ marked o Comma = close_parts o
 marked o Semicolon = close_parts o
 marked o _ = o
 
+-- whether the mark is `}`
 abbrev pub closes_brace : Mark → Bool
 closes_brace CloseBrace = true
 closes_brace _ = false
@@ -67,6 +68,7 @@ nest (nested o b) (Str s) = nested o false
 abbrev pub no_nest : Nest
 no_nest = nested [] false
 
+-- how many entries a token may leave open
 abbrev pub max_nesting : ℕ
 max_nesting = 200
 

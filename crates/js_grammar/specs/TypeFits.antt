@@ -8,14 +8,17 @@ abbrev pub bump : Bool → ℕ → ℕ
 bump true i = suc i
 bump false i = i
 
+-- the place behind question marks in a row
 abbrev pub stop_marks : Places → ℕ → ℕ
 stop_marks no_place i = i
 stop_marks (more_place ps p) i = suc (stop_marks ps i)
 
+-- behind pairs of brackets in a row
 abbrev pub stop_brackets : Places → ℕ → ℕ
 stop_brackets no_place i = i
 stop_brackets (more_place ps p) i = suc (suc (stop_brackets ps i))
 
+-- behind a sign or none
 abbrev pub stop_sign : Sign → ℕ → ℕ
 stop_sign unsigned i = i
 stop_sign plus i = suc i
@@ -30,6 +33,7 @@ abbrev mutual
   stop_pres no_pre i = i
   stop_pres (more_pre ps p) i = stop_pre p (stop_barred ps i)
 
+  -- behind members with a bar behind each
   pub stop_barred : Pres → ℕ → ℕ
   stop_barred no_pre i = i
   stop_barred (more_pre ps p) i = suc (stop_pre p (stop_barred ps i))
@@ -62,6 +66,7 @@ abbrev mutual
   stop_params no_param i = i
   stop_params (more_param ps p) i = stop_param p (stop_begun ps i)
 
+  -- behind parameters with a comma behind each
   pub stop_begun : Params → ℕ → ℕ
   stop_begun no_param i = i
   stop_begun (more_param ps p) i = suc (stop_param p (stop_begun ps i))
@@ -74,6 +79,7 @@ abbrev mutual
   stop_types no_type i = i
   stop_types (more_type ts t) i = stop t (stop_elements ts i)
 
+  -- behind types with a comma behind each
   pub stop_elements : Types → ℕ → ℕ
   stop_elements no_type i = i
   stop_elements (more_type ts t) i = suc (stop t (stop_elements ts i))
@@ -82,6 +88,7 @@ abbrev mutual
   stop_props no_prop i = i
   stop_props (more_prop ps p) i = stop_prop p (stop_rows ps i)
 
+  -- behind properties with a comma behind each
   pub stop_rows : Props → ℕ → ℕ
   stop_rows no_prop i = i
   stop_rows (more_prop ps p) i = suc (stop_prop p (stop_rows ps i))
@@ -99,6 +106,7 @@ abbrev pub FitsBrackets : Places → ℕ → Type 0
 FitsBrackets no_place i = Unit {0}
 FitsBrackets (more_place ps p) i = FitsBrackets ps i × (p ≡ stop_brackets ps i)
 
+-- the key is the one token at place i
 abbrev pub FitsKey : Key → ℕ → Type 0
 FitsKey (key f t k) i = (f ≡ i) × (t ≡ suc i)
 
@@ -106,6 +114,7 @@ FitsKey (key f t k) i = (f ≡ i) × (t ≡ suc i)
 abbrev pub CommaFits : Bool → Bool → Type 0
 CommaFits c some = c ≡ true → some ≡ true
 
+-- a last comma stands behind a property
 abbrev pub EndingFits : Ending → Bool → Type 0
 EndingFits bare some = Unit {0}
 EndingFits comma some = some ≡ true
@@ -117,10 +126,12 @@ abbrev mutual
   pub Fits : Ty → ℕ → Type 0
   Fits (ty f t lead ps) i = (f ≡ i) × (t ≡ stop_pres ps (bump lead i)) × FitsPres ps (bump lead i)
 
+  -- the members of a union: at least one, and none but the last a function type outside brackets
   pub FitsPres : Pres → ℕ → Type 0
   FitsPres no_pre i = ⊥
   FitsPres (more_pre ps p) i = FitsBarred ps i × FitsPre p (stop_barred ps i)
 
+  -- the members before a bar: none is a function type outside brackets
   pub FitsBarred : Pres → ℕ → Type 0
   FitsBarred no_pre i = Unit {0}
   FitsBarred (more_pre ps p) i = FitsBarred ps i × FitsPre p (stop_barred ps i) × (is_fun_pre p ≡ false)
@@ -137,6 +148,7 @@ abbrev mutual
   pub FitsBase : Base → ℕ → Type 0
   FitsBase (base f t x) i = (f ≡ i) × (t ≡ stop_form x i) × FitsForm x i
 
+  -- a name may stand alone as a type, and a number is one of those that may
   pub FitsForm : Form → ℕ → Type 0
   FitsForm (name n) i = IsTypeName n
   FitsForm (str s) i = Unit {0}

@@ -6,6 +6,7 @@ use Rattle.js_token.specs.declared.punct.Punct.TheVariants.{OpenBrace, CloseBrac
 use Rattle.js_grammar.specs.Words.{array_name, truth_word}
 use Rattle.js_grammar.specs.Types.{Places, no_place, more_place, Sign, unsigned, plus, minus, KeyForm, word_key, text_key, Key, key, bare, comma, dots, Ty, ty, Pres, no_pre, more_pre, Pre, pre, Core, fun, post, Base, base, Form, name, str, num, null, void, truth, array, paren, tuple, object, Params, no_param, more_param, Param, plain, named, Types, no_type, more_type, Props, no_prop, more_prop, Prop, prop}
 
+-- the tokens' kinds, without their spans
 abbrev pub Tokens : Type 0
 Tokens = List TokenKind
 
@@ -24,11 +25,13 @@ abbrev pub brackets : Places → Tokens → Tokens
 brackets no_place l = l
 brackets (more_place ps p) l = brackets ps (Punct OpenBracket ∷ Punct CloseBracket ∷ l)
 
+-- the sign, or nothing
 abbrev pub spell_sign : Sign → Tokens → Tokens
 spell_sign unsigned l = l
 spell_sign plus l = Punct Plus ∷ l
 spell_sign minus l = Punct Minus ∷ l
 
+-- a key is a word or a string
 abbrev pub key_token : KeyForm → TokenKind
 key_token (word_key w) = Name w
 key_token (text_key s) = Str s
@@ -36,6 +39,7 @@ key_token (text_key s) = Str s
 abbrev pub spell_key : Key → Tokens → Tokens
 spell_key (key f t k) l = key_token k ∷ l
 
+-- each form's tokens, and then those that follow
 abbrev mutual
   pub spell : Ty → Tokens → Tokens
   spell (ty f t lead ps) l = opt lead (Punct Bar) (spell_pres ps l)

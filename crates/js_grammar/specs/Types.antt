@@ -13,10 +13,12 @@ pub data Sign : Type 0 where
   plus : Sign
   minus : Sign
 
+-- a word or a string
 pub data KeyForm : Type 0 where
   word_key : Bytes → KeyForm
   text_key : Bytes → KeyForm
 
+-- the key of a property, with its place
 pub data Key : Type 0 where
   key : ℕ → ℕ → KeyForm → Key
 
@@ -31,6 +33,7 @@ mutual
   pub data Ty : Type 0 where
     ty : ℕ → ℕ → Bool → Pres → Ty
 
+  -- the members of a union
   pub data Pres : Type 0 where
     no_pre : Pres
     more_pre : Pres → Pre → Pres
@@ -44,6 +47,7 @@ mutual
     fun : ℕ → ℕ → Params → Bool → Ty → Core
     post : ℕ → ℕ → Base → Places → Core
 
+  -- what stands before the brackets of a member, with its place
   pub data Base : Type 0 where
     base : ℕ → ℕ → Form → Base
 
@@ -60,6 +64,7 @@ mutual
     tuple : Types → Bool → Form
     object : Props → Ending → Form
 
+  -- the parameters of a function type, in order
   pub data Params : Type 0 where
     no_param : Params
     more_param : Params → Param → Params
@@ -101,6 +106,7 @@ abbrev pub is_fun_core : Core → Bool
 is_fun_core (fun f t ps c r) = true
 is_fun_core (post f t b bs) = false
 
+-- whether the member, behind its question marks, is one
 abbrev pub is_fun_pre : Pre → Bool
 is_fun_pre (pre f t q c) = is_fun_core c
 
