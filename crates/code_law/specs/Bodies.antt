@@ -28,15 +28,18 @@ abbrev pub wrap_declaration : Wrap → Declaration → ItemForm
 wrap_declaration plain_item d = declares_item d
 wrap_declaration w d = exports (export_declaration d)
 
+-- a function, an exported one, or the default of the module
 abbrev pub wrap_function : Wrap → Function → ItemForm
 wrap_function plain_item f = function_item f
 wrap_function exported_item f = exports (export_function f)
 wrap_function default_item f = exports (export_default_function f)
 
+-- a whole declaration and its semicolon, as an item or as a statement
 abbrev pub give_declaration : ℕ → Stack → ℕ → Declaration → Step
 give_declaration i (in_item a w is ∷ k) s d = give_item i k a is (wrap_declaration w d)
 give_declaration i k s d = give_stmt k (stmt s i (declares d))
 
+-- a whole function, as an item, a statement or an expression
 abbrev pub give_function : ℕ → Stack → FunctionKind → Function → Step
 give_function i (in_item a w is ∷ k) is_statement f = give_item i k a is (wrap_function w f)
 give_function i (in_item a w is ∷ k) is_default f = give_item i k a is (wrap_function w f)
@@ -44,6 +47,7 @@ give_function i k is_statement f = give_stmt k (stmt (start_function f) i (funct
 give_function i k is_default f = fault
 give_function i k is_value f = go k (after_links (ex (start_function f) i (function_ex f)) no_link)
 
+-- a whole block, as the body of a function, an arrow or a loop, as a statement, or as an arm of an `if`
 abbrev pub give_block : ℕ → Stack → Block → Step
 give_block i (in_function q s n g ∷ k) b = give_function i k q (function s i n g b)
 give_block i (in_body g ∷ k) b = go k (settled (ex (start_sig g) i (arrow g (arrow_block b))))

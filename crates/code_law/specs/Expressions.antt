@@ -23,6 +23,7 @@ pub data ValueWord : Type 0 where
   function_word : ValueWord
   other_word : ValueWord
 
+-- what a reserved word is there
 abbrev pub reserved_word : Bytes → ValueWord
 reserved_word n =
     if bytes_eq n (codes "null") then null_word
@@ -32,6 +33,7 @@ reserved_word n =
     else if bytes_eq n (codes "function") then function_word
     else other_word
 
+-- what any word is there
 abbrev pub value_word : Bytes → ValueWord
 value_word n = if is_reserved n then reserved_word n else variable_word
 
@@ -46,6 +48,7 @@ may_arrow (in_prefix s ps ∷ k) = false
 may_arrow (in_chain s p f os d o ∷ k) = false
 may_arrow k = true
 
+-- a word where an expression may begin
 abbrev pub word_step : ℕ → Stack → Bytes → ValueWord → Step
 word_step i k n variable_word = go k (after_links (ex i (suc i) (variable n)) no_link)
 word_step i k n null_word = go k (after_links (ex i (suc i) null_value) no_link)
@@ -54,6 +57,7 @@ word_step i k n kind_word = go (marked i kind_of k) want
 word_step i k n function_word = go k (function_start is_value i)
 word_step i k n other_word = fault
 
+-- where an expression must begin
 abbrev pub want_step : ℕ → Stack → TokenKind → Step
 want_step i k (Name n) = word_step i k n (value_word n)
 want_step i k (Number n) = go k (after_links (ex i (suc i) (number n)) no_link)
@@ -71,21 +75,25 @@ abbrev pub linked : ℕ → Ex → Links → Ex
 linked i b no_link = b
 linked i b (more_link ls y) = ex (start_ex b) i (postfixed b (more_link ls y))
 
+-- behind an expression on which links may follow
 abbrev pub links_step : ℕ → Stack → Ex → Links → TokenKind → Step
 links_step i k b ls (Punct Dot) = go k (after_dot b ls i)
 links_step i k b ls (Punct OpenBracket) = go (in_index b ls i ∷ k) want
 links_step i k b ls (Punct OpenParen) = go k (row_start (call_row b ls i) no_ex)
 links_step i k b ls x = settle i k (linked i b ls) x
 
+-- behind the dot of a property
 abbrev pub dot_step : ℕ → Stack → Ex → Links → ℕ → TokenKind → Step
 dot_step i k b ls d (Name n) = go k (after_links b (more_link ls (link d (suc i) (member n))))
 dot_step i k b ls d _ = fault
 
+-- behind the bracket of a list, or a comma in it
 abbrev pub row_step : ℕ → Stack → Row → Exs → TokenKind → Step
 row_step i k (array_row s) es (Punct CloseBracket) = go k (close_row i (array_row s) es (has_exs es))
 row_step i k (call_row b ls s) es (Punct CloseParen) = go k (close_row i (call_row b ls s) es (has_exs es))
 row_step i k r es x = want_step i (in_row r es ∷ k) x
 
+-- behind the brace of an object, or a comma in it
 abbrev pub fields_step : ℕ → Stack → ℕ → Fields → TokenKind → Step
 fields_step i k s fs (Punct CloseBrace) = go k (close_fields i s fs (has_fields fs))
 fields_step i k s fs (Name n) = go k (after_word s fs i n)
@@ -97,34 +105,39 @@ abbrev pub field_step : ℕ → Stack → ℕ → Fields → ℕ → Bytes → T
 field_step i k s fs a n (Punct Colon) = go (in_field s fs (key a i (word_key n)) ∷ k) want
 field_step i k s fs a n x = if is_reserved n then fault else after_field i k s (more_field fs (field a i (shorthand n))) x
 
+-- behind the key of a property
 abbrev pub key_step : Stack → ℕ → Fields → Key → TokenKind → Step
 key_step k s fs y (Punct Colon) = go (in_field s fs y ∷ k) want
 key_step k s fs y _ = fault
 
--- a parameter's type begins
+-- a type begins, and what it is for waits
 abbrev pub typed : Stack → Waiting → Step
 typed k w = go k (typing w [] ty.want)
 
+-- behind `(`, which begins an arrow or an expression in parentheses
 abbrev pub paren_step : ℕ → Stack → ℕ → TokenKind → Step
 paren_step i k s (Punct CloseParen) = if may_arrow k then go k (parameters_end of_arrow s no_parameter false) else fault
 paren_step i k s (Name n) = if is_reserved n then want_step i (in_parens s ∷ k) (Name n) else go k (paren_word s i n)
 paren_step i k s x = want_step i (in_parens s ∷ k) x
 
+-- behind `(` and a word
 abbrev pub paren_word_step : ℕ → Stack → ℕ → ℕ → Bytes → TokenKind → Step
 paren_word_step i k s a n (Punct Colon) = if may_arrow k then typed k (parameter_type of_arrow s no_parameter a n false) else fault
 paren_word_step i k s a n (Punct Question) = go k (paren_mark s a n i)
 paren_word_step i k s a n x = links_step i (in_parens s ∷ k) (ex a i (variable n)) no_link x
 
--- behind a word at a and `?` at p
+-- behind `(`, a word at a and `?` at p
 abbrev pub paren_mark_step : ℕ → Stack → ℕ → ℕ → Bytes → ℕ → TokenKind → Step
 paren_mark_step i k s a n p (Punct Colon) = if may_arrow k then typed k (parameter_type of_arrow s no_parameter a n true) else fault
 paren_mark_step i k s a n p x = want_step i (in_branch a no_arm (ex a p (variable n)) ∷ in_parens s ∷ k) x
 
+-- where a parameter may begin
 abbrev pub parameter_step : ℕ → Stack → Owner → ℕ → Parameters → TokenKind → Step
 parameter_step i k o s ps (Punct CloseParen) = go k (parameters_end o s ps (has_parameters ps))
 parameter_step i k o s ps (Name n) = if is_reserved n then fault else go k (parameter_word o s ps i n)
 parameter_step i k o s ps _ = fault
 
+-- behind a whole parameter
 abbrev pub after_parameter : Stack → Owner → ℕ → Parameters → TokenKind → Step
 after_parameter k o s ps (Punct CloseParen) = go k (parameters_end o s ps false)
 after_parameter k o s ps (Punct Comma) = go k (parameter_start o s ps)
@@ -137,10 +150,12 @@ parameter_word_step i k o s ps a n (Punct Question) = go k (parameter_mark o s p
 parameter_word_step i k of_arrow s ps a n _ = fault
 parameter_word_step i k (of_function q f m) s ps a n x = after_parameter k (of_function q f m) s (more_parameter ps (parameter a i n false None)) x
 
+-- behind the name of a parameter and `?`
 abbrev pub parameter_mark_step : Stack → Owner → ℕ → Parameters → ℕ → Bytes → TokenKind → Step
 parameter_mark_step k o s ps a n (Punct Colon) = typed k (parameter_type o s ps a n true)
 parameter_mark_step k o s ps a n _ = fault
 
+-- where the parameters of a function open
 abbrev pub open_step : ℕ → Stack → Owner → TokenKind → Step
 open_step i k o (Punct OpenParen) = go k (parameter_start o i no_parameter)
 open_step i k o _ = fault
@@ -157,6 +172,7 @@ open_body i k of_arrow g (Punct ArrowMark) = go k (arrow_start g)
 open_body i k (of_function q s n) g (Punct OpenBrace) = go (in_function q s n g ∷ k) (statements_start i no_stmt)
 open_body i k o g _ = fault
 
+-- behind the `)` of parameters
 abbrev pub end_step : ℕ → Stack → Owner → ℕ → Parameters → Bool → TokenKind → Step
 end_step i k o s ps c (Punct Colon) = typed k (result_type o s ps c)
 end_step i k o s ps c x = open_body i k o (sig s i ps c None) x
@@ -166,6 +182,7 @@ abbrev pub arrow_step : ℕ → Stack → Sig → TokenKind → Step
 arrow_step i k g (Punct OpenBrace) = go (in_body g ∷ k) (statements_start i no_stmt)
 arrow_step i k g x = want_step i (in_arrow g ∷ k) x
 
+-- an alias, or an exported one
 abbrev pub wrap_alias : Wrap → AliasOf → ItemForm
 wrap_alias plain_item y = alias_item y
 wrap_alias w y = exports (export_alias y)

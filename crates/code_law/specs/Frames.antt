@@ -53,8 +53,8 @@ pub data Verb : Type 0 where
   evaluates : Verb
 
 -- a type that is read: of a parameter, behind the place of `(`, the parameters before it, its place, its name and a question mark
--- or not; of a result; of a declaration; of an alias, with its item's place, the items before it, its place and its name; or behind `as`, in a chain that began at a place, with its first expression, its operands
--- and the place of `as`
+-- or not; of a result; of a declaration; of an alias, with its item's place, the items before it, its place and its name; or
+-- behind `as`, in a chain that began at a place, with its first expression, its operands and the place of `as`
 pub data Waiting : Type 0 where
   parameter_type : Owner → ℕ → Parameters → ℕ → Bytes → Bool → Waiting
   result_type : Owner → ℕ → Parameters → Bool → Waiting
@@ -142,6 +142,7 @@ pub data Mode : Type 0 where
   item_end : ℕ → Items → ItemForm → Mode
   typing : Waiting → ty.Stack → ty.Mode → Mode
 
+-- the forms that are open, the innermost first
 abbrev pub Stack : Type 0
 Stack = List Frame
 
@@ -180,8 +181,10 @@ context (in_loop s e ∷ k) = looping (context k)
 context (in_item a w is ∷ k) = top_context
 context (f ∷ k) = context k
 
+-- whether it is inside a function
 abbrev pub within_function : Context → Bool
 within_function (inside f l) = f
 
+-- whether it is inside a loop of that function
 abbrev pub within_loop : Context → Bool
 within_loop (inside f l) = l

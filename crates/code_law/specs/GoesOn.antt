@@ -5,6 +5,7 @@ use Rattle.js_token.specs.declared.token.TokenKind.{TokenKind}
 use Rattle.js_token.specs.declared.token.TokenKind.TheVariants.{Name, Punct}
 use Rattle.js_token.specs.declared.punct.Punct.TheVariants.{QuestionQuestion, OrOr, AndAnd, StrictEqual, StrictNotEqual, LooseEqual, LooseNotEqual, LessThan, GreaterThan, LessOrEqual, GreaterOrEqual, Plus, Minus, Star, Slash, Percent, Question, Dot, OpenParen, OpenBracket, Arrow as ArrowMark, Bar}
 
+-- whether the token can stand behind an expression as a part of a longer one
 abbrev pub goes_on_expression : TokenKind → Bool
 goes_on_expression (Name n) = bytes_eq n (codes "as")
 goes_on_expression (Punct QuestionQuestion) = true

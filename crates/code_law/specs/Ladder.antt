@@ -50,6 +50,7 @@ turn (Punct ArrowMark) = sticks
 turn (Punct Bar) = sticks
 turn _ = ends
 
+-- the level of the chains in which it stands
 abbrev pub joint_level : Joint → Level
 joint_level (applies o) = level_of o
 joint_level casts = relation_level
@@ -59,15 +60,18 @@ abbrev pub close_row : ℕ → Row → Exs → Bool → Mode
 close_row i (array_row s) es c = after_links (ex s (suc i) (elements es c)) no_link
 close_row i (call_row b ls s) es c = after_links b (more_link ls (link s (suc i) (call es c)))
 
+-- behind an element of an array or an argument of a call
 abbrev pub after_item : ℕ → Stack → Row → Exs → TokenKind → Step
 after_item i k (array_row s) es (Punct CloseBracket) = go k (close_row i (array_row s) es false)
 after_item i k (call_row b ls s) es (Punct CloseParen) = go k (close_row i (call_row b ls s) es false)
 after_item i k r es (Punct Comma) = go k (row_start r es)
 after_item i k r es _ = fault
 
+-- the brace at i ends the object
 abbrev pub close_fields : ℕ → ℕ → Fields → Bool → Mode
 close_fields i s fs c = after_links (ex s (suc i) (fields fs c)) no_link
 
+-- behind a property of an object
 abbrev pub after_field : ℕ → Stack → ℕ → Fields → TokenKind → Step
 after_field i k s fs (Punct CloseBrace) = go k (close_fields i s fs false)
 after_field i k s fs (Punct Comma) = go k (fields_start s fs)

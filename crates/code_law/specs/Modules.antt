@@ -13,6 +13,7 @@ use Rattle.code_law.specs.Bodies.{give_item}
 use Rattle.code_law.specs.Expressions.{want_step, links_step, typed}
 use Rattle.code_law.specs.Statements.{StatementWord, binds, begins_function, begins_import, begins_export, plain_word, statement_word, simple_word, simple_step}
 
+-- a word where an item may begin
 abbrev pub top_word : ℕ → Stack → Items → Bytes → StatementWord → Step
 top_word i k is n (binds w) = go (in_item i plain_item is ∷ k) (after_binder i w)
 top_word i k is n begins_function = go (in_item i plain_item is ∷ k) (function_start is_statement i)
@@ -21,6 +22,7 @@ top_word i k is n begins_export = go k (after_export i is)
 top_word i k is n plain_word = if bytes_eq n (codes "type") then go k (after_type_word i is) else simple_word i (in_item i plain_item is ∷ k) n plain_word
 top_word i k is n w = fault
 
+-- where an item may begin; the end of the tokens ends the module
 abbrev pub items_step : ℕ → Stack → Items → TokenKind → Step
 items_step i k is (Punct PlusPlus) = done_items is
 items_step i k is (Name n) = top_word i k is n (statement_word n)
@@ -40,16 +42,19 @@ abbrev pub type_word_step : ℕ → Stack → ℕ → Items → TokenKind → St
 type_word_step i k a is (Name n) = if may_alias n then go k (after_alias a plain_item is a n) else fault
 type_word_step i k a is x = links_step i (in_simple a evaluates ∷ in_item a plain_item is ∷ k) (ex a i (variable (codes "type"))) no_link x
 
+-- behind `type` and the name of an alias
 abbrev pub alias_step : Stack → ℕ → Wrap → Items → ℕ → Bytes → TokenKind → Step
 alias_step k a w is p n (Punct Assign) = typed k (alias_type a w is p n)
 alias_step k a w is p n _ = fault
 
+-- behind `import`
 abbrev pub import_step : ℕ → Stack → ℕ → Items → TokenKind → Step
 import_step i k a is (Str s) = go k (item_end a is (imports import_only s))
 import_step i k a is (Name n) = if is_reserved n then fault else go k (import_word a is n)
 import_step i k a is (Punct OpenBrace) = go k (names_start (listing a is opens_names i (importing no_imported)))
 import_step i k a is _ = fault
 
+-- where `from` must stand
 abbrev pub from_step : Stack → ℕ → Items → ImportForm → TokenKind → Step
 from_step k a is m (Name n) = if bytes_eq n (codes "from") then go k (after_from a is m) else fault
 from_step k a is m _ = fault
@@ -60,6 +65,7 @@ import_word_step i k a is n (Punct OpenBrace) = if bytes_eq n (codes "type") the
 import_word_step i k a is n (Punct Comma) = go k (import_comma a is n)
 import_word_step i k a is n x = from_step k a is (import_default n) x
 
+-- behind `import`, a name and a comma
 abbrev pub import_comma_step : ℕ → Stack → ℕ → Items → Bytes → TokenKind → Step
 import_comma_step i k a is n (Punct OpenBrace) = go k (names_start (listing a is (opens_both n) i (importing no_imported)))
 import_comma_step i k a is n _ = fault
@@ -70,6 +76,7 @@ add_name (listing a is q s (importing ns)) f t n None = listing a is q s (import
 add_name (listing a is q s (importing ns)) f t w (Some n) = listing a is q s (importing (more_imported ns (imported f t (Some w) n)))
 add_name (listing a is q s (exporting ns)) f t n o = listing a is q s (exporting (more_exported ns (exported f t n o)))
 
+-- whether the list has a name so far
 abbrev pub has_names : Listing → Bool
 has_names (listing a is q s (importing ns)) = has_importeds ns
 has_names (listing a is q s (exporting ns)) = has_exporteds ns
@@ -82,11 +89,13 @@ end_names i k (listing a is opens_types s (importing ns)) c = go k (after_list a
 end_names i k (listing a is (opens_exports o) s (exporting ns)) c = go k (after_exports a is o (export_list s (suc i) ns c))
 end_names i k q c = fault
 
+-- behind the brace of a list of names, or a comma in it
 abbrev pub names_step : ℕ → Stack → Listing → TokenKind → Step
 names_step i k q (Punct CloseBrace) = end_names i k q (has_names q)
 names_step i k q (Name n) = go k (after_name q i n)
 names_step i k q _ = fault
 
+-- behind a whole name of a list
 abbrev pub pair_step : ℕ → Stack → Listing → TokenKind → Step
 pair_step i k q (Punct CloseBrace) = end_names i k q false
 pair_step i k q (Punct Comma) = go k (names_start q)
@@ -97,14 +106,17 @@ abbrev pub may_name : Listing → Bytes → Bool
 may_name (listing a is q s (importing ns)) n = not (is_reserved n)
 may_name (listing a is q s (exporting ns)) n = true
 
+-- behind the first word of a name of a list
 abbrev pub name_step : ℕ → Stack → Listing → ℕ → Bytes → TokenKind → Step
 name_step i k q p n (Name m) = if bytes_eq m (codes "as") then go k (after_as q p n) else fault
 name_step i k q p n x = if may_name q n then pair_step i k (add_name q p i n None) x else fault
 
+-- behind `as` in a list of names
 abbrev pub as_step : ℕ → Stack → Listing → ℕ → Bytes → TokenKind → Step
 as_step i k q p n (Name m) = if may_name q m then go k (after_pair (add_name q p (suc i) n (Some m))) else fault
 as_step i k q p n _ = fault
 
+-- behind `from`, where the specifier must stand
 abbrev pub source_step : Stack → ℕ → Items → ImportForm → TokenKind → Step
 source_step k a is m (Str s) = go k (item_end a is (imports m s))
 source_step k a is m _ = fault
@@ -114,6 +126,7 @@ abbrev pub end_item : ℕ → Stack → ℕ → Items → ItemForm → TokenKind
 end_item i k a is x (Punct Semicolon) = give_item (suc i) k a is x
 end_item i k a is x _ = fault
 
+-- a word behind `export`
 abbrev pub export_word : ℕ → Stack → ℕ → Items → Bytes → StatementWord → Step
 export_word i k a is n (binds w) = go (in_item a exported_item is ∷ k) (after_binder i w)
 export_word i k a is n begins_function = go (in_item a exported_item is ∷ k) (function_start is_statement i)
@@ -122,11 +135,13 @@ export_word i k a is n w =
     else if bytes_eq n (codes "default") then go k (after_default a is)
     else fault
 
+-- behind `export`
 abbrev pub export_step : ℕ → Stack → ℕ → Items → TokenKind → Step
 export_step i k a is (Name n) = export_word i k a is n (statement_word n)
 export_step i k a is (Punct OpenBrace) = go k (names_start (listing a is (opens_exports false) i (exporting no_exported)))
 export_step i k a is _ = fault
 
+-- behind `export type`
 abbrev pub export_type_step : ℕ → Stack → ℕ → Items → ℕ → TokenKind → Step
 export_type_step i k a is p (Name n) = if may_alias n then go k (after_alias a exported_item is p n) else fault
 export_type_step i k a is p (Punct OpenBrace) = go k (names_start (listing a is (opens_exports true) i (exporting no_exported)))
@@ -141,18 +156,22 @@ are_names (more_exported ns (exported f t n w)) = if is_reserved n then false el
 abbrev pub are_local : ExportList → Bool
 are_local (export_list f t ns c) = are_names ns
 
+-- behind a list of exported names
 abbrev pub exports_step : ℕ → Stack → ℕ → Items → Bool → ExportList → TokenKind → Step
 exports_step i k a is o ns (Name n) = if bytes_eq n (codes "from") then go k (exports_from a is o ns) else fault
 exports_step i k a is o ns x = if are_local ns then end_item i k a is (exports (export_names o ns)) x else fault
 
+-- behind such a list and `from`
 abbrev pub exports_from_step : Stack → ℕ → Items → Bool → ExportList → TokenKind → Step
 exports_from_step k a is o ns (Str s) = go k (item_end a is (exports (export_from o ns s)))
 exports_from_step k a is o ns _ = fault
 
+-- a word behind `export default`
 abbrev pub default_word : ℕ → Stack → ℕ → Items → Bytes → StatementWord → Step
 default_word i k a is n begins_function = go (in_item a default_item is ∷ k) (function_start is_default i)
 default_word i k a is n w = want_step i (in_default a is ∷ k) (Name n)
 
+-- behind `export default`
 abbrev pub default_step : ℕ → Stack → ℕ → Items → TokenKind → Step
 default_step i k a is (Name n) = default_word i k a is n (statement_word n)
 default_step i k a is x = want_step i (in_default a is ∷ k) x

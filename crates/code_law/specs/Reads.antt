@@ -32,6 +32,7 @@ Says l (whole_items is (x ∷ rest)) = IsFault l (x ∷ rest)
 Says l (faulty rest) = IsFault l rest
 Says l (whole e rest) = ⊥
 
+-- the items of a module
 abbrev pub items_of : Module → Items
 items_of (module_of f t is) = is
 

@@ -26,6 +26,7 @@ pub data StatementWord : Type 0 where
   begins_export : StatementWord
   plain_word : StatementWord
 
+-- what a reserved word is there
 abbrev pub reserved_statement : Bytes → StatementWord
 reserved_statement n =
     if bytes_eq n (codes "const") then binds const
@@ -42,6 +43,7 @@ reserved_statement n =
     else if bytes_eq n (codes "export") then begins_export
     else plain_word
 
+-- what any word is there
 abbrev pub statement_word : Bytes → StatementWord
 statement_word n = if is_reserved n then reserved_statement n else plain_word
 
@@ -54,6 +56,7 @@ simple_word i k n continue_word = if within_loop (context k) then go k (after_si
 simple_word i k n plain_word = want_step i (in_simple i evaluates ∷ k) (Name n)
 simple_word i k n w = fault
 
+-- where a simple statement must begin
 abbrev pub simple_step : ℕ → Stack → TokenKind → Step
 simple_step i k (Name n) = simple_word i k n (statement_word n)
 simple_step i k (Punct OpenBrace) = fault
@@ -67,37 +70,45 @@ block_word i k n if_word = go k (after_if i no_branch i)
 block_word i k n while_word = go k (after_while i)
 block_word i k n w = simple_word i k n w
 
+-- where a statement of a block may begin, or the block's brace ends it
 abbrev pub statements_step : ℕ → Stack → ℕ → Stmts → TokenKind → Step
 statements_step i k s ss (Punct CloseBrace) = give_block (suc i) k (block s (suc i) ss)
 statements_step i k s ss (Punct OpenBrace) = go (in_block s ss ∷ k) (statements_start i no_stmt)
 statements_step i k s ss (Name n) = block_word i (in_block s ss ∷ k) n (statement_word n)
 statements_step i k s ss x = simple_step i (in_block s ss ∷ k) x
 
+-- behind `return`
 abbrev pub return_step : ℕ → Stack → ℕ → TokenKind → Step
 return_step i k s (Punct Semicolon) = end_simple i k (simple s i return_bare)
 return_step i k s x = want_step i (in_simple s returns ∷ k) x
 
+-- behind a simple statement that no expression ends
 abbrev pub semicolon_step : ℕ → Stack → Simple → TokenKind → Step
 semicolon_step i k y (Punct Semicolon) = end_simple i k y
 semicolon_step i k y _ = fault
 
+-- behind `const` or `let`
 abbrev pub binder_step : Stack → ℕ → Binder → TokenKind → Step
 binder_step k s w (Name n) = if is_reserved n then fault else go k (after_declared s w n)
 binder_step k s w _ = fault
 
+-- behind the name of a declaration
 abbrev pub declared_step : Stack → ℕ → Binder → Bytes → TokenKind → Step
 declared_step k s w n (Punct Colon) = typed k (declared_type s w n)
 declared_step k s w n (Punct Assign) = go (in_declaration s w n None ∷ k) want
 declared_step k s w n _ = fault
 
+-- behind `if`
 abbrev pub if_step : Stack → ℕ → Branches → ℕ → TokenKind → Step
 if_step k s bs a (Punct OpenParen) = go (in_if_test s bs a ∷ k) want
 if_step k s bs a _ = fault
 
+-- behind `while`
 abbrev pub while_step : Stack → ℕ → TokenKind → Step
 while_step k s (Punct OpenParen) = go (in_loop_test s ∷ k) want
 while_step k s _ = fault
 
+-- where an arm or a loop's body must begin
 abbrev pub body_step : ℕ → Stack → TokenKind → Step
 body_step i k (Punct OpenBrace) = go k (statements_start i no_stmt)
 body_step i k x = simple_step i k x
@@ -106,6 +117,7 @@ abbrev pub is_else_word : StatementWord → Bool
 is_else_word else_word = true
 is_else_word w = false
 
+-- whether the token is `else`
 abbrev pub is_else : TokenKind → Bool
 is_else (Name n) = is_else_word (statement_word n)
 is_else x = false
@@ -115,6 +127,7 @@ abbrev pub end_branches : ℕ → Stack → ℕ → Branches → TokenKind → S
 end_branches i (in_block z ss ∷ k) s bs x = statements_step i k z (more_stmt ss (stmt s i (branches bs no_else))) x
 end_branches i k s bs x = fault
 
+-- behind a branch of an `if`
 abbrev pub branch_step : ℕ → Stack → ℕ → Branches → TokenKind → Step
 branch_step i k s bs x = if is_else x then go k (after_else s bs) else end_branches i k s bs x
 
@@ -123,6 +136,7 @@ abbrev pub after_else_word : ℕ → Stack → ℕ → Branches → Bytes → St
 after_else_word i k s bs n if_word = go k (after_if s bs i)
 after_else_word i k s bs n w = simple_word i (in_else s bs ∷ k) n w
 
+-- behind `else`
 abbrev pub else_step : ℕ → Stack → ℕ → Branches → TokenKind → Step
 else_step i k s bs (Name n) = after_else_word i k s bs n (statement_word n)
 else_step i k s bs x = body_step i (in_else s bs ∷ k) x

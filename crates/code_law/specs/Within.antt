@@ -13,6 +13,7 @@ abbrev pub run_within : ℕ → Nest → Stack → Mode → Tokens → Outcome
 run_within i n k m [] = resume (λ k m. faulty []) (step i k m end_mark) []
 run_within i n k m (x ∷ l) = if is_deep (nest n x) then faulty (x ∷ l) else resume (λ k m. run_within (suc i) (nest n x) k m l) (step i k m x) (x ∷ l)
 
+-- reading of a module, up to the limit
 abbrev pub read_within : Tokens → Outcome
 read_within l = run_within 0 no_nest [] (items_start no_item) l
 

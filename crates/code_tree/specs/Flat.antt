@@ -17,6 +17,7 @@ use Rattle.code_tree.specs.declared.types.Binder.TheVariants as binder
 use Rattle.code_tree.specs.declared.types.Parameter.{Parameter}
 use Rattle.code_tree.specs.declared.types.Signature.{Signature}
 
+-- each mark, level, operator and binder, as the grammar has it
 abbrev pub prefix_view : Prefix → g.Prefix
 prefix_view prefix.Not = g.negation
 prefix_view prefix.Minus = g.minus_sign
@@ -28,6 +29,7 @@ abbrev pub prefixes_from : Prefixes → List PrefixMark → Prefixes
 prefixes_from acc [] = acc
 prefixes_from acc (m ∷ ms) = prefixes_from (more_prefix acc m.at (prefix_view m.prefix)) ms
 
+-- marks in a row, as the grammar has them
 unfoldable pub prefixes_view : List PrefixMark → Prefixes
 prefixes_view ms = prefixes_from no_prefix ms
 
@@ -62,9 +64,11 @@ abbrev pub binder_view : Binder → g.Binder
 binder_view binder.Const = g.const
 binder_view binder.Let = g.let_word
 
+-- a parameter, and then lists of them and a signature, as the grammar has them
 unfoldable pub parameter_view : Parameter → g.Parameter
 parameter_view p = g.parameter p.first p.end p.name p.optional (option_map type_view p.annotation)
 
+-- parameters in order, behind those before
 abbrev pub parameters_from : Parameters → List g.Parameter → Parameters
 parameters_from acc [] = acc
 parameters_from acc (p ∷ ps) = parameters_from (more_parameter acc p) ps

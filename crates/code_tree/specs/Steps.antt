@@ -13,6 +13,7 @@ abbrev pub exs_from : Exs → List g.Ex → Exs
 exs_from acc [] = acc
 exs_from acc (e ∷ es) = exs_from (more_ex acc e) es
 
+-- and so each other kind of list
 abbrev pub links_from : Links → List g.Link → Links
 links_from acc [] = acc
 links_from acc (k ∷ ks) = links_from (more_link acc k) ks

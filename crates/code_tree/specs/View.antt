@@ -65,6 +65,7 @@ abbrev with_steps : {R : Type 0} →
     → R) → R
 with_steps f = f arrow_body_step body_step else_step expr_form_step field_form_step link_form_step operand_form_step simple_form_step statement_form_step arm_step arrow_expr_step assignment_step block_step branch_step chain_expr_step conditional_expr_step declaration_step expr_step field_step function_step if_statement_step link_step operand_step postfix_expr_step simple_step statement_step while_statement_step
 
+-- the tree of the grammar for which each value stands
 unfoldable pub expr_view : Expr → g.Ex
 expr_view = with_steps (at_trees fold-Expr)
 

@@ -18,6 +18,7 @@ use Rattle.js_tree.specs.declared.items.ItemForm.{ItemForm}
 use Rattle.js_tree.specs.declared.items.ItemForm.TheVariants as item
 use Rattle.js_tree.specs.declared.items.Module.{Module}
 
+-- each node of a module, as the grammar has it
 abbrev pub imported_view : Imported → g.Imported
 imported_view n = g.imported n.first n.end n.renamed n.name
 
@@ -29,6 +30,7 @@ abbrev pub importeds_from : Importeds → List g.Imported → Importeds
 importeds_from acc [] = acc
 importeds_from acc (n ∷ ns) = importeds_from (more_imported acc n) ns
 
+-- exported names in order, behind those before
 abbrev pub exporteds_from : Exporteds → List g.Exported → Exporteds
 exporteds_from acc [] = acc
 exporteds_from acc (n ∷ ns) = exporteds_from (more_exported acc n) ns
@@ -75,6 +77,7 @@ item_form_view (item.Simple s) = g.does_item (simple_view s)
 abbrev pub item_view : Item → g.Item
 item_view i = g.item i.first i.end (item_form_view i.form)
 
+-- items in order, behind those before
 abbrev pub items_from : Items → List g.Item → Items
 items_from acc [] = acc
 items_from acc (i ∷ is) = items_from (more_item acc i) is
@@ -82,5 +85,6 @@ items_from acc (i ∷ is) = items_from (more_item acc i) is
 unfoldable pub items_view : List Item → Items
 items_view is = items_from no_item (map item_view is)
 
+-- the tree of the grammar for which a module stands
 abbrev pub module_view : Module → g.Module
 module_view m = g.module_of m.first m.end (items_view m.items)

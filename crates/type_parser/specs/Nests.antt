@@ -8,8 +8,10 @@ abbrev pub piled : Opened → List Bool → Opened
 piled o [] = o
 piled o (b ∷ bs) = piled (b ∷ o) bs
 
+-- what is open, where the reader keeps the innermost last
 unfoldable pub opened_view : List Bool → Opened
 opened_view bs = piled [] bs
 
+-- the nesting that the reader keeps
 abbrev pub nest_view : Nesting → Nest
 nest_view n = nested (opened_view n.opened.items) n.after_brace

@@ -12,9 +12,11 @@ use Rattle.type_parser.specs.declared.state.Mode.TheVariants as mode
 use Rattle.type_parser.specs.declared.state.Turn.{Turn}
 use Rattle.type_parser.specs.declared.state.Turn.TheVariants as turn
 
+-- a union that is open
 abbrev pub open_view : OpenUnion → Open
 open_view u = open_at u.first u.lead (pres_view u.members) u.start (places_view u.marks)
 
+-- a form that waits for a type
 abbrev pub frame_view : Frame → Form
 frame_view (frame.Array a) = in_array (open_view a.open) a.first a.read_only
 frame_view (frame.Group g) = in_group (open_view g.open) g.first (params_view g.params)
@@ -24,6 +26,7 @@ frame_view (frame.Tuple t) = in_tuple (open_view t.open) t.first (types_view t.t
 frame_view (frame.Prop k o) =
     in_prop (open_view k.signed.object.open) k.signed.object.first (props_view k.signed.object.props) k.signed.start (sign_view k.signed.sign) (key_view k.key) o
 
+-- what may come next
 abbrev pub mode_view : Mode → Phase
 mode_view mode.Want = want
 mode_view (mode.WantPre u) = want_pre (open_view u)
@@ -56,18 +59,21 @@ abbrev pub stacked : Stack → List Frame → Stack
 stacked k [] = k
 stacked k (f ∷ fs) = stacked (frame_view f ∷ k) fs
 
+-- the forms that are open, where the reader keeps the innermost last
 unfoldable pub stack_view : List Frame → Stack
 stack_view fs = stacked [] fs
 
+-- what a turn of the reader does, once the open forms are these frames
 abbrev pub turn_view : List Frame → Turn → Step
 turn_view fs turn.Fault = fault
 turn_view fs (turn.Go m) = go (stack_view fs) (mode_view m)
 turn_view fs (turn.Done t) = done (type_view t)
 
--- whatever the stack is below
+-- the turn does this step of the stack, whatever forms are open
 abbrev pub Gives : Turn → (Stack → Step) → Type 0
 Gives t f = (fs : List Frame) → turn_view fs t ≡ f (stack_view fs)
 
+-- a tree was given, and it stands for this type
 abbrev pub IsSomeOf : Ty → Option TypeTree → Type 0
 IsSomeOf t None = ⊥
 IsSomeOf t (Some s) = t ≡ type_view s

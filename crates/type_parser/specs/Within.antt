@@ -14,5 +14,6 @@ run_within can i n k m [] = run_end can i k m []
 run_within can i n k m (x ∷ l) =
     if is_deep (nest n x) then run_end can i k m (x ∷ l) else resume (λ k m. run_within can (suc i) (nest n x) k m l) (step can i k m x) (x ∷ l)
 
+-- reading of a type from the tokens' front, up to the limit
 abbrev pub read_within : Bool → ℕ → Tokens → Outcome
 read_within can i l = run_within can i no_nest [] want l

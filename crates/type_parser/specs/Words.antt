@@ -3,6 +3,7 @@ use Rattle.js_grammar.specs.Machine.{TypeWord as Class, type_name, null_word, vo
 use Rattle.type_parser.specs.declared.words.TypeWord.{TypeWord}
 use Rattle.type_parser.specs.declared.words.TypeWord.TheVariants.{Name, Null, Void, Truth, Array, Other}
 
+-- what the reader says of a word, in the grammar's terms
 abbrev pub word_view : TypeWord → Class
 word_view Name = type_name
 word_view Null = null_word

@@ -18,6 +18,7 @@ use Rattle.type_tree.specs.declared.types.ParamTree.{ParamTree, fold-ParamTree}
 use Rattle.type_tree.specs.declared.types.PropTree.{PropTree, fold-PropTree}
 use Rattle.type_tree.specs.declared.types.BaseForm.TheOpen.{BaseForm-F, CoreTree-F, ParamTree-F, BaseTree-F, FunctionType-F, NamedParam-F, PostType-F, PreTree-F, PropTree-F, TypeTree-F}
 
+-- each part of a tree that holds no type, as the grammar has it
 abbrev pub sign_view : Sign → g.Sign
 sign_view Unsigned = g.unsigned
 sign_view Plus = g.plus
@@ -45,14 +46,17 @@ abbrev pub pres_from : Pres → List Pre → Pres
 pres_from acc [] = acc
 pres_from acc (p ∷ ps) = pres_from (more_pre acc p) ps
 
+-- parameters in order, behind those before
 abbrev pub params_from : Params → List Param → Params
 params_from acc [] = acc
 params_from acc (p ∷ ps) = params_from (more_param acc p) ps
 
+-- elements of a tuple in order, behind those before
 abbrev pub types_from : Types → List Ty → Types
 types_from acc [] = acc
 types_from acc (t ∷ ts) = types_from (more_type acc t) ts
 
+-- properties in order, behind those before
 abbrev pub props_from : Props → List Prop → Props
 props_from acc [] = acc
 props_from acc (p ∷ ps) = props_from (more_prop acc p) ps
@@ -100,6 +104,7 @@ prop_step p = g.prop p.first p.end (sign_view p.sign) (key_view p.key) p.optiona
 abbrev pub type_step : TypeTree-F Form Core Param Base Core Param Core Pre Prop Ty → Ty
 type_step t = g.ty t.first t.end t.lead (pres_from no_pre t.members)
 
+-- the tree of the grammar for which each value stands
 unfoldable pub type_view : TypeTree → Ty
 type_view = fold-TypeTree Form Core Param Base Core Param Core Pre Prop Ty form_step core_step param_step base_step function_step named_step post_step pre_step prop_step type_step
 
@@ -121,6 +126,7 @@ param_view = fold-ParamTree Form Core Param Base Core Param Core Pre Prop Ty for
 unfoldable pub prop_view : PropTree → Prop
 prop_view = fold-PropTree Form Core Param Base Core Param Core Pre Prop Ty form_step core_step param_step base_step function_step named_step post_step pre_step prop_step type_step
 
+-- and each list of such values
 unfoldable pub places_view : List ℕ → Places
 places_view ps = places_from no_place ps
 
