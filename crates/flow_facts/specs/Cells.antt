@@ -16,6 +16,7 @@ use Rattle.flow_facts.specs.Literals.{lit_type, lit_base}
 abbrev pub Level : Type 0
 Level = FlowType-F FlowType FlowProp Param
 
+-- the same bytes
 abbrev pub is_text : List ℕ → List ℕ → Bool
 is_text = pointwise ◌==◌
 
@@ -23,6 +24,7 @@ is_text = pointwise ◌==◌
 abbrev pub keep_if : Bool → Cell
 keep_if b = if b then Stays else Gone
 
+-- what is left of a member where the value is truthy
 abbrev pub truthy_cell : Level → Cell
 truthy_cell Null = Gone
 truthy_cell Void = Gone
@@ -32,6 +34,7 @@ truthy_cell (NumLit spelling) = keep_if (not (is_text spelling (codes "0")))
 truthy_cell (StrLit text) = keep_if (not (is_text text []))
 truthy_cell level = Stays
 
+-- where it is falsy
 abbrev pub falsy_cell : Level → Cell
 falsy_cell Boolean = Becomes (made.BoolLit false)
 falsy_cell (BoolLit b) = keep_if (not b)
@@ -44,18 +47,21 @@ falsy_cell (ReadArray element) = Gone
 falsy_cell (Function params result) = Gone
 falsy_cell level = Stays
 
+-- where it is null
 abbrev pub is_null_cell : Level → Cell
 is_null_cell Any = Stays
 is_null_cell Null = Stays
 is_null_cell Mixed = Becomes made.Null
 is_null_cell level = Gone
 
+-- where it is void
 abbrev pub is_void_cell : Level → Cell
 is_void_cell Any = Stays
 is_void_cell Void = Stays
 is_void_cell Mixed = Becomes made.Void
 is_void_cell level = Gone
 
+-- where it is null or void
 abbrev pub nullish_cell : Level → Cell
 nullish_cell Any = Stays
 nullish_cell Null = Stays
@@ -63,14 +69,17 @@ nullish_cell Void = Stays
 nullish_cell Mixed = Becomes (made.Union (made.Null ∷ made.Void ∷ []))
 nullish_cell level = Gone
 
+-- where it is not null
 abbrev pub not_null_cell : Level → Cell
 not_null_cell Null = Gone
 not_null_cell level = Stays
 
+-- where it is not void
 abbrev pub not_void_cell : Level → Cell
 not_void_cell Void = Gone
 not_void_cell level = Stays
 
+-- where it is neither
 abbrev pub not_nullish_cell : Level → Cell
 not_nullish_cell Null = Gone
 not_nullish_cell Void = Gone
@@ -120,6 +129,7 @@ typeof_mixed kind =
     else (if is_text kind (codes "undefined") then Becomes made.Void
     else keep_if (is_text kind (codes "object") || is_text kind (codes "function")))))
 
+-- where `typeof` gives this word
 abbrev pub typeof_cell : List ℕ → Level → Cell
 typeof_cell kind Any = Stays
 typeof_cell kind Mixed = typeof_mixed kind

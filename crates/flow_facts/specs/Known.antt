@@ -17,6 +17,7 @@ use Rattle.flow_facts.specs.Narrowing.{narrowed}
 abbrev pub place_cmp : Place → Place → Ordering
 place_cmp p q = ordering_then (option_cmp (slice_cmp nat_cmp) p.prop q.prop) (nat_cmp p.binding q.binding)
 
+-- the same place
 abbrev pub is_place : Place → Place → Bool
 is_place p q = is_eq (place_cmp p q)
 
@@ -36,6 +37,7 @@ Map = Place → Option FlowType
 abbrev pub Known : Type 0
 Known = Option Map
 
+-- no place has a fact
 abbrev pub no_facts : Map
 no_facts q = None
 
@@ -69,6 +71,7 @@ joined None others = others
 joined (Some m) None = Some m
 joined (Some m) (Some n) = Some (λ q. both (m q) (n q))
 
+-- the facts on the places that are not gone
 abbrev pub without : (Place → Bool) → Map → Map
 without gone m q = if gone q then None else m q
 
@@ -76,6 +79,7 @@ without gone m q = if gone q then None else m q
 abbrev pub is_property : Place → Bool
 is_property q = is_some q.prop
 
+-- there is a text, and it is this one
 abbrev pub is_some_text : List ℕ → Option (List ℕ) → Bool
 is_some_text name None = false
 is_some_text name (Some own) = is_text own name

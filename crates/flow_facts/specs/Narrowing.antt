@@ -14,14 +14,17 @@ use Rattle.flow_facts.specs.declared.test.Test.TheFolds.{fold-Test}
 use Rattle.flow_facts.specs.Cells.{Level, truthy_cell, falsy_cell, is_null_cell, not_null_cell, is_void_cell, not_void_cell, nullish_cell, not_nullish_cell, is_lit_cell, not_lit_cell, typeof_cell, not_typeof_cell}
 use Rattle.flow_facts.specs.Properties.{prop_of, read_type}
 
+-- what a test makes of each member
 abbrev pub Rule : Type 0
 Rule = FlowType → Cell
 
+-- what a cell leaves of a member
 abbrev pub left_of : Cell → FlowType → List FlowType
 left_of Stays t = t ∷ []
 left_of Gone t = []
 left_of (Becomes u) t = u ∷ []
 
+-- whether a member with this cell is dropped or replaced
 abbrev pub is_change : Cell → Bool
 is_change Stays = false
 is_change cell = true
@@ -38,6 +41,7 @@ changes rule all = list_any (λ t. is_change (rule t)) all
 abbrev pub narrowed_by : (FlowType → List FlowType) → Rule → FlowType → FlowType
 narrowed_by members rule t = if changes rule (members t) then join_of (left_by rule (members t)) else t
 
+-- a member stays where something is left of its property
 abbrev pub cell_of_left : List FlowType → Cell
 cell_of_left [] = Gone
 cell_of_left (t ∷ more) = Stays
@@ -47,10 +51,12 @@ abbrev pub prop_cell : (FlowType → List FlowType) → Rule → Option FlowProp
 prop_cell members rule None = Stays
 prop_cell members rule (Some p) = cell_of_left (left_by rule (members (read_type p)))
 
+-- an object is tested by its property, and every other member stays
 abbrev pub on_prop_cell : (FlowType → List FlowType) → List ℕ → Rule → Level → Cell
 on_prop_cell members key rule (Object exact props) = prop_cell members rule (prop_of key props)
 on_prop_cell members key rule level = Stays
 
+-- the rule of a test, whose inner test, if it has one, is a rule already
 abbrev pub level_rule : (FlowType → List FlowType) → Test-F Rule → Rule
 level_rule members Truthy t = truthy_cell (out-FlowType t)
 level_rule members Falsy t = falsy_cell (out-FlowType t)

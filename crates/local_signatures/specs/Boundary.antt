@@ -15,14 +15,17 @@ also None last = None
 also (Some before) None = None
 also (Some before) (Some last) = Some (before ++ (last ∷ []))
 
+-- a parameter and its type, where it has an annotation
 abbrev pub boundary_param : (Bytes → FlowType) → Parameter → Option value.Param
 boundary_param alias_at (parameter first end word optional None) = None
 boundary_param alias_at (parameter first end word optional (Some t)) = Some (record { optional = optional; ty = type_of alias_at t })
 
+-- parameters and their types, where each has an annotation
 abbrev pub boundary_params : (Bytes → FlowType) → Parameters → Option (List value.Param)
 boundary_params alias_at no_parameter = Some []
 boundary_params alias_at (more_parameter before last) = also (boundary_params alias_at before) (boundary_param alias_at last)
 
+-- a function's type, where its parameters and its result are both told
 abbrev pub function_type : Option (List value.Param) → Option FlowType → Option FlowType
 function_type None result = None
 function_type (Some params) None = None
@@ -33,6 +36,7 @@ abbrev pub boundary_sig : (Bytes → FlowType) → Sig → Option FlowType
 boundary_sig alias_at (sig first end params trailing result) =
     function_type (boundary_params alias_at params) (option_map (type_of alias_at) result)
 
+-- the type that a function tells by its signature
 abbrev pub boundary_function : (Bytes → FlowType) → Function → Option FlowType
 boundary_function alias_at (function first end word signature body) = boundary_sig alias_at signature
 
@@ -62,5 +66,6 @@ abbrev pub annotated : (Bytes → FlowType) → Option Ty → Ex → Option Flow
 annotated alias_at (Some t) e = Some (type_of alias_at t)
 annotated alias_at None e = boundary_value alias_at e
 
+-- the type that a declaration tells
 abbrev pub boundary_declaration : (Bytes → FlowType) → Declaration → Option FlowType
 boundary_declaration alias_at (declaration first end binder word annotation e) = annotated alias_at annotation e

@@ -12,6 +12,7 @@ use Rattle.type_names.specs.Names.{names_in}
 use Rattle.local_signatures.specs.Scope.{Binding, bound_import, bound_variable, bound_function, bound_alias, Scope, scope_of, items_in, default_name, local_name}
 use Rattle.local_signatures.specs.Boundary.{boundary_value, boundary_function, boundary_declaration}
 
+-- what a module tells of one of its exports
 pub data Told : Type 0 where
   -- a value: its type where the boundary tells one, and the tokens at which it is a fault that it tells none
   told_value : Option FlowType → ℕ → ℕ → Told
@@ -45,6 +46,7 @@ told_binding scope true word (Some (bound_import spec outer true)) = told_import
 told_binding scope true word (Some (bound_alias t)) = told_alias word
 told_binding scope is_type word other = told_nothing
 
+-- what a name of the scope stands for that is exported as a type or as a value
 abbrev pub told_name : Scope → Bool → Bytes → Told
 told_name scope is_type word = told_binding scope is_type word (row_at scope word)
 
@@ -54,12 +56,14 @@ told_listed tells no_exported = []
 told_listed tells (more_exported before (exported first end word renamed)) =
     told_listed tells before ++ ((unwrap_or renamed word, tells word) ∷ [])
 
+-- and so for a whole list in braces
 abbrev pub told_list : (Bytes → Told) → ExportList → Rows Told
 told_list tells (export_list first end names trailing) = told_listed tells names
 
 abbrev pub declared_name : Declaration → Bytes
 declared_name (declaration first end binder word annotation e) = word
 
+-- a function's name; one that has none is exported as `default`
 abbrev pub function_name : Function → Bytes
 function_name (function first end word signature body) = unwrap_or word default_name
 
@@ -76,10 +80,12 @@ told_by_export scope from to (export_from is_type names spec) = told_list (λ wo
 told_by_export scope from to (export_default_function f) = (default_name, told_function scope from to f) ∷ []
 told_by_export scope from to (export_default e) = (default_name, told_value (boundary_value (local_name scope) e) from to) ∷ []
 
+-- what an item whose tokens stand from one place to another exports
 abbrev pub told_by_form : Scope → ℕ → ℕ → ItemForm → Rows Told
 told_by_form scope from to (exports form) = told_by_export scope from to form
 told_by_form scope from to form = []
 
+-- what an item exports
 abbrev pub told_by : Scope → Item → Rows Told
 told_by scope (item first end form) = told_by_form scope first end form
 

@@ -11,9 +11,11 @@ use Rattle.type_names.specs.Names.{names_in}
 use Rattle.local_signatures.specs.Scope.{Binding, bound_import, bound_alias, Scope, scope_of, local_type}
 use Rattle.local_signatures.specs.Exports.{told_in, origin_of, led_to}
 
+-- the exports of a module with their origins, in order of their names
 abbrev pub exports_of : Module → Rows Origin
 exports_of m = map (λ row. (row.0, origin_of row.1)) (told_in m)
 
+-- the row of a name that is bound to an alias
 abbrev pub alias_row : Scope → Bytes × Binding → Option (Bytes × FlowType)
 alias_row scope (word, bound_alias t) = Some (word, local_type scope t)
 alias_row scope row = None
@@ -22,6 +24,7 @@ alias_row scope row = None
 abbrev pub aliases_of : Module → Rows FlowType
 aliases_of m = by_name (filter_map (alias_row (scope_of m)) (scope_of m))
 
+-- the row of a name that is bound to an import
 abbrev pub import_row : Bytes × Binding → Option ImportRow
 import_row (word, bound_import spec outer is_type) = Some (record { local = word; spec = spec; name = outer; is_type = is_type })
 import_row row = None
@@ -66,16 +69,20 @@ abbrev pub led_to_by : Option FlowType → List Bytes
 led_to_by None = []
 led_to_by (Some t) = led_to_by_type t
 
+-- the names, and those to which the aliases among them lead
 abbrev pub next_names : Rows FlowType → List Bytes → List Bytes
 next_names aliases words = distinct (words ++ flat_map (λ word. led_to_by (row_at aliases word)) words)
 
+-- the names after so many rounds
 abbrev pub names_after : Rows FlowType → ℕ → List Bytes → List Bytes
 names_after aliases zero words = words
 names_after aliases (suc rounds) words = names_after aliases rounds (next_names aliases words)
 
+-- the names that a module's exports reach
 abbrev pub reached_names : Module → List Bytes
 reached_names m = names_after (aliases_of m) (suc (length (aliases_of m))) (led_to_by_exports m)
 
+-- the one local signature of a module
 abbrev pub local_signature : Module → LocalSig
 local_signature m =
     record {

@@ -9,6 +9,7 @@ use Rattle.type_values.specs.declared.types.FlowType.{FlowType}
 use Rattle.type_values.specs.declared.types.FlowType as made
 use Rattle.tree_types.specs.TreeTypes.{type_of}
 
+-- what a name of the top level is bound to
 pub data Binding : Type 0 where
   -- a name of another module: the specifier, the name there, and whether it is a type
   bound_import : Bytes → Bytes → Bool → Binding
@@ -16,9 +17,11 @@ pub data Binding : Type 0 where
   bound_function : Function → Binding
   bound_alias : Ty → Binding
 
+-- names and what they are bound to, in order
 abbrev pub Scope : Type 0
 Scope = Rows Binding
 
+-- the items of a tree, in order
 abbrev pub items_from : Items → List Item
 items_from no_item = []
 items_from (more_item before last) = items_from before ++ (last ∷ [])
@@ -31,10 +34,12 @@ items_in (module_of first end all) = items_from all
 abbrev pub bound_imported : Bool → Bytes → Imported → Scope
 bound_imported is_type spec (imported first end outer local) = (local, bound_import spec (unwrap_or outer local) is_type) ∷ []
 
+-- and so for each name of a list
 abbrev pub bound_importeds : Bool → Bytes → Importeds → Scope
 bound_importeds is_type spec no_imported = []
 bound_importeds is_type spec (more_imported before last) = bound_importeds is_type spec before ++ bound_imported is_type spec last
 
+-- and for a whole list in braces
 abbrev pub bound_list : Bool → Bytes → ImportList → Scope
 bound_list is_type spec (import_list first end names trailing) = bound_importeds is_type spec names
 
@@ -42,6 +47,7 @@ bound_list is_type spec (import_list first end names trailing) = bound_importeds
 abbrev pub default_name : Bytes
 default_name = codes "default"
 
+-- the names that an import binds
 abbrev pub bound_by_import : Bytes → ImportForm → Scope
 bound_by_import spec (import_default local) = (local, bound_import spec default_name false) ∷ []
 bound_by_import spec (import_both local names) = (local, bound_import spec default_name false) ∷ bound_list false spec names
@@ -49,10 +55,12 @@ bound_by_import spec (import_names names) = bound_list false spec names
 bound_by_import spec (import_types names) = bound_list true spec names
 bound_by_import spec import_only = []
 
+-- the name that a variable's declaration binds
 abbrev pub bound_by_declaration : Declaration → Scope
 bound_by_declaration (declaration first end binder word annotation value) =
     (word, bound_variable (declaration first end binder word annotation value)) ∷ []
 
+-- the name that a function's declaration binds, if it has one
 abbrev pub bound_by_function : Function → Scope
 bound_by_function (function first end None signature body) = []
 bound_by_function (function first end (Some word) signature body) =
@@ -61,6 +69,7 @@ bound_by_function (function first end (Some word) signature body) =
 abbrev pub bound_by_alias : AliasOf → Scope
 bound_by_alias (alias first end word t) = (word, bound_alias t) ∷ []
 
+-- what is declared behind `export` is bound as without it; nothing else that is exported is
 abbrev pub bound_by_export : ExportForm → Scope
 bound_by_export (export_declaration d) = bound_by_declaration d
 bound_by_export (export_function f) = bound_by_function f
@@ -68,6 +77,7 @@ bound_by_export (export_alias a) = bound_by_alias a
 bound_by_export (export_default_function f) = bound_by_function f
 bound_by_export form = []
 
+-- the names that an item binds
 abbrev pub bound_by_form : ItemForm → Scope
 bound_by_form (imports form spec) = bound_by_import spec form
 bound_by_form (exports form) = bound_by_export form
@@ -79,10 +89,11 @@ bound_by_form form = []
 abbrev pub bound_by : Item → Scope
 bound_by (item first end form) = bound_by_form form
 
--- every binding of the top level, in order; of the bindings of one name the first counts
+-- every binding of the top level, in order
 abbrev pub bindings : Module → Scope
 bindings m = flat_map bound_by (items_in m)
 
+-- the scope of the top level: of the bindings of one name the first counts
 abbrev pub scope_of : Module → Scope
 scope_of m = first_of_each (bindings m)
 
@@ -96,6 +107,7 @@ names_type other = false
 abbrev pub own_path : Bytes
 own_path = codes "self.js/self.js"
 
+-- a name as a type of its own module: an alias or a type import under that name, or else `any`
 abbrev pub local_name : Scope → Bytes → FlowType
 local_name scope word = if names_type (row_at scope word) then made.Ref own_path word else made.Any
 

@@ -18,6 +18,7 @@ pub record Known : Type 0 where
 abbrev pub View : Type 0
 View = Bytes → Option Known
 
+-- what stands in the first row of a specifier
 abbrev pub found_in : List DepRow → Bytes → Option Bytes
 found_in [] spec = None
 found_in (row ∷ rows) spec = if bytes_eq row.spec spec then row.found else found_in rows spec
@@ -42,10 +43,12 @@ pub data Step : Type 0 where
   ends : End → Step
   goes : Bool → Bytes → Bytes → Step
 
+-- the step to a name of the module that was found, if one was
 abbrev pub goes_to : Bool → Bytes → Option Bytes → Step
 goes_to is_type name None = ends unknown
 goes_to is_type name (Some path) = goes is_type path name
 
+-- the step from an export of a module, or from a name that it doesn't export
 abbrev pub step_of : Bytes → Deps → Option Origin → Step
 step_of path deps (Some (origin.Value t)) = ends (at_value path t)
 step_of path deps (Some (origin.Alias name)) = ends (at_alias path name)
@@ -78,5 +81,6 @@ end_within v (suc steps) path name = end_of (end_within v steps) (step_in path (
 pub most : ℕ
 most = 2 ^ 64
 
+-- where the chain from a name of a module ends
 abbrev pub denotes : View → Bytes → Bytes → End
 denotes v path name = end_within v most path name

@@ -12,10 +12,12 @@ use Rattle.type_values.specs.declared.types.FlowType as made
 use Rattle.type_names.specs.Names.{Name, replaced}
 use Rattle.merged_signatures.specs.Chains.{Known, View, found, End, at_value, at_alias, unknown, cyclic, of_kind, denotes}
 
+-- the first import under a local name
 abbrev pub import_at : List ImportRow → Bytes → Option ImportRow
 import_at [] local = None
 import_at (row ∷ rows) local = if bytes_eq row.local local then Some row else import_at rows local
 
+-- the alias at which a chain ends, if it ends at one
 abbrev pub as_alias : End → Option Name
 as_alias (at_alias path name) = Some (path, name)
 as_alias end = None
@@ -29,6 +31,7 @@ abbrev pub alias_through : (Bool → Bytes → Bytes → Option Name) → Import
 alias_through aliases row None = None
 alias_through aliases row (Some path) = aliases row.is_type path row.name
 
+-- the alias that a name stands for by its import, if it has one
 abbrev pub alias_imported : (Bool → Bytes → Bytes → Option Name) → Deps → Option ImportRow → Option Name
 alias_imported aliases deps None = None
 alias_imported aliases deps (Some row) = alias_through aliases row (found deps row.spec)
@@ -47,10 +50,12 @@ name_type (Some name) = made.Ref name.0 name.1
 abbrev pub type_with : (Bool → Bytes → Bytes → Option Name) → Bytes → Known → FlowType → FlowType
 type_with aliases path m t = replaced (λ n. name_type (alias_named aliases path m n.1)) t
 
+-- a type of a module's own signature, with its names replaced; `any` where nothing is known of the module
 abbrev pub type_at : (Bool → Bytes → Bytes → Option Name) → Bytes → Option Known → FlowType → FlowType
 type_at aliases path None t = made.Any
 type_at aliases path (Some m) t = type_with aliases path m t
 
+-- what is exported under a name whose chain ends so
 abbrev pub export_of : View → End → Export
 export_of v (at_value path t) = export.Value (type_at (alias_at v) path (v path) t)
 export_of v (at_alias path name) = export.Alias path name

@@ -10,9 +10,11 @@ use Rattle.type_values.specs.declared.types.FlowType.{FlowType}
 use Rattle.type_names.specs.Names.{names_in}
 use Rattle.merged_signatures.specs.Chains.{found}
 
+-- the modules of the names in a type
 abbrev pub paths_in : FlowType → List Bytes
 paths_in t = map (λ n. n.0) (names_in t)
 
+-- the modules that an export names
 abbrev pub paths_of_export : Export → List Bytes
 paths_of_export (export.Value t) = paths_in t
 paths_of_export (export.Alias path name) = path ∷ []

@@ -6,6 +6,7 @@ use Rattle.check_values.specs.Rows.{Bytes}
 use Rattle.type_names.specs.Names.{Name}
 use Rattle.merged_signatures.specs.Chains.{View, cyclic, Step, ends, goes, step_in, end_of, most, denotes}
 
+-- the name at which a step goes on, if it does
 abbrev pub onward : Step → Option Name
 onward (ends end) = None
 onward (goes is_type path name) = Some (path, name)
@@ -23,12 +24,14 @@ pub data Leads {X : Type 0} (following : X → Option X) : X → X → Type 0 wh
 abbrev pub Repeats : {X : Type 0} → (X → Option X) → X → Type 0
 Repeats {X} following x = (y z : X) × Leads following x y × (following y ≡ Some z) × Leads following z y
 
+-- the same module, and the same name in it
 abbrev pub name_eq : Name → Name → Bool
 name_eq a b = bytes_eq a.0 b.0 && bytes_eq a.1 b.1
 
 -- fewer names than the bound are all from which a chain goes on
 pub record IsSmall (v : View) : Type 0 where
   pub names : List Name
+  -- each name from which a chain goes on is among them
   pub all : (x y : Name) → next v x ≡ Some y → list_any (name_eq x) names ≡ true
   pub few : length names < most
 

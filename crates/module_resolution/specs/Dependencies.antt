@@ -5,6 +5,7 @@ use Rattle.check_values.specs.Rows.{Bytes, distinct}
 use Rattle.check_values.specs.declared.signatures.Deps.{Deps}
 use Rattle.module_resolution.specs.Resolution.{resolved}
 
+-- the specifier of an import, or of an export of another module's names
 abbrev pub specifiers_of_form : ItemForm → List Bytes
 specifiers_of_form (imports form spec) = spec ∷ []
 specifiers_of_form (exports (export_from is_type names spec)) = spec ∷ []
@@ -13,6 +14,7 @@ specifiers_of_form form = []
 abbrev pub specifiers_of : Item → List Bytes
 specifiers_of (item first end form) = specifiers_of_form form
 
+-- the specifiers of items, in order
 abbrev pub specifiers_in : Items → List Bytes
 specifiers_in no_item = []
 specifiers_in (more_item before last) = specifiers_in before ++ specifiers_of last

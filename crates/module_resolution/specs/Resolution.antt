@@ -6,10 +6,11 @@ use Rattle.flow_values.specs.Path.{Bytes, SLASH}
 use Rattle.flow_values.specs.PathForm.{cut}
 use Rattle.check_values.specs.Rows.{is_among}
 
--- the part that stays in a folder, and the part that goes up
+-- the part that stays in a folder
 abbrev pub stays : Bytes → Bool
 stays part = bytes_eq part (codes ".")
 
+-- the part that goes up
 abbrev pub goes_up : Bytes → Bool
 goes_up part = bytes_eq part (codes "..")
 
@@ -17,14 +18,16 @@ goes_up part = bytes_eq part (codes "..")
 abbrev pub Folder : Type 0
 Folder = List Bytes
 
+-- the folder in which a module stands
 abbrev pub folder_of : Bytes → Folder
 folder_of path = drop 1 (reverse (cut path))
 
--- one part applied to a folder; an empty part, or going above the root, leads nowhere
+-- the folder round a folder; the root has none
 abbrev pub above : Folder → Option Folder
 above [] = None
 above (inner ∷ outer) = Some outer
 
+-- one part applied to a folder; an empty part, or going above the root, leads nowhere
 abbrev pub applied : Folder → Bytes → Option Folder
 applied folder [] = None
 applied folder (b ∷ bytes) =
@@ -36,6 +39,7 @@ all_applied folder [] = folder
 all_applied None (part ∷ parts) = None
 all_applied (Some folder) (part ∷ parts) = all_applied (applied folder part) parts
 
+-- the path with these parts
 abbrev pub path_to : Folder → Bytes
 path_to folder = join_with_byte SLASH (reverse folder)
 
@@ -51,6 +55,7 @@ abbrev pub is_relative : List Bytes → Bool
 is_relative [] = false
 is_relative (first ∷ more) = stays first || goes_up first
 
+-- the paths that a specifier may find from a module, the first one first
 abbrev pub candidates : Bytes → Bytes → List Bytes
 candidates from spec = if is_relative (cut spec) then candidates_at (all_applied (Some (folder_of from)) (cut spec)) else []
 

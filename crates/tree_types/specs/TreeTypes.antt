@@ -37,11 +37,13 @@ abbrev pub array_of : Places → FlowType → FlowType
 array_of no_place t = t
 array_of (more_place pairs place) t = made.Array (array_of pairs t)
 
+-- `+` may be read, `-` may be written, and without a sign both
 abbrev pub variance_of : Sign → Variance
 variance_of unsigned = variance.Both
 variance_of plus = variance.Read
 variance_of minus = variance.Write
 
+-- the bytes of a key, be it a word or a string
 abbrev pub key_text : Key → Bytes
 key_text (key first end (word_key word)) = word
 key_text (key first end (text_key text)) = text
