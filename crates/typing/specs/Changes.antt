@@ -5,6 +5,7 @@ use Rattle.std.specs.Str.{bytes_eq}
 use Rattle.check_values.specs.Rows.{Bytes, is_among}
 use Rattle.js_grammar.specs.Code.{Ex, ex, ExForm, parens, elements, fields, function_ex, postfixed, prefixed, chain, cond, arrow, Exs, no_ex, more_ex, Link, link, LinkForm, member, index, call, Links, no_link, more_link, Operand, operand, OperandForm, right_side, as_type, Operands, no_operand, more_operand, Field, field, FieldForm, shorthand, valued, Fields, no_field, more_field, Arm, arm, Arms, no_arm, more_arm, Function, function, Sig, sig, parameter, Parameters, no_parameter, more_parameter, ArrowBody, arrow_block, arrow_value, Block, block, Stmts, no_stmt, more_stmt, Stmt, stmt, StmtForm, declares, function_stmt, does, branches, loop, nested, Declaration, declaration, Simple, simple, SimpleForm, return_value, throw_value, assign, evaluate, Body, block_body, simple_body, Branch, branch, Branches, no_branch, more_branch, Else, no_else, else_body, variable}
 
+-- one thing that code may change
 pub data Change : Type 0 where
   -- a variable is assigned, in an inner function (true) or outside of them
   sets_variable : Bool → Bytes → Change
@@ -18,6 +19,7 @@ from_inside (sets_variable inner name) = Some (sets_variable true name)
 from_inside (sets_property name) = Some (sets_property name)
 from_inside may_set_all = None
 
+-- whether it changes anything but the own names of a scope
 abbrev pub is_outside : List Bytes → Change → Bool
 is_outside own (sets_variable inner name) = not (is_among own name)
 is_outside own change = true
@@ -26,12 +28,13 @@ is_outside own change = true
 abbrev pub outside : List Bytes → List Change → List Change
 outside own changes = filter (is_outside own) changes
 
--- the names that a list of statements declares
+-- the name that a statement declares, if it declares one
 abbrev pub declared_by : StmtForm → List Bytes
 declared_by (declares (declaration f t binder name annotation e)) = name ∷ []
 declared_by (function_stmt (function f t (Some name) s b)) = name ∷ []
 declared_by form = []
 
+-- the names that a list of statements declares
 abbrev pub declared_in : Stmts → List Bytes
 declared_in no_stmt = []
 declared_in (more_stmt ss (stmt f t form)) = declared_in ss ++ declared_by form
@@ -40,28 +43,33 @@ abbrev pub parameter_names : Parameters → List Bytes
 parameter_names no_parameter = []
 parameter_names (more_parameter ps (parameter f t name optional annotation)) = parameter_names ps ++ name ∷ []
 
+-- the names of a function's parameters
 abbrev pub names_of_sig : Sig → List Bytes
 names_of_sig (sig f t ps comma result) = parameter_names ps
 
+-- a name, or none
 abbrev pub name_list : Option Bytes → List Bytes
 name_list None = []
 name_list (Some name) = name ∷ []
 
--- what an assignment to a target changes, besides what its parts do
+-- what an assignment to a target that ends in this link changes
 abbrev pub change_of_link : LinkForm → List Change
 change_of_link (member name) = sets_property name ∷ []
 change_of_link (index e) = may_set_all ∷ []
 change_of_link (call es comma) = []
 
+-- the last link tells
 abbrev pub change_of_links : Links → List Change
 change_of_links no_link = []
 change_of_links (more_link ls (link f t form)) = change_of_link form
 
+-- what an assignment to a target changes, besides what its parts do
 abbrev pub change_of_target : Ex → List Change
 change_of_target (ex f t (variable name)) = sets_variable false name ∷ []
 change_of_target (ex f t (postfixed e ls)) = change_of_links ls
 change_of_target e = []
 
+-- what each form may change, in order
 abbrev mutual
   pub changes_of_ex : Ex → List Change
   changes_of_ex (ex f t form) = changes_of_ex_form form
@@ -128,10 +136,12 @@ abbrev mutual
   changes_of_function (function f t name s (block bf bt ss)) =
       outside (name_list name ++ (names_of_sig s ++ declared_in ss)) (filter_map from_inside (changes_of_stmts ss))
 
+  -- in an arrow's body, its parameters among the names still
   pub changes_of_arrow : ArrowBody → List Change
   changes_of_arrow (arrow_block b) = changes_of_block b
   changes_of_arrow (arrow_value e) = changes_of_ex e
 
+  -- a block's own names are not those outside
   pub changes_of_block : Block → List Change
   changes_of_block (block f t ss) = outside (declared_in ss) (changes_of_stmts ss)
 
@@ -178,6 +188,7 @@ abbrev mutual
   changes_of_else no_else = []
   changes_of_else (else_body body) = changes_of_body body
 
+-- it assigns the name in a function inside
 abbrev pub sets_inside : Bytes → Change → Bool
 sets_inside name (sets_variable true own) = bytes_eq own name
 sets_inside name change = false
@@ -186,14 +197,17 @@ sets_inside name change = false
 abbrev pub is_set_inside : List Change → Bytes → Bool
 is_set_inside changes name = list_any (sets_inside name) changes
 
+-- the variable that is assigned, if one is
 abbrev pub variable_set : Change → Option Bytes
 variable_set (sets_variable inner name) = Some name
 variable_set change = None
 
+-- the property that is assigned, if one is
 abbrev pub property_set : Change → Option Bytes
 property_set (sets_property name) = Some name
 property_set change = None
 
+-- it may change any property
 abbrev pub sets_all : Change → Bool
 sets_all may_set_all = true
 sets_all change = false

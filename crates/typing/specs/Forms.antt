@@ -29,22 +29,27 @@ place_out w p declared now = record {
   notes = now.notes;
 }
 
+-- a type that may be that of a place
 abbrev pub maybe_place_out : World → Option Place → FlowType → Now → Out
 maybe_place_out w None t now = plainly t now
 maybe_place_out w (Some p) t now = place_out w p t now
 
+-- the place of a name, where it has facts
 abbrev pub variable_place_of : Binding → Option Place
 variable_place_of b = if has_facts b then Some (variable_place b.number) else None
 
+-- a variable by what its name means, or a fault and `any`
 abbrev pub variable_meant : World → ℕ → ℕ → Bytes → Now → Meaning → Out
 variable_meant w f t name now (variable_of b declared) = maybe_place_out w (variable_place_of b) declared now
 variable_meant w f t name now (no_variable code) = plainly made.Any (change_notes (name_fault (fault_at w f t code name)) now)
 
+-- a variable of a scope, at these tokens
 abbrev pub variable_out : World → ℕ → ℕ → Bytes → Scope → Now → Out
 variable_out w f t name scope now = variable_meant w f t name now (meaning_of scope name)
 
 -- ---- marks before an expression
 
+-- below `number`
 abbrev pub is_number : World → FlowType → Bool
 is_number w t = w.below t made.Number
 
@@ -56,6 +61,7 @@ number_asked w f t ty notes = if is_number w ty then notes else add_fault (fault
 abbrev pub swapped : Out → Out
 swapped o = elim o.no [ None ↦ record o { ty = made.Boolean } | Some falsy ↦ record o { ty = made.Boolean; yes = falsy; no = Some o.yes } ]
 
+-- `-` or `+` before what stands at these tokens
 abbrev pub signed_out : World → ℕ → ℕ → Out → Out
 signed_out w f t o = plainly made.Number (change_notes (number_asked w f t o.ty) (after o))
 
@@ -77,6 +83,7 @@ prefixes_out w (more_prefix ps at p) f t o = prefixes_out w ps at t (noted_out w
 abbrev pub place_before : Bool → Option Place → Option Place
 place_before goes_on place = if goes_on then None else place
 
+-- on the right of `??` a place on the left is null or void
 abbrev pub nullish_now : World → Option Place → Out → Now
 nullish_now w None a = after a
 nullish_now w (Some p) a = change_facts (assume w test.Nullish p a.ty) (after a)
@@ -88,6 +95,7 @@ right_now w or place a = on_no a
 right_now w nullish place a = nullish_now w place a
 right_now w op place a = after a
 
+-- `a && b`: a's type where it is falsy, and b's
 abbrev pub and_out : World → Out → Out → Out
 and_out w a b = record {
   ty = join_of (narrowed w.members test.Falsy a.ty ∷ b.ty ∷ []);
@@ -96,6 +104,7 @@ and_out w a b = record {
   notes = b.notes;
 }
 
+-- `a || b`: a's type where it is truthy, and b's
 abbrev pub or_out : World → Out → Out → Out
 or_out w a b = record {
   ty = join_of (narrowed w.members test.Truthy a.ty ∷ b.ty ∷ []);
@@ -104,6 +113,7 @@ or_out w a b = record {
   notes = b.notes;
 }
 
+-- `a ?? b`: a's type where it is neither null nor void, and b's
 abbrev pub nullish_out : World → Out → Out → Out
 nullish_out w a b = record {
   ty = join_of (narrowed w.members test.NotNullish a.ty ∷ b.ty ∷ []);
@@ -125,6 +135,7 @@ pub record Choices : Type 0 where
   pub chosen : List Chosen
   pub now : Now
 
+-- a branch, and all that follows it
 abbrev pub choice_out : Chosen → Out → Out
 choice_out c rest =
     record { ty = join_of (c.ty ∷ rest.ty ∷ []); yes = joined c.facts (after rest).facts; no = None; notes = rest.notes }
@@ -149,6 +160,7 @@ compared scope e (more_operand no_operand (operand f t (right_side op b))) =
     if is_equality op then elim (comparison_of scope op e b) [ None ↦ None | Some c ↦ Some (c, is_negated op) ] else None
 compared scope e os = None
 
+-- a chain that compares a place tells of it where it is true and where it is false
 abbrev pub compared_out : World → Option (Comparison × Bool) → Out → Out
 compared_out w None o = o
 compared_out w (Some (c, negated)) o =
@@ -156,6 +168,7 @@ compared_out w (Some (c, negated)) o =
 
 -- ---- `<` and its like
 
+-- both types are below a third one
 abbrev pub both_below : World → FlowType → FlowType → FlowType → Bool
 both_below w a b t = w.below a t && w.below b t
 
@@ -163,10 +176,12 @@ both_below w a b t = w.below a t && w.below b t
 abbrev pub may_compare : World → FlowType → FlowType → Bool
 may_compare w a b = both_below w a b made.Number || both_below w a b made.Str
 
+-- a comparison at these tokens is asked to be one of numbers or of strings
 abbrev pub compare_asked : World → ℕ → ℕ → FlowType → FlowType → Notes → Notes
 compare_asked w f t a b notes =
     if may_compare w a b then notes else add_fault (fault_at w f t InvalidCompare (two_types a b)) notes
 
+-- `a < b` and its like
 abbrev pub compare_out : World → ℕ → ℕ → Out → Out → Out
 compare_out w f t a b = plainly made.Boolean (change_notes (compare_asked w f t a.ty b.ty) (after b))
 
@@ -180,10 +195,12 @@ sum_type w a b =
     else (if both_below w a b (made.Union (made.Number ∷ made.Str ∷ [])) then Some made.Str
     else None))
 
+-- a sum at these tokens; one of other types is a fault and `any`
 abbrev pub sum_found : World → ℕ → ℕ → FlowType → FlowType → Now → Option FlowType → Out
 sum_found w f t a b now (Some sum) = plainly sum now
 sum_found w f t a b now None = plainly made.Any (change_notes (add_fault (fault_at w f t UnsafeArithmetic (two_types a b))) now)
 
+-- `a + b`
 abbrev pub sum_out : World → ℕ → ℕ → Out → Out → Out
 sum_out w f t a b = sum_found w f t a.ty b.ty (after b) (sum_type w a.ty b.ty)
 
@@ -215,6 +232,7 @@ operator_out w f at t remainder a b = product_out w f at t a b
 
 -- ---- `as`
 
+-- the type behind `as`
 abbrev pub cast_want : World → OperandForm → Want
 cast_want w (right_side op e) = None
 cast_want w (as_type v) = Some (written w v)
@@ -231,6 +249,7 @@ cast_asked w f t goes_on want ty notes = if goes_on then asked w f t want ty not
 
 -- ---- properties, indices, calls
 
+-- what each member of an object's type gives, at a place or at none
 abbrev pub stepped : World → Option Place → List Step → Now → Out
 stepped w place steps now = maybe_place_out w place (steps_type steps) (change_notes (add_faults (steps_faults steps)) now)
 

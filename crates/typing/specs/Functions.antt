@@ -17,9 +17,11 @@ use Rattle.typing.specs.TypeFaults.{written, annotated, type_read, annotation_re
 
 -- ---- parameters
 
+-- a parameter without annotation is `any`
 abbrev pub param_type : World → Option Ty → FlowType
 param_type w annotation = unwrap_or (annotated w annotation) made.Any
 
+-- a parameter in its function's type
 abbrev pub param_of : World → Parameter → value.Param
 param_of w (parameter f t name optional annotation) = record { optional = optional; ty = param_type w annotation }
 
@@ -27,10 +29,12 @@ abbrev pub params_of : World → Parameters → List value.Param
 params_of w no_parameter = []
 params_of w (more_parameter ps p) = params_of w ps ++ param_of w p ∷ []
 
+-- a parameter without annotation is a fault at its name
 abbrev pub annotation_asked : World → ℕ → Bytes → Option Ty → Notes → Notes
 annotation_asked w f name None notes = add_fault (fault_at w f (suc f) MissingLocalAnnot name) notes
 annotation_asked w f name (Some t) notes = type_read w t notes
 
+-- the annotations of parameters, from left to right
 abbrev pub parameters_read : World → Parameters → Notes → Notes
 parameters_read w no_parameter notes = notes
 parameters_read w (more_parameter ps (parameter f t name optional annotation)) notes =
@@ -40,9 +44,11 @@ parameters_read w (more_parameter ps (parameter f t name optional annotation)) n
 abbrev pub sig_read : World → Sig → Notes → Notes
 sig_read w (sig f t ps comma result) notes = annotation_read w result (parameters_read w ps notes)
 
+-- the annotated result, if there is one
 abbrev pub result_of : World → Sig → Option FlowType
 result_of w (sig f t ps comma result) = annotated w result
 
+-- the parameters of a function's type
 abbrev pub sig_params : World → Sig → List value.Param
 sig_params w (sig f t ps comma result) = params_of w ps
 
@@ -72,10 +78,12 @@ bind w token b so_far =
 abbrev pub changing_kind : List Change → Bytes → Kind
 changing_kind changes name = if is_set_inside changes name then shared else changing
 
+-- what a `const` or a `let` is
 abbrev pub kind_by : List Change → Binder → Bytes → Kind
 kind_by changes const name = constant
 kind_by changes let_word name = changing_kind changes name
 
+-- a parameter in its function's scope, where an optional one may be `void`
 abbrev pub parameter_binding : World → ℕ → List Change → Parameter → Binding
 parameter_binding w depth changes (parameter f t name optional annotation) =
     record {
@@ -87,11 +95,13 @@ parameter_binding w depth changes (parameter f t name optional annotation) =
       declared = Some (eff optional (param_type w annotation));
     }
 
+-- parameters, from left to right
 abbrev pub bind_parameters : World → ℕ → List Change → Parameters → Bound → Bound
 bind_parameters w depth changes no_parameter so_far = so_far
 bind_parameters w depth changes (more_parameter ps (parameter f t name optional annotation)) so_far =
     bind w f (parameter_binding w depth changes (parameter f t name optional annotation)) (bind_parameters w depth changes ps so_far)
 
+-- the parameters of a function
 abbrev pub bind_sig : World → ℕ → List Change → Sig → Bound → Bound
 bind_sig w depth changes (sig f t ps comma result) so_far = bind_parameters w depth changes ps so_far
 
@@ -107,27 +117,33 @@ declaration_binding w depth changes (declaration f t binder name annotation e) =
       declared = annotated w annotation;
     }
 
+-- a function may be used before its declaration
 abbrev pub function_binding : World → ℕ → ℕ → Bytes → Sig → Binding
 function_binding w depth token name s =
     record { name = name; number = number_at token; kind = constant; depth = depth; is_read = true; declared = Some (declared_function w s) }
 
+-- what a declaration binds
 abbrev pub bind_declaration : World → ℕ → List Change → Declaration → Bound → Bound
 bind_declaration w depth changes (declaration f t binder name annotation e) so_far =
     bind w (suc f) (declaration_binding w depth changes (declaration f t binder name annotation e)) so_far
 
+-- what a function's declaration binds
 abbrev pub bind_function : World → ℕ → Function → Bound → Bound
 bind_function w depth (function f t None s b) so_far = so_far
 bind_function w depth (function f t (Some name) s b) so_far = bind w (suc f) (function_binding w depth (suc f) name s) so_far
 
+-- what a statement binds in the scope in which it stands
 abbrev pub bind_form : World → ℕ → List Change → StmtForm → Bound → Bound
 bind_form w depth changes (declares d) so_far = bind_declaration w depth changes d so_far
 bind_form w depth changes (function_stmt f) so_far = bind_function w depth f so_far
 bind_form w depth changes form so_far = so_far
 
+-- the statements of a list, in order
 abbrev pub bind_stmts : World → ℕ → List Change → Stmts → Bound → Bound
 bind_stmts w depth changes no_stmt so_far = so_far
 bind_stmts w depth changes (more_stmt ss (stmt f t form)) so_far = bind_form w depth changes form (bind_stmts w depth changes ss so_far)
 
+-- a scope that binds nothing yet
 abbrev pub none_bound : Notes → Bound
 none_bound notes = record { names = []; notes = notes }
 
@@ -170,6 +186,7 @@ end_asked w (sig f t ps comma None) (Some facts) env = returns made.Void env
 end_asked w (sig f t ps comma (Some (ty from to lead members))) (Some facts) env =
     record env { notes = asked w from to (written w (ty from to lead members)) made.Void env.notes }
 
+-- the end of a body
 abbrev pub ended : World → Sig → Env → Env
 ended w s env = end_asked w s env.facts env
 

@@ -25,6 +25,7 @@ use Rattle.typing.specs.States.{World, fault_at, two_types}
 abbrev pub Step : Type 0
 Step = FlowType × List Fault
 
+-- a member without a fault
 abbrev pub gives : FlowType → Step
 gives t = (t, [])
 
@@ -32,9 +33,11 @@ gives t = (t, [])
 abbrev pub fails : Fault → Step
 fails fault = (made.Any, fault ∷ [])
 
+-- the join of what the members give
 abbrev pub steps_type : List Step → FlowType
 steps_type steps = join_of (map (λ (step : Step). step.0) steps)
 
+-- the faults of all members
 abbrev pub steps_faults : List Step → List Fault
 steps_faults steps = flat_map (λ (step : Step). step.1) steps
 
@@ -49,6 +52,7 @@ pub record Part : Type 0 where
   pub end : ℕ
   pub details : Bytes
 
+-- a fault at the part
 abbrev pub at_part : World → Part → Code → Step
 at_part w part code = fails (fault_at w part.first part.end code part.details)
 
@@ -59,13 +63,16 @@ at_object w part = fails (fault_at w part.object_first part.object_end Incompati
 abbrev pub is_length : Bytes → Bool
 is_length key = bytes_eq key (codes "length")
 
+-- arrays, tuples and strings have a `length`, and no other property
 abbrev pub length_read : World → Part → Bytes → Step
 length_read w part key = if is_length key then gives made.Number else at_part w part PropMissing
 
+-- a property that may only be written is not read
 abbrev pub read_by_variance : World → Part → FlowProp → Variance → Step
 read_by_variance w part p Write = at_part w part CannotRead
 read_by_variance w part p v = gives (read_type p)
 
+-- a property of an object, if it has one
 abbrev pub read_of_prop : World → Part → Option FlowProp → Step
 read_of_prop w part None = at_part w part PropMissing
 read_of_prop w part (Some p) = read_by_variance w part p (out-FlowProp p).variance
@@ -84,10 +91,12 @@ property_read w part key Void = at_object w part
 property_read w part key Mixed = at_object w part
 property_read w part key level = at_part w part PropMissing
 
+-- a property that may only be read is not written
 abbrev pub written_by_variance : World → Part → FlowProp → Variance → Step
 written_by_variance w part p Read = at_part w part CannotWrite
 written_by_variance w part p v = gives (read_type p)
 
+-- a property of an object, if it has one
 abbrev pub write_of_prop : World → Part → Option FlowProp → Step
 write_of_prop w part None = at_part w part PropMissing
 write_of_prop w part (Some p) = written_by_variance w part p (out-FlowProp p).variance
@@ -115,6 +124,7 @@ abbrev pub element_at : Bytes → ℕ → List FlowType → Option FlowType
 element_at spelling i [] = None
 element_at spelling i (t ∷ more) = if bytes_eq (decimal i) spelling then Some t else element_at spelling (i + 1) more
 
+-- what an index that is a number gives of a tuple
 abbrev pub numeric_element : World → List FlowType → FlowType → Option FlowType
 numeric_element w all i = if w.below i made.Number then Some (join_of all) else None
 
@@ -123,6 +133,7 @@ abbrev pub tuple_element : World → List FlowType → FlowType → Level → Op
 tuple_element w all i (NumLit spelling) = elim (element_at spelling 0 all) [ None ↦ numeric_element w all i | Some t ↦ Some t ]
 tuple_element w all i level = numeric_element w all i
 
+-- an element, if the index finds one
 abbrev pub or_invalid_index : World → Part → Option FlowType → Step
 or_invalid_index w part None = at_part w part InvalidIndex
 or_invalid_index w part (Some t) = gives t
@@ -137,6 +148,7 @@ element_read w part i element =
 abbrev pub named_part : Part → Bytes → Part
 named_part part key = record part { details = quoted key }
 
+-- a string literal as an index names a property
 abbrev pub object_element : World → Part → Level → Level → Step
 object_element w part (StrLit key) level = property_read w (named_part part key) key level
 object_element w part i level = at_part w part InvalidIndex
@@ -153,10 +165,12 @@ index_read w part i Void = at_object w part
 index_read w part i Mixed = at_object w part
 index_read w part i level = at_part w part InvalidIndex
 
+-- and so where it is written
 abbrev pub object_element_written : World → Part → Level → Level → Step
 object_element_written w part (StrLit key) level = property_written w (named_part part key) key level
 object_element_written w part i level = at_part w part InvalidIndex
 
+-- an element of a read-only array is not written
 abbrev pub read_only : World → Part → Step → Step
 read_only w part step = (step.0, step.1 ++ (at_part w part CannotWrite).1)
 
@@ -166,6 +180,7 @@ index_written w part i (ReadArray element) = read_only w part (element_read w pa
 index_written w part i (Object exact props) = object_element_written w part (out-FlowType i) (Object exact props)
 index_written w part i level = index_read w part i level
 
+-- a string literal as an index names a property
 abbrev pub target_of_key : Level → Level → Option FlowType
 target_of_key (StrLit key) level = target_of_prop key level
 target_of_key i level = None
@@ -179,6 +194,7 @@ target_of_index w i level = target_of_key (out-FlowType i) level
 
 -- ---- over the members of a type
 
+-- the outermost level of each member of a type
 abbrev pub levels : World → FlowType → List Level
 levels w t = map (λ m. out-FlowType m) (w.members t)
 
@@ -203,6 +219,7 @@ pub record Call : Type 0 where
   pub callee_type : FlowType
   pub args : List Arg
 
+-- what a parameter takes: an optional one `void` too
 abbrev pub taken_by : Param → FlowType
 taken_by p = eff (out-Param p).optional (out-Param p).ty
 
@@ -214,13 +231,16 @@ param_at params k = option_map taken_by (slice_get params k)
 abbrev pub may_lack : World → Param → Bool
 may_lack w p = w.below made.Void (taken_by p)
 
+-- each argument has a parameter, and each parameter without argument may lack it
 abbrev pub arity_fits : World → ℕ → List Param → Bool
 arity_fits w count params = nat_le count (length params) && list_all (may_lack w) (drop count params)
 
+-- at the call, with the numbers of arguments and of parameters
 abbrev pub arity_fault : World → Call → List Param → Fault
 arity_fault w c params =
     fault_at w c.first c.end IncompatibleArity (decimal (length c.args) ++ (codes " " ++ decimal (length params)))
 
+-- a fault at the callee
 abbrev pub at_callee : World → Call → Code → Step
 at_callee w c code = fails (fault_at w c.first c.callee_end code (brief c.callee_type))
 
@@ -239,6 +259,7 @@ abbrev pub one_function : List Level → Option (List Param)
 one_function (Function params result ∷ []) = Some params
 one_function members = None
 
+-- an argument that is not below what its parameter takes
 abbrev pub misfit : World → Arg → Option FlowType → List Fault
 misfit w arg None = []
 misfit w arg (Some t) =
@@ -249,6 +270,7 @@ abbrev pub misfits : World → List Param → ℕ → List Arg → List Fault
 misfits w params k [] = []
 misfits w params k (arg ∷ args) = misfit w arg (param_at params k) ++ misfits w params (k + 1) args
 
+-- the arguments that don't fit a member that is a function
 abbrev pub member_misfits : World → List Arg → Level → List Fault
 member_misfits w args (Function params result) = misfits w params 0 args
 member_misfits w args level = []

@@ -9,6 +9,7 @@ use Rattle.check_values.specs.declared.codes.Code.TheVariants.{CannotResolveName
 use Rattle.type_values.specs.declared.types.FlowType.{FlowType}
 use Rattle.type_values.specs.declared.types.FlowType as made
 
+-- what a name is, which tells whether it may be assigned and has facts
 pub data Kind : Type 0 where
   -- an import, a function, a `const`, or a name of the prelude
   constant : Kind
@@ -44,12 +45,15 @@ pub data Meaning : Type 0 where
 abbrev pub number_at : ℕ → ℕ
 number_at token = token + 5
 
+-- a name of the prelude with its number and its type
 abbrev pub prelude_name : Bytes → ℕ → FlowType → Binding
 prelude_name name number t = record { name = name; number = number; kind = constant; depth = 0; is_read = true; declared = Some t }
 
+-- the number of `undefined`
 abbrev pub undefined_number : ℕ
 undefined_number = 0
 
+-- the names that are known without a binding of the module's
 abbrev pub prelude : List Binding
 prelude =
     prelude_name (codes "undefined") undefined_number made.Void ∷ prelude_name (codes "console") 1 made.Any
@@ -60,6 +64,7 @@ abbrev pub binding_of : List Binding → Bytes → Option Binding
 binding_of [] name = None
 binding_of (b ∷ names) name = if bytes_eq b.name name then Some b else binding_of names name
 
+-- the name is bound
 abbrev pub binds : List Binding → Bytes → Bool
 binds names name = is_some (binding_of names name)
 
@@ -67,18 +72,22 @@ binds names name = is_some (binding_of names name)
 abbrev pub is_usable : ℕ → Binding → Bool
 is_usable depth b = b.is_read || nat_lt b.depth depth
 
+-- a name means a variable where its type is known and it may be used here
 abbrev pub declared_meaning : ℕ → Binding → Option FlowType → Meaning
 declared_meaning depth b None = no_variable ReferenceBeforeDeclaration
 declared_meaning depth b (Some t) = if is_usable depth b then variable_of b t else no_variable ReferenceBeforeDeclaration
 
+-- a type is no variable
 abbrev pub meaning_by_kind : Kind → ℕ → Binding → Meaning
 meaning_by_kind type_name depth b = no_variable TypeAsValue
 meaning_by_kind kind depth b = declared_meaning depth b b.declared
 
+-- what a name with this binding means, or with none
 abbrev pub meaning_of_binding : ℕ → Option Binding → Meaning
 meaning_of_binding depth None = no_variable CannotResolveName
 meaning_of_binding depth (Some b) = meaning_by_kind b.kind depth b
 
+-- what a name means in a scope
 abbrev pub meaning_of : Scope → Bytes → Meaning
 meaning_of scope name = meaning_of_binding scope.depth (binding_of scope.names name)
 
@@ -86,6 +95,7 @@ abbrev pub is_constant_kind : Kind → Bool
 is_constant_kind constant = true
 is_constant_kind kind = false
 
+-- whether the places of such a name have facts
 abbrev pub has_facts_kind : Kind → Bool
 has_facts_kind constant = true
 has_facts_kind changing = true
@@ -105,12 +115,14 @@ is_constant_number scope number = list_any (λ b. b.number == number && is_const
 abbrev pub binding_read : ℕ → FlowType → Binding → Binding
 binding_read number t b = if b.number == number then record b { is_read = true; declared = Some t } else b
 
+-- the scope once the declaration of the name with this number was read
 abbrev pub declares_type : ℕ → FlowType → Scope → Scope
 declares_type number t scope = record scope { names = map (binding_read number t) scope.names }
 
--- the numbers of names, where they are bound
+-- the number of a name, where it is bound
 abbrev pub number_of : Scope → Bytes → Option ℕ
 number_of scope name = elim (binding_of scope.names name) [ None ↦ None | Some b ↦ Some b.number ]
 
+-- the numbers of those names that are bound
 abbrev pub numbers_of : Scope → List Bytes → List ℕ
 numbers_of scope names = filter_map (number_of scope) names

@@ -17,9 +17,11 @@ use Rattle.typing.specs.States.{World, Want, Notes, Out, Env, no_of, after, with
 use Rattle.typing.specs.Members.{levels, Part, steps_type, steps_faults, property_read, property_written, index_written, target_of_prop, target_of_index, the_one}
 use Rattle.type_terms.specs.Show.{brief}
 
+-- the first token of an expression
 abbrev pub first_of : Ex → ℕ
 first_of (ex f t form) = f
 
+-- the token behind its last
 abbrev pub end_of : Ex → ℕ
 end_of (ex f t form) = t
 
@@ -48,9 +50,11 @@ pub record Goal : Type 0 where
   pub faults : List Fault
   pub target : Target
 
+-- the one type that the value is read against
 abbrev pub goal_want : Goal → Want
 goal_want g = the_one g.wants
 
+-- a value that was read plainly is asked to be below each of the types
 abbrev pub asked_each : World → Ex → List FlowType → FlowType → Notes → Notes
 asked_each w e (want ∷ []) ty notes = notes
 asked_each w e wants ty notes = fold (λ so_far want. asked w (first_of e) (end_of e) want ty so_far) notes wants
@@ -70,6 +74,7 @@ variable_goal_of w f name b declared =
       target = if has_facts b then set_place (variable_place b.number) declared else set_nothing;
     }
 
+-- a name, at this token, that may mean no variable
 abbrev pub variable_goal : World → ℕ → Bytes → Meaning → Goal
 variable_goal w f name (no_variable code) = record { wants = []; faults = []; target = set_nothing }
 variable_goal w f name (variable_of b declared) = variable_goal_of w f name b declared
@@ -79,6 +84,7 @@ abbrev pub variable_named : World → ℕ → Bytes → Meaning → Notes → No
 variable_named w f name (no_variable code) notes = name_fault (fault_at w f (suc f) code name) notes
 variable_named w f name (variable_of b declared) notes = notes
 
+-- a property that is a place, or one of what is none
 abbrev pub property_target : Bytes → FlowType → Option Place → Target
 property_target key declared None = set_property key
 property_target key declared (Some p) = set_place p declared
@@ -105,6 +111,7 @@ element_goal w f at e o i =
 
 -- ---- declarations
 
+-- the type of a variable without annotation: a `let` widens that of its value
 abbrev pub binder_type : Binder → FlowType → FlowType
 binder_type const t = t
 binder_type let_word t = widened t
@@ -123,6 +130,7 @@ declared_facts w scope number None t facts = facts
 declared_facts w scope number (Some declared) t facts =
     if is_shared scope number then facts else live (assigned w.members w.below (variable_place number) declared t) facts
 
+-- the annotation, or else by the value's type
 abbrev pub declared_type : Binder → Want → FlowType → FlowType
 declared_type binder None t = binder_type binder t
 declared_type binder (Some declared) t = declared
@@ -143,9 +151,11 @@ abbrev pub returned_bare : World → ℕ → ℕ → Env → Env
 returned_bare w f t env =
     dead (returns made.Void (record env { notes = asked_want w f t env.scope.result made.Void env.notes }))
 
+-- the value of a `return` was read
 abbrev pub returned_value : Out → Env → Env
 returned_value v env = dead (returns v.ty (with_now (after v) env))
 
+-- a `break` leaves the loop around with its facts
 abbrev pub broken : Env → Env
 broken env = dead (record env { breaks = joined env.breaks env.facts })
 
@@ -156,6 +166,7 @@ pub record Fork : Type 0 where
   pub env : Env
   pub arms : Known
 
+-- before the first arm
 abbrev pub fork : Env → Fork
 fork env = record { env = env; arms = None }
 
@@ -169,6 +180,7 @@ merged arms last = record last { facts = joined arms last.facts }
 
 -- ---- `while`
 
+-- what changes in a loop drop of the facts before it
 abbrev pub killed_by : Scope → List Change → Killed
 killed_by scope changes = record {
   bindings = numbers_of scope (filter_map variable_set changes);

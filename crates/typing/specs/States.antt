@@ -70,6 +70,7 @@ Want = Option FlowType
 
 -- ---- facts
 
+-- the facts where an expression is falsy
 abbrev pub no_of : Out → Known
 no_of o = elim o.no [ None ↦ o.yes | Some facts ↦ facts ]
 
@@ -77,15 +78,19 @@ no_of o = elim o.no [ None ↦ o.yes | Some facts ↦ facts ]
 abbrev pub after : Out → Now
 after o = record { facts = joined o.yes (no_of o); notes = o.notes }
 
+-- what follows where it is truthy
 abbrev pub on_yes : Out → Now
 on_yes o = record { facts = o.yes; notes = o.notes }
 
+-- what follows where it is falsy
 abbrev pub on_no : Out → Now
 on_no o = record { facts = no_of o; notes = o.notes }
 
+-- what an expression of the next statement is read from
 abbrev pub now_of : Env → Now
 now_of env = record { facts = env.facts; notes = env.notes }
 
+-- after an expression of a statement
 abbrev pub with_now : Now → Env → Env
 with_now now env = record env { facts = now.facts; notes = now.notes }
 
@@ -121,12 +126,14 @@ name_fault fault notes = record notes { faults = with_fault notes.faults fault }
 abbrev pub add_fault : Fault → Notes → Notes
 add_fault fault notes = if notes.stopped then notes else name_fault fault notes
 
+-- faults of code that is reached
 abbrev pub add_faults : List Fault → Notes → Notes
 add_faults faults notes = fold (λ so_far fault. add_fault fault so_far) notes faults
 
 abbrev pub change_notes : (Notes → Notes) → Now → Now
 change_notes change now = record now { notes = change now.notes }
 
+-- two types as details
 abbrev pub two_types : FlowType → FlowType → Bytes
 two_types a b = brief a ++ (codes " " ++ brief b)
 
@@ -134,6 +141,7 @@ two_types a b = brief a ++ (codes " " ++ brief b)
 abbrev pub asked : World → ℕ → ℕ → FlowType → FlowType → Notes → Notes
 asked w f t want ty notes = if w.below ty want then notes else add_fault (fault_at w f t IncompatibleType (two_types ty want)) notes
 
+-- and to be below what it is read against, if that is told
 abbrev pub asked_want : World → ℕ → ℕ → Want → FlowType → Notes → Notes
 asked_want w f t None ty notes = notes
 asked_want w f t (Some want) ty notes = asked w f t want ty notes
@@ -144,13 +152,16 @@ against w f t want o = record o { notes = asked_want w f t want o.ty o.notes }
 
 -- ---- what is watched
 
+-- the place is that of a byte of the span
 abbrev pub covers : Span → ℕ → Bool
 covers span place = nat_le span.start place && nat_lt place span.end
 
+-- the span is shorter than that of what was seen, if anything was
 abbrev pub is_shorter : Span → Option Seen → Bool
 is_shorter span None = true
 is_shorter span (Some seen) = nat_lt (span.end - span.start) (seen.span.end - seen.span.start)
 
+-- what is seen of the watched place, once this was read too
 abbrev pub watched_with : Option ℕ → Seen → Option Seen → Option Seen
 watched_with None seen before = before
 watched_with (Some place) seen before = if covers seen.span place && is_shorter seen.span before then Some seen else before
@@ -161,14 +172,17 @@ noted w f t ty notes =
     if notes.stopped then notes
     else record notes { watched = watched_with w.watch (record { span = span_over w.spans f t; ty = ty }) notes.watched }
 
+-- what reading the expression at these tokens gives, with its type noted
 abbrev pub noted_out : World → ℕ → ℕ → Out → Out
 noted_out w f t o = record o { notes = noted w f t o.ty o.notes }
 
 -- ---- what cannot be reached
 
+-- nothing from the statement at these tokens on is reached
 abbrev pub stop : World → ℕ → ℕ → Env → Env
 stop w f t env = record env { notes = record (add_fault (fault_at w f t UnreachableCode []) env.notes) { stopped = true } }
 
+-- where facts are dead
 abbrev pub stop_if_dead : World → ℕ → ℕ → Known → Env → Env
 stop_if_dead w f t None env = stop w f t env
 stop_if_dead w f t (Some facts) env = env
@@ -177,6 +191,7 @@ stop_if_dead w f t (Some facts) env = env
 abbrev pub reach : World → ℕ → ℕ → Env → Env
 reach w f t env = if env.notes.stopped then env else stop_if_dead w f t env.facts env
 
+-- after it nothing is reached
 abbrev pub dead : Env → Env
 dead env = record env { facts = None }
 

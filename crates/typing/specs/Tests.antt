@@ -34,6 +34,7 @@ abbrev mutual
 
 -- ---- places
 
+-- the number of a variable that has facts, by what its name means
 abbrev pub place_of_meaning : Meaning → Option ℕ
 place_of_meaning (no_variable code) = None
 place_of_meaning (variable_of b t) = if has_facts b then Some b.number else None
@@ -52,6 +53,7 @@ abbrev mutual
   variable_in_form scope (parens e) = variable_in scope e
   variable_in_form scope form = None
 
+-- a property of a variable as a place
 abbrev pub property_of : Option ℕ → Bytes → Option Place
 property_of None key = None
 property_of (Some variable_at) key = Some (property_place variable_at key)
@@ -79,14 +81,17 @@ pub data Tested : Type 0 where
   tests_place : Place → Tested
   tests_kind : Place → Tested
 
+-- a place, if it is one
 abbrev pub tested_place : Option Place → Option Tested
 tested_place None = None
 tested_place (Some p) = Some (tests_place p)
 
+-- `typeof` and a place, if it is one
 abbrev pub tested_kind : Option Place → Option Tested
 tested_kind None = None
 tested_kind (Some p) = Some (tests_kind p)
 
+-- the place that a side of a comparison tests, parentheses round it left out
 abbrev mutual
   pub tested_in : Scope → Ex → Option Tested
   tested_in scope (ex f t form) = tested_in_form scope form
@@ -102,13 +107,16 @@ pub data Against : Type 0 where
   with_void : Against
   with_lit : Lit → Against
 
+-- a number that is a type of its own
 abbrev pub with_number : Bytes → Option Against
 with_number digits = if is_type_number digits then Some (with_lit (lit.Num digits)) else None
 
+-- the `undefined` of the prelude
 abbrev pub with_undefined : Option ℕ → Option Against
 with_undefined None = None
 with_undefined (Some variable_at) = if variable_at == undefined_number then Some with_void else None
 
+-- what a side of a comparison is compared with, parentheses round it left out
 abbrev mutual
   pub compared_with : Scope → Ex → Option Against
   compared_with scope (ex f t form) = compared_with_form scope form
@@ -137,6 +145,7 @@ is_strict strict_equal = true
 is_strict strict_not_equal = true
 is_strict op = false
 
+-- it holds where the sides differ
 abbrev pub is_negated : Operator → Bool
 is_negated strict_not_equal = true
 is_negated loose_not_equal = true
@@ -146,14 +155,17 @@ is_negated op = false
 abbrev pub nullish_comparison : Place → Comparison
 nullish_comparison p = record { place = p; equal = test.Nullish; differ = test.NotNullish; is_literal = false }
 
+-- with null, strictly or loosely
 abbrev pub null_comparison : Bool → Place → Comparison
 null_comparison true p = record { place = p; equal = test.IsNull; differ = test.NotNull; is_literal = false }
 null_comparison false p = nullish_comparison p
 
+-- with void, strictly or loosely
 abbrev pub void_comparison : Bool → Place → Comparison
 void_comparison true p = record { place = p; equal = test.IsVoid; differ = test.NotVoid; is_literal = false }
 void_comparison false p = nullish_comparison p
 
+-- a place on one side, and what the other side compares it with
 abbrev pub comparison_with : Bool → Option Tested → Option Against → Option Comparison
 comparison_with strict (Some (tests_place p)) (Some with_null) = Some (null_comparison strict p)
 comparison_with strict (Some (tests_place p)) (Some with_void) = Some (void_comparison strict p)
@@ -181,5 +193,6 @@ assume_compared w c t facts =
     let narrowed = assume w t c.place made.Any facts in
     if c.is_literal then assume_on_property w t c.place.binding c.place.prop narrowed else narrowed
 
+-- the facts where the sides are equal, or where they differ
 abbrev pub assume_equal : World → Bool → Comparison → Known → Known
 assume_equal w equal c facts = assume_compared w c (if equal then c.equal else c.differ) facts

@@ -20,13 +20,16 @@ type_meant (no_type_of code) = made.Any
 abbrev pub written_by : (Bytes → TypeMeaning) → Ty → FlowType
 written_by meaning t = type_of (λ name. type_meant (meaning name)) t
 
+-- the type of a tree, by what the module's names mean
 abbrev pub written : World → Ty → FlowType
 written w t = written_by w.type_meaning t
 
+-- a name, at these tokens, that means no type is a fault
 abbrev pub meaning_fault : World → ℕ → ℕ → Bytes → TypeMeaning → Notes → Notes
 meaning_fault w f t name (a_type meant) notes = notes
 meaning_fault w f t name (no_type_of code) notes = name_fault (fault_at w f t code name) notes
 
+-- a type's own name is none
 abbrev pub name_read : World → ℕ → ℕ → Bytes → Notes → Notes
 name_read w f t name notes =
     if is_some (row_at named_types name) then notes else meaning_fault w f t name (w.type_meaning name) notes
@@ -96,6 +99,7 @@ abbrev pub annotation_read : World → Option Ty → Notes → Notes
 annotation_read w None notes = notes
 annotation_read w (Some t) notes = type_read w t notes
 
+-- the type of an annotation, if there is one
 abbrev pub annotated : World → Option Ty → Option FlowType
 annotated w None = None
 annotated w (Some t) = Some (written w t)

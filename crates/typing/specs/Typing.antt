@@ -32,6 +32,7 @@ pub record Made : Type 0 where
   pub ty : FlowType
   pub now : Now
 
+-- a function as an expression
 abbrev pub made_out : Made → Out
 made_out m = plainly m.ty m.now
 
@@ -45,9 +46,11 @@ abbrev pub truth_out : Bool → Now → Out
 truth_out true now = record { ty = made.BoolLit true; yes = now.facts; no = Some None; notes = now.notes }
 truth_out false now = record { ty = made.BoolLit false; yes = None; no = Some now.facts; notes = now.notes }
 
+-- an argument at these tokens
 abbrev pub arg_of : ℕ → ℕ → Out → Arg
 arg_of f t o = record { first = f; end = t; ty = o.ty }
 
+-- the type that the k-th argument is read against
 abbrev pub arg_want : Option (List value.Param) → ℕ → Want
 arg_want None k = None
 arg_want (Some params) k = param_at params k
@@ -57,6 +60,7 @@ abbrev mutual
   pub read : World → Ex → Scope → Want → Now → Out
   read w (ex f t form) scope want now = noted_out w f t (read_form w f t form scope want now)
 
+  -- a form of an expression, at these tokens
   pub read_form : World → ℕ → ℕ → ExForm → Scope → Want → Now → Out
   read_form w f t (number digits) scope want now = against w f t want (plainly (number_type digits) now)
   read_form w f t (text s) scope want now = against w f t want (plainly (made.StrLit s) now)
@@ -105,6 +109,7 @@ abbrev mutual
       let o = read_field w f form scope (value_want candidate entries entry) named in
       record { props = before.props ++ prop_read entry.name o.ty ∷ []; now = after o }
 
+  -- the value of a property that begins at a token; a name alone is a variable
   pub read_field : World → ℕ → FieldForm → Scope → Want → Now → Out
   read_field w f (shorthand name) scope want now =
       noted_out w f (suc f) (against w f (suc f) want (variable_out w f (suc f) name scope now))
@@ -117,6 +122,7 @@ abbrev mutual
       let place = step_place from (more_link ls (link at t form)) in
       noted_out w f t (read_link w f at t form place scope (read_links w f ls from scope base))
 
+  -- a link at the last two tokens, behind an expression that begins at the first
   pub read_link : World → ℕ → ℕ → ℕ → LinkForm → Option Place → Scope → Out → Out
   read_link w f at t (member key) place scope o = property_out w f at t key place o
   read_link w f at t (index e) place scope o = index_out w f at t o (read w e scope None (after o))
@@ -166,6 +172,7 @@ abbrev mutual
       let start = body_env w s outer (kept_facts is_expression scope now.facts) (bind_stmts w (suc scope.depth) changes ss params) in
       made_from w s now (ended w s (read_stmts w ss start))
 
+  -- an arrow, whose body is a block or an expression that is returned
   pub read_arrow : World → Sig → ArrowBody → Scope → Now → Made
   read_arrow w s (arrow_block (block bf bt ss)) scope now =
       let changes = changes_of_stmts ss in
@@ -182,6 +189,7 @@ abbrev mutual
   read_stmts w no_stmt env = env
   read_stmts w (more_stmt ss (stmt f t form)) env = read_stmt w f t form (reach w f t (read_stmts w ss env))
 
+  -- a statement at these tokens
   pub read_stmt : World → ℕ → ℕ → StmtForm → Env → Env
   read_stmt w f t (declares d) env = read_declaration w d env
   read_stmt w f t (function_stmt declared_by) env = with_now (read_function w false declared_by env.scope (now_of env)).now env
@@ -195,6 +203,7 @@ abbrev mutual
       after_loop env test (read_body w body (with_now (on_yes test) start))
   read_stmt w f t (nested b) env = read_block w b env
 
+  -- a declaration: its annotation, then its value
   pub read_declaration : World → Declaration → Env → Env
   read_declaration w (declaration f t binder name annotation e) env =
       let now = change_notes (annotation_read w annotation) (now_of env) in
@@ -233,6 +242,7 @@ abbrev mutual
       let test = read w e k.env.scope None (now_of k.env) in
       forked k test (read_body w body (with_now (on_yes test) k.env))
 
+  -- the last arm, if there is one
   pub read_else : World → Else → Env → Env
   read_else w no_else env = env
   read_else w (else_body body) env = read_body w body env
@@ -242,5 +252,6 @@ abbrev mutual
   read_body w (block_body b) env = read_block w b env
   read_body w (simple_body (simple f t form)) env = leave env (read_simple w f (suc t) form (reach w f (suc t) env))
 
+  -- a block, which is a scope of its own
   pub read_block : World → Block → Env → Env
   read_block w (block f t ss) env = leave env (read_stmts w ss (enter_block w (changes_of_stmts ss) ss env))
