@@ -29,17 +29,21 @@ pub record IsTable (sigs : Sigs) (deps : Deps) (table : Sigs) : Type 0 where
 
 -- ---- the types of aliases: the module's own first, then those of the table
 
+-- what a name of the module means as a type
 abbrev pub meaning_in : Bytes → Deps → Sigs → Module → Bytes → TypeMeaning
 meaning_in path deps table m name = type_bound path deps table name (row_at (scope_of m) name)
 
+-- the type of an alias of the module's own
 abbrev pub own_alias : (Bytes → TypeMeaning) → Option home.Binding → Option FlowType
 own_alias meaning (Some (bound_alias t)) = Some (written_by meaning t)
 own_alias meaning other = None
 
+-- the type of an alias in the signature of another module
 abbrev pub alias_told : Bytes → Option Sig → Option FlowType
 alias_told name None = None
 alias_told name (Some s) = row_at s.aliases name
 
+-- the type of an alias, by its module and its name
 abbrev pub alias_type : Bytes → Deps → Module → Sigs → Key → Option FlowType
 alias_type path deps m table key =
     option_or (if bytes_eq key.0 path then own_alias (meaning_in path deps table m) (row_at (scope_of m) key.1) else None)
@@ -49,6 +53,7 @@ alias_type path deps m table key =
 abbrev pub unfolded : (Key → Bool) → (Key → Option FlowType) → Key → FlowType
 unfolded is_cyclic types name = if is_cyclic name then made.Any else unwrap_or (types name) made.Any
 
+-- what names unfold to for the module
 abbrev pub names_unfolded : Bytes → Deps → Module → Sigs → Program → Key → FlowType
 names_unfolded path deps m table p = unfolded p.is_cyclic (alias_type path deps m table)
 

@@ -18,6 +18,7 @@ is_hex d = is_digit d 16
 abbrev pub character : ℕ → Option ℕ
 character code = if scalar code then Some code else None
 
+-- the character whose code the digits spell, if they are hexadecimal and there is one
 unfoldable pub hex_character : List ℕ → Option ℕ
 hex_character ds = if list_all is_hex ds then character (hex_value ds) else None
 
@@ -30,6 +31,7 @@ unfoldable pub braced_at : List ℕ → Option (ℕ × ℕ)
 braced_at cs = let n = prefix_len is_hex cs in
     if not (n == 0) && begins_with 125 (drop n cs) then with_len (n + 4) (hex_character (take n cs)) else None
 
+-- behind `\u`; the length has the `\u` in it
 unfoldable pub unicode_at : List ℕ → Option (ℕ × ℕ)
 unicode_at cs = if begins_with 123 cs then braced_at (drop 1 cs) else with_len 6 (fixed_at 4 cs)
 
@@ -44,6 +46,7 @@ escape_at [] = None
 escape_at (c ∷ cs) = if c == 120 then with_len 4 (fixed_at 2 cs)
     else if c == 117 then unicode_at cs else with_len 2 (simple_escape c cs)
 
+-- one character between two of `quote`, and how many are written for it
 unfoldable pub part_at : ℕ → List ℕ → Option (ℕ × ℕ)
 part_at quote [] = None
 part_at quote (c ∷ cs) = if c == 92 then escape_at cs

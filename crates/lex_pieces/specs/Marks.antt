@@ -29,6 +29,7 @@ mark_of_one a =
     if a == 33 then Some Bang else
     if a == 124 then Some Bar else None
 
+-- the mark that is these two
 abbrev pub mark_of_two : ℕ → ℕ → Option Punct
 mark_of_two a b =
     if (a == 63) && (b == 63) then Some QuestionQuestion else
@@ -42,6 +43,7 @@ mark_of_two a b =
     if (a == 38) && (b == 38) then Some AndAnd else
     if (a == 124) && (b == 124) then Some OrOr else None
 
+-- the mark that is these three
 abbrev pub mark_of_three : ℕ → ℕ → ℕ → Option Punct
 mark_of_three a b c =
     if (a == 46) && (b == 46) && (c == 46) then Some Ellipsis else

@@ -27,6 +27,7 @@ IsBlockComment text = (body : List ℕ) × (text ≡ codes "/*" ++ body ++ codes
 abbrev pub IsBlank : List ℕ → List ℕ → Type 0
 IsBlank text rest = ((c : ℕ) × (text ≡ c ∷ []) × IsTrue (is_blank_char c)) ⊎ (IsLineComment text rest ⊎ IsBlockComment text)
 
+-- a character that starts a word, and any that go on with it
 abbrev pub IsWord : List ℕ → Type 0
 IsWord text = (c : ℕ) × (cs : List ℕ) × (text ≡ c ∷ cs) × IsTrue (starts_word c) × IsTrue (list_all continues_word cs)
 

@@ -15,6 +15,7 @@ use Rattle.module_errors.specs.Program.{Program, world_of}
 use Rattle.module_errors.specs.TopNames.{bind_items, changes_of_items, exportings_of, exported_twice}
 use Rattle.module_errors.specs.Items.{read_items}
 
+-- before anything is read
 abbrev pub no_notes : Notes
 no_notes = record { faults = []; watched = None; stopped = false }
 
@@ -44,6 +45,7 @@ module_errors p m spans = faults_in_order (signature_faults m spans ++ (module_r
 abbrev pub broken_errors : Code → ℕ → List Fault
 broken_errors code place = record { span = record { start = place; end = place }; code = code; details = [] } ∷ []
 
+-- the type of what was seen, if anything was
 abbrev pub seen_type : Option Seen → Option FlowType
 seen_type None = None
 seen_type (Some seen) = Some seen.ty

@@ -22,9 +22,11 @@ abbrev pub specifier_found : World → ℕ → Bytes → Option Bytes → Notes 
 specifier_found w token spec None notes = name_fault (fault_at w token (suc token) CannotResolveModule (quoted spec)) notes
 specifier_found w token spec (Some path) notes = notes
 
+-- a specifier at a token, by the dependency list
 abbrev pub specifier_read : World → Program → ℕ → Bytes → Notes → Notes
 specifier_read w p token spec notes = specifier_found w token spec (found p.deps spec) notes
 
+-- a name at a token is a fault, if anything is wrong with it
 abbrev pub wrong_at : World → ℕ → Bytes → Option Code → Notes → Notes
 wrong_at w token name None notes = notes
 wrong_at w token name (Some code) notes = name_fault (fault_at w token (suc token) code name) notes
@@ -33,14 +35,17 @@ wrong_at w token name (Some code) notes = name_fault (fault_at w token (suc toke
 abbrev pub imported_read : World → Program → Bool → Bytes → ℕ → Bytes → Notes → Notes
 imported_read w p is_type spec token name notes = wrong_at w token name (wrong_import is_type (said p spec name)) notes
 
+-- the imported names of a list, each at its first word
 abbrev pub importeds_read : World → Program → Bool → Bytes → Importeds → Notes → Notes
 importeds_read w p is_type spec no_imported notes = notes
 importeds_read w p is_type spec (more_imported ns (imported f t outer name)) notes =
     imported_read w p is_type spec f (unwrap_or outer name) (importeds_read w p is_type spec ns notes)
 
+-- and so for a whole list in braces
 abbrev pub list_read : World → Program → Bool → Bytes → ImportList → Notes → Notes
 list_read w p is_type spec (import_list f t ns comma) notes = importeds_read w p is_type spec ns notes
 
+-- the names of an import that begins at a token
 abbrev pub import_read : World → Program → ℕ → Bytes → ImportForm → Notes → Notes
 import_read w p f spec (import_default name) notes = imported_read w p false spec (suc f) default_name notes
 import_read w p f spec (import_both name ns) notes =
@@ -61,24 +66,29 @@ wrong_export true (Some (bound_alias t)) = None
 wrong_export true (Some (bound_import spec outer true)) = None
 wrong_export true (Some other) = Some ValueAsType
 
+-- the names of a list that the module exports of its own, each at its first word
 abbrev pub exporteds_read : World → home.Scope → Bool → Exporteds → Notes → Notes
 exporteds_read w top is_type no_exported notes = notes
 exporteds_read w top is_type (more_exported ns (exported f t name renamed)) notes =
     wrong_at w f name (wrong_export is_type (row_at top name)) (exporteds_read w top is_type ns notes)
 
+-- and so for a whole list in braces
 abbrev pub exports_read : World → home.Scope → Bool → ExportList → Notes → Notes
 exports_read w top is_type (export_list f t ns comma) notes = exporteds_read w top is_type ns notes
 
+-- the names of a list that the module exports of another one, each at its first word
 abbrev pub handed_on : World → Program → Bool → Bytes → Exporteds → Notes → Notes
 handed_on w p is_type spec no_exported notes = notes
 handed_on w p is_type spec (more_exported ns (exported f t name renamed)) notes =
     imported_read w p is_type spec f name (handed_on w p is_type spec ns notes)
 
+-- and so for a whole list in braces
 abbrev pub list_handed_on : World → Program → Bool → Bytes → ExportList → Notes → Notes
 list_handed_on w p is_type spec (export_list f t ns comma) notes = handed_on w p is_type spec ns notes
 
 -- ---- aliases
 
+-- the binding is the one that stands at this token
 abbrev pub is_bound_at : ℕ → Option Binding → Bool
 is_bound_at token None = false
 is_bound_at token (Some b) = b.number == number_at token
@@ -93,9 +103,11 @@ alias_read w p scope (alias f t name v) notes =
 
 -- ---- items
 
+-- a function of the top level
 abbrev pub read_top_function : World → Function → Env → Env
 read_top_function w f env = with_now (read_function w false f env.scope (now_of env)).now env
 
+-- an item that changes notes alone
 abbrev pub noted_env : (Notes → Notes) → Env → Env
 noted_env change env = record env { notes = change env.notes }
 
@@ -110,6 +122,7 @@ read_export w p m t (export_from is_type ns spec) env =
 read_export w p m t (export_default_function f) env = read_top_function w f env
 read_export w p m t (export_default e) env = with_now (after (read w e env.scope None (now_of env))) env
 
+-- an item from one token to another
 abbrev pub read_item_form : World → Program → Module → ℕ → ℕ → ItemForm → Env → Env
 read_item_form w p m f t (imports form spec) env =
     noted_env (λ notes. import_read w p f spec form (specifier_read w p (t - 2) spec notes)) env
@@ -122,6 +135,7 @@ read_item_form w p m f t (does_item (simple sf st form)) env = read_simple w f t
 abbrev pub read_item : World → Program → Module → Item → Env → Env
 read_item w p m (item f t form) env = read_item_form w p m f t form env
 
+-- the items of a module, in order
 abbrev pub read_items : World → Program → Module → Items → Env → Env
 read_items w p m no_item env = env
 read_items w p m (more_item is i) env = read_item w p m i (read_items w p m is env)

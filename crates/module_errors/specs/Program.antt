@@ -35,14 +35,17 @@ pub data Saying : Type 0 where
   lacks_it : Saying
   says_it : Export → Saying
 
+-- by the name's row in a signature, if it has one
 abbrev pub said_by_rows : Option Export → Saying
 said_by_rows None = lacks_it
 said_by_rows (Some export) = says_it export
 
+-- by the merged signature of a module, if there is one
 abbrev pub said_by_sig : Bytes → Option Sig → Saying
 said_by_sig name None = says_nothing
 said_by_sig name (Some s) = if s.broken then says_nothing else said_by_rows (row_at s.exports name)
 
+-- by the module that was found, if one was
 abbrev pub said_by : (Bytes → Option Sig) → Bytes → Option Bytes → Saying
 said_by sigs name None = says_nothing
 said_by sigs name (Some path) = said_by_sig name (sigs path)
@@ -51,6 +54,7 @@ said_by sigs name (Some path) = said_by_sig name (sigs path)
 abbrev pub said_in : Deps → (Bytes → Option Sig) → Bytes → Bytes → Saying
 said_in deps sigs spec name = said_by sigs name (found deps spec)
 
+-- the same, in a program
 abbrev pub said : Program → Bytes → Bytes → Saying
 said p spec name = said_in p.deps p.sigs spec name
 
@@ -81,6 +85,7 @@ type_bound path deps sigs name (Some (bound_alias t)) = a_type (made.Ref path na
 type_bound path deps sigs name (Some (bound_import spec outer true)) = a_type (type_said (said_in deps sigs spec outer))
 type_bound path deps sigs name (Some other) = no_type_of ValueAsType
 
+-- what stands around a module's code in a program
 abbrev pub world_of : Program → Module → List Span → Option ℕ → World
 world_of p m spans watch = record {
   members = p.members;

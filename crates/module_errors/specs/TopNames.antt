@@ -15,6 +15,7 @@ use Rattle.module_errors.specs.Program.{Program, said, value_said}
 
 -- ---- what is bound
 
+-- a name of the top level whose type is known from the start
 abbrev pub top_binding : Bytes → ℕ → Kind → FlowType → Binding
 top_binding name token kind t = record { name = name; number = number_at token; kind = kind; depth = 0; is_read = true; declared = Some t }
 
@@ -23,14 +24,17 @@ abbrev pub import_binding : Program → Bool → Bytes → Bytes → Bytes → �
 import_binding p true spec outer name token = top_binding name token type_name made.Any
 import_binding p false spec outer name token = top_binding name token constant (value_said (said p spec outer))
 
+-- the imported names of a list, each at its last word
 abbrev pub bind_importeds : World → Program → Bool → Bytes → Importeds → Bound → Bound
 bind_importeds w p is_type spec no_imported so_far = so_far
 bind_importeds w p is_type spec (more_imported ns (imported f t outer name)) so_far =
     bind w (t - 1) (import_binding p is_type spec (unwrap_or outer name) name (t - 1)) (bind_importeds w p is_type spec ns so_far)
 
+-- and so for a whole list in braces
 abbrev pub bind_list : World → Program → Bool → Bytes → ImportList → Bound → Bound
 bind_list w p is_type spec (import_list f t ns comma) so_far = bind_importeds w p is_type spec ns so_far
 
+-- the name under which a default export is imported, at its token
 abbrev pub bind_default : World → Program → Bytes → ℕ → Bytes → Bound → Bound
 bind_default w p spec token name so_far = bind w token (import_binding p false spec default_name name token) so_far
 
@@ -42,9 +46,11 @@ bind_import w p f spec (import_names ns) so_far = bind_list w p false spec ns so
 bind_import w p f spec (import_types ns) so_far = bind_list w p true spec ns so_far
 bind_import w p f spec import_only so_far = so_far
 
+-- an alias is a type
 abbrev pub bind_alias : World → AliasOf → Bound → Bound
 bind_alias w (alias f t name v) so_far = bind w (suc f) (top_binding name (suc f) type_name made.Any) so_far
 
+-- what an export binds
 abbrev pub bind_export : World → List Change → ExportForm → Bound → Bound
 bind_export w changes (export_declaration d) so_far = bind_declaration w 0 changes d so_far
 bind_export w changes (export_function f) so_far = bind_function w 0 f so_far
@@ -52,6 +58,7 @@ bind_export w changes (export_alias a) so_far = bind_alias w a so_far
 bind_export w changes (export_default_function f) so_far = bind_function w 0 f so_far
 bind_export w changes form so_far = so_far
 
+-- what an item binds that begins at a token
 abbrev pub bind_item : World → Program → List Change → ℕ → ItemForm → Bound → Bound
 bind_item w p changes f (imports form spec) so_far = bind_import w p f spec form so_far
 bind_item w p changes f (exports form) so_far = bind_export w changes form so_far
@@ -60,10 +67,12 @@ bind_item w p changes f (function_item made_by) so_far = bind_function w 0 made_
 bind_item w p changes f (alias_item a) so_far = bind_alias w a so_far
 bind_item w p changes f (does_item s) so_far = so_far
 
+-- the items of a module, in order
 abbrev pub bind_items : World → Program → List Change → Items → Bound → Bound
 bind_items w p changes no_item so_far = so_far
 bind_items w p changes (more_item is (item f t form)) so_far = bind_item w p changes f form (bind_items w p changes is so_far)
 
+-- what each part of a module may change
 abbrev pub changes_of_export : ExportForm → List Change
 changes_of_export (export_declaration d) = changes_of_declaration d
 changes_of_export (export_function f) = changes_of_function f
@@ -88,6 +97,7 @@ changes_of_items (more_item is (item f t form)) = changes_of_items is ++ changes
 abbrev pub Exporting : Type 0
 Exporting = ℕ × Bytes
 
+-- the names of a list, each at its last word
 abbrev pub exportings_in : Exporteds → List Exporting
 exportings_in no_exported = []
 exportings_in (more_exported ns (exported f t name renamed)) = exportings_in ns ++ (t - 1, unwrap_or renamed name) ∷ []
@@ -95,6 +105,7 @@ exportings_in (more_exported ns (exported f t name renamed)) = exportings_in ns 
 abbrev pub exportings_of_list : ExportList → List Exporting
 exportings_of_list (export_list f t ns comma) = exportings_in ns
 
+-- what is declared is exported at its name
 abbrev pub exporting_of_declaration : Declaration → Exporting
 exporting_of_declaration (declaration f t binder name annotation e) = (suc f, name)
 
@@ -118,6 +129,7 @@ abbrev pub exportings_of_item : ℕ → ItemForm → List Exporting
 exportings_of_item f (exports form) = exportings f form
 exportings_of_item f form = []
 
+-- the exported names of a module's items, in order
 abbrev pub exportings_of : Items → List Exporting
 exportings_of no_item = []
 exportings_of (more_item is (item f t form)) = exportings_of is ++ exportings_of_item f form

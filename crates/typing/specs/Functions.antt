@@ -78,7 +78,7 @@ bind w token b so_far =
 abbrev pub changing_kind : List Change → Bytes → Kind
 changing_kind changes name = if is_set_inside changes name then shared else changing
 
--- what a `const` or a `let` is
+-- a `const` is constant, and a `let` may change
 abbrev pub kind_by : List Change → Binder → Bytes → Kind
 kind_by changes const name = constant
 kind_by changes let_word name = changing_kind changes name

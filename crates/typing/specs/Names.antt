@@ -53,7 +53,7 @@ prelude_name name number t = record { name = name; number = number; kind = const
 abbrev pub undefined_number : ℕ
 undefined_number = 0
 
--- the names that are known without a binding of the module's
+-- the names that every module knows
 abbrev pub prelude : List Binding
 prelude =
     prelude_name (codes "undefined") undefined_number made.Void ∷ prelude_name (codes "console") 1 made.Any

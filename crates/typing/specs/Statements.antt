@@ -180,7 +180,7 @@ merged arms last = record last { facts = joined arms last.facts }
 
 -- ---- `while`
 
--- what changes in a loop drop of the facts before it
+-- what a loop with these changes may change of the facts
 abbrev pub killed_by : Scope → List Change → Killed
 killed_by scope changes = record {
   bindings = numbers_of scope (filter_map variable_set changes);

@@ -182,7 +182,7 @@ noted_out w f t o = record o { notes = noted w f t o.ty o.notes }
 abbrev pub stop : World → ℕ → ℕ → Env → Env
 stop w f t env = record env { notes = record (add_fault (fault_at w f t UnreachableCode []) env.notes) { stopped = true } }
 
--- where facts are dead
+-- and so where facts are dead
 abbrev pub stop_if_dead : World → ℕ → ℕ → Known → Env → Env
 stop_if_dead w f t None env = stop w f t env
 stop_if_dead w f t (Some facts) env = env
@@ -191,7 +191,7 @@ stop_if_dead w f t (Some facts) env = env
 abbrev pub reach : World → ℕ → ℕ → Env → Env
 reach w f t env = if env.notes.stopped then env else stop_if_dead w f t env.facts env
 
--- after it nothing is reached
+-- behind it nothing is reached
 abbrev pub dead : Env → Env
 dead env = record env { facts = None }
 

@@ -29,7 +29,7 @@ abbrev pub meaning_fault : World → ℕ → ℕ → Bytes → TypeMeaning → N
 meaning_fault w f t name (a_type meant) notes = notes
 meaning_fault w f t name (no_type_of code) notes = name_fault (fault_at w f t code name) notes
 
--- a type's own name is none
+-- a name at these tokens, be it a type's own or one of the module's
 abbrev pub name_read : World → ℕ → ℕ → Bytes → Notes → Notes
 name_read w f t name notes =
     if is_some (row_at named_types name) then notes else meaning_fault w f t name (w.type_meaning name) notes
