@@ -8,7 +8,7 @@ use Rattle.code_tree.specs.Flat.{prefixes_view, level_view, operator_view, binde
 use Rattle.code_tree.specs.Layer.{Layer}
 use Rattle.code_tree.specs.declared.types.ArrowBody.TheOpen.{ArrowBody-F, Body-F, Else-F, ExprForm-F, FieldForm-F, LinkForm-F, OperandForm-F, SimpleForm-F, StatementForm-F, Arm-F, ArrowExpr-F, Assignment-F, Block-F, Branch-F, ChainExpr-F, ConditionalExpr-F, Declaration-F, Expr-F, Field-F, Function-F, IfStatement-F, Link-F, Operand-F, PostfixExpr-F, Simple-F, Statement-F, WhileStatement-F}
 
--- the lists of a tree, from a list in order
+-- expressions in order, behind those before
 abbrev pub exs_from : Exs → List g.Ex → Exs
 exs_from acc [] = acc
 exs_from acc (e ∷ es) = exs_from (more_ex acc e) es

@@ -21,5 +21,5 @@ pub record AreWaves (edges components waves : List (List ℕ)) : Type 0 where
   pub once : (w v k : ℕ) → StandsIn waves w k → StandsIn waves v k → w ≡ v
   -- a component's wave comes behind those of the components on which it depends
   pub later : (k j w v : ℕ) → DependsOn edges components k j → StandsIn waves w k → StandsIn waves v j → v < w
-  -- in a later wave it depends on a component of the wave before
+  -- a component of a later wave depends on one of the wave just before
   pub tight : (k w : ℕ) → StandsIn waves (w + 1) k → (j : ℕ) × DependsOn edges components k j × StandsIn waves w j

@@ -94,7 +94,7 @@ mutual
     no_link : Links
     more_link : Links → Link → Links
 
-  -- an operator and what stands behind it, with its place
+  -- a further part of a chain, with its place
   pub data Operand : Type 0 where
     operand : ℕ → ℕ → OperandForm → Operand
 
@@ -174,7 +174,7 @@ mutual
   pub data Declaration : Type 0 where
     declaration : ℕ → ℕ → Binder → Bytes → Option Ty → Ex → Declaration
 
-  -- a statement that holds no other one, without its semicolon
+  -- a simple statement without its semicolon: where it begins and ends, and its form
   pub data Simple : Type 0 where
     simple : ℕ → ℕ → SimpleForm → Simple
 

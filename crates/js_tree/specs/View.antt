@@ -25,7 +25,7 @@ imported_view n = g.imported n.first n.end n.renamed n.name
 abbrev pub exported_view : Exported → g.Exported
 exported_view n = g.exported n.first n.end n.name n.renamed
 
--- the lists of a tree, from a list in order
+-- imported names in order, behind those before
 abbrev pub importeds_from : Importeds → List g.Imported → Importeds
 importeds_from acc [] = acc
 importeds_from acc (n ∷ ns) = importeds_from (more_imported acc n) ns

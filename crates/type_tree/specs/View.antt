@@ -36,12 +36,12 @@ key_form_view (key.Str s) = g.text_key s
 abbrev pub key_view : Key → g.Key
 key_view k = g.key k.first k.end (key_form_view k.form)
 
--- the lists of a tree, from a list in order
+-- places in order, behind those before
 abbrev pub places_from : Places → List ℕ → Places
 places_from acc [] = acc
 places_from acc (p ∷ ps) = places_from (more_place acc p) ps
 
--- the lists of a tree, behind those before
+-- members of a union in order, behind those before
 abbrev pub pres_from : Pres → List Pre → Pres
 pres_from acc [] = acc
 pres_from acc (p ∷ ps) = pres_from (more_pre acc p) ps

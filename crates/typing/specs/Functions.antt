@@ -117,7 +117,7 @@ declaration_binding w depth changes (declaration f t binder name annotation e) =
       declared = annotated w annotation;
     }
 
--- a function may be used before its declaration
+-- a function, which may be used before its declaration
 abbrev pub function_binding : World → ℕ → ℕ → Bytes → Sig → Binding
 function_binding w depth token name s =
     record { name = name; number = number_at token; kind = constant; depth = depth; is_read = true; declared = Some (declared_function w s) }

@@ -133,7 +133,7 @@ abbrev pub tuple_element : World → List FlowType → FlowType → Level → Op
 tuple_element w all i (NumLit spelling) = elim (element_at spelling 0 all) [ None ↦ numeric_element w all i | Some t ↦ Some t ]
 tuple_element w all i level = numeric_element w all i
 
--- an element, if the index finds one
+-- the element, or a fault at the index where there is none
 abbrev pub or_invalid_index : World → Part → Option FlowType → Step
 or_invalid_index w part None = at_part w part InvalidIndex
 or_invalid_index w part (Some t) = gives t

@@ -191,7 +191,7 @@ stop_if_dead w f t (Some facts) env = env
 abbrev pub reach : World → ℕ → ℕ → Env → Env
 reach w f t env = if env.notes.stopped then env else stop_if_dead w f t env.facts env
 
--- behind it nothing is reached
+-- behind this statement nothing is reached
 abbrev pub dead : Env → Env
 dead env = record env { facts = None }
 

@@ -122,7 +122,7 @@ abbrev mutual
       let place = step_place from (more_link ls (link at t form)) in
       noted_out w f t (read_link w f at t form place scope (read_links w f ls from scope base))
 
-  -- a link at the last two tokens, behind an expression that begins at the first
+  -- a link from the second token to the third, behind an expression that begins at the first
   pub read_link : World → ℕ → ℕ → ℕ → LinkForm → Option Place → Scope → Out → Out
   read_link w f at t (member key) place scope o = property_out w f at t key place o
   read_link w f at t (index e) place scope o = index_out w f at t o (read w e scope None (after o))
