@@ -53,7 +53,7 @@ push_map : {A B : Type 0} (f : A → B) (xs : List A) (x : A) → map f (xs ++ x
 push_map f [] x = refl
 push_map f (y ∷ xs) x = ap (λ l. f y ∷ l) (push_map f xs x)
 
-take_push : {A : Type 0} (xs : List A) (i : ℕ) (x : A) → i < length xs → x ≡ get_or xs i x → take (i + 1) xs ≡ take i xs ++ x ∷ []
+pub take_push : {A : Type 0} (xs : List A) (i : ℕ) (x : A) → i < length xs → x ≡ get_or xs i x → take (i + 1) xs ≡ take i xs ++ x ∷ []
 take_push {A = A} xs i x h e = ap (λ n. take n xs) (up i) ∙ go xs i x h e
   where
     up : (i : ℕ) → i + 1 ≡ suc i

@@ -4,6 +4,7 @@ ghost use Rattle.subtyping.specs.Closed.{IsBelow};
 ghost use Rattle.subtype_rules.specs.Answer.{below};
 
 use crate::collecting::collect;
+use crate::covering::is_covered;
 use crate::deleting::{is_alive, survivors};
 use crate::rows::is_free;
 use alias_table::AliasTable;
@@ -19,6 +20,10 @@ fn decide(alloc: Global, table: &AliasTable, a: &FlowType, b: &FlowType) -> Resu
         return Ok(true);
     }
     if a.equals(b) {
+        return Ok(true);
+    }
+    let covered = is_covered(alloc, a, b)?;
+    if covered {
         return Ok(true);
     }
     let all = collect(alloc, table, a, b)?;

@@ -6,7 +6,8 @@ ghost use Rattle.subtyping.specs.Collected.{Grows, StandFor, IsHopeless, IsAdded
 ghost use Rattle.alias_table.specs.Aliases.{Key};
 ghost use Rattle.type_values.specs.declared.types.FlowType.{FlowType};
 
-use crate::rows::{Pair, has_no_ways, pair, ways};
+use crate::losing::is_lost;
+use crate::rows::{Pair, pair, ways};
 use alias_table::AliasTable;
 use flow_values::{List, NoMemory};
 use std::alloc::Global;
@@ -19,13 +20,13 @@ fn is_same(p: &Pair, q: &Pair) -> bool
     p.0.equals(&q.0) && p.1.equals(&q.1)
 }
 
-// Whether a pair of a way is one that no row justifies.
+// Whether a pair of a way is lost.
 fn is_hopeless(way: &[Pair]) -> bool
     ensures { result ≡ true → (named : Key → FlowType) → IsHopeless named way.now }
 {
     for i in 0..way.len() {
         let p = &way[i];
-        if has_no_ways(&p.0, &p.1) {
+        if is_lost(&p.0, &p.1) {
             return true;
         }
     }

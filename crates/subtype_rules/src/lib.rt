@@ -3,9 +3,14 @@
 
 mod below;
 mod collecting;
+mod covering;
 mod deleting;
 mod laws;
+mod losing;
 mod rows;
 
 pub use below::is_subtype;
 pub use laws::below_is_the_relation;
+
+#[cfg(test)]
+mod tests;

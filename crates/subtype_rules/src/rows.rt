@@ -1,5 +1,5 @@
 //! The rows of the table, each as the ways in which it justifies a pair.
-ghost use Rattle.std.specs.Prelude.{◌≡◌, ◌++◌, ◌∷◌, [], map, OnOk, IfOk};
+ghost use Rattle.std.specs.Prelude.{◌≡◌, ◌++◌, ◌∷◌, [], map, true, OnOk, IfOk};
 ghost use Rattle.std.specs.Option.{option_copied, is_some};
 ghost use Rattle.alias_table.specs.Aliases.{is_text};
 ghost use Rattle.alias_table.specs.Table.{unfolded};
@@ -8,7 +8,11 @@ ghost use Rattle.type_values.specs.declared.types.FlowType.{FlowType};
 ghost use Rattle.type_values.specs.declared.types.FlowType.{out-FlowType};
 ghost use Rattle.subtyping.specs.Rows.{Pair, is_low, is_high, is_str, is_num, is_truth, is_plain, is_free, does_open, is_leaf, has_no_ways, may_read, may_write, fits, needs, prop_at, fits_at, needs_at, all_fit, all_needs, no_others, objects_fit, both_ways, taken, param_needs, one_way, left_ways, right_ways, part_ways, ways};
 ghost use Rattle.type_terms.specs.Optional.{eff};
+ghost use Rattle.alias_table.specs.Aliases.{Key};
+ghost use Rattle.subtyping.specs.Collected.{IsHopeless, KeepsWays};
+ghost use Rattle.subtype_rules.specs.Kept.{above, IsTried};
 
+use crate::losing::is_lost;
 use alias_table::AliasTable;
 use flow_values::{List, NoMemory, Path, Text};
 use std::alloc::Global;
@@ -186,7 +190,7 @@ fn add_needs(
 }
 
 #[tactic(auto, using(crate::proofs::Walks::at_stops, crate::proofs::Walks::at_goes, crate::proofs::Walks::at_ends))]
-fn prop_at<'a>(props: &'a [FlowProp], key: &Text) -> Option<&'a FlowProp>
+pub(crate) fn prop_at<'a>(props: &'a [FlowProp], key: &Text) -> Option<&'a FlowProp>
     ensures { option_copied result ≡ prop_at props.now key.now }
 {
     for i in 0..props.len() {
@@ -352,18 +356,53 @@ fn each_below(alloc: Global, all: &[FlowType], b: &FlowType) -> Result<List<Pair
     Ok(way)
 }
 
-fn below_some(
+// Puts the way by one member behind the others, where the pair isn't lost.
+fn try_member(
     alloc: Global,
     a: &FlowType,
-    all: &[FlowType],
+    y: &FlowType,
     ways: &mut List<List<Pair>>,
 ) -> Result<(), NoMemory>
-    ensures { OnOk result (ways.new ≡ ways.old ++ map (λ y. (a.now, y) ∷ []) all.now) }
+    ensures { OnOk result (IsTried a.now y.now ways.old ways.new) }
+{
+    if is_lost(a, y) {
+        return Ok(());
+    }
+    ways.push(single(alloc, a, y)?)
+}
+
+// The ways by a member of a union on the right, but for hopeless ones.
+fn above_some(alloc: Global, a: &FlowType, all: &[FlowType]) -> Result<List<List<Pair>>, NoMemory>
+    ensures { IfOk result (λ some. (named : Key → FlowType) → KeepsWays named some (above a.now all.now)) }
+{
+    let mut ways = List::new(alloc);
+    for i in 0..all.len() {
+        try_member(alloc, a, &all[i], &mut ways)?;
+    }
+    Ok(ways)
+}
+
+// Whether a member of a union on the left is lost.
+fn has_lost(all: &[FlowType], b: &FlowType) -> bool
+    ensures { result ≡ true → (named : Key → FlowType) → IsHopeless named (map (λ x. (x, b.now)) all.now) }
 {
     for i in 0..all.len() {
-        ways.push(single(alloc, a, &all[i])?)?;
+        let x = &all[i];
+        if is_lost(x, b) {
+            return true;
+        }
     }
-    Ok(())
+    false
+}
+
+// The one way of a union on the left, unless it is hopeless.
+fn all_below(alloc: Global, all: &[FlowType], b: &FlowType) -> Result<List<List<Pair>>, NoMemory>
+    ensures { IfOk result (λ some. (named : Key → FlowType) → KeepsWays named some (map (λ x. (x, b.now)) all.now ∷ [])) }
+{
+    if has_lost(all, b) {
+        return Ok(List::new(alloc));
+    }
+    one(alloc, each_below(alloc, all, b)?)
 }
 
 fn left_ways(
@@ -372,34 +411,39 @@ fn left_ways(
     a: &FlowType,
     b: &FlowType,
 ) -> Result<List<List<Pair>>, NoMemory>
-    ensures { IfOk result (λ all. all ≡ left_ways (unfolded table.now) (out-FlowType a.now) b.now) }
+    ensures { IfOk result (λ some. KeepsWays (unfolded table.now) some (left_ways (unfolded table.now) (out-FlowType a.now) b.now)) }
 {
     match a {
         FlowType::Ref { module, name } => {
-            let inner = table.unfold(module, name.as_bytes())?;
-            one(alloc, single(alloc, &inner, b)?)
+            let inner = table.unfolding(module, name.as_bytes());
+            one(alloc, single(alloc, inner, b)?)
         }
-        FlowType::Union(all) => one(alloc, each_below(alloc, all.as_slice(), b)?),
+        FlowType::Union(all) => {
+            let some = all_below(alloc, all.as_slice(), b)?;
+            Ok(some)
+        }
         _ => Ok(List::new(alloc)),
     }
 }
 
-fn add_right_ways(
+fn right_ways(
     alloc: Global,
     table: &AliasTable,
     a: &FlowType,
     b: &FlowType,
-    ways: &mut List<List<Pair>>,
-) -> Result<(), NoMemory>
-    ensures { OnOk result (ways.new ≡ ways.old ++ right_ways (unfolded table.now) a.now (out-FlowType b.now)) }
+) -> Result<List<List<Pair>>, NoMemory>
+    ensures { IfOk result (λ some. KeepsWays (unfolded table.now) some (right_ways (unfolded table.now) a.now (out-FlowType b.now))) }
 {
     match b {
         FlowType::Ref { module, name } => {
-            let inner = table.unfold(module, name.as_bytes())?;
-            ways.push(single(alloc, a, &inner)?)
+            let inner = table.unfolding(module, name.as_bytes());
+            one(alloc, single(alloc, a, inner)?)
         }
-        FlowType::Union(all) => below_some(alloc, a, all.as_slice(), ways),
-        _ => Ok(()),
+        FlowType::Union(all) => {
+            let some = above_some(alloc, a, all.as_slice())?;
+            Ok(some)
+        }
+        _ => Ok(List::new(alloc)),
     }
 }
 
@@ -518,20 +562,33 @@ fn add_part_ways(
     }
 }
 
-/// The ways to justify that a is below b.
+// The ways of the rows that need something, but for hopeless ones.
+fn needing_ways(
+    alloc: Global,
+    table: &AliasTable,
+    a: &FlowType,
+    b: &FlowType,
+) -> Result<List<List<Pair>>, NoMemory>
+    ensures { IfOk result (λ some. KeepsWays (unfolded table.now) some (left_ways (unfolded table.now) (out-FlowType a.now) b.now ++ (right_ways (unfolded table.now) a.now (out-FlowType b.now) ++ part_ways (out-FlowType a.now) (out-FlowType b.now)))) }
+{
+    let mut all = left_ways(alloc, table, a, b)?;
+    all.append(right_ways(alloc, table, a, b)?)?;
+    add_part_ways(alloc, a, b, &mut all)?;
+    Ok(all)
+}
+
+/// The ways to justify that a is below b, but for hopeless ones.
 pub(crate) fn ways(
     alloc: Global,
     table: &AliasTable,
     a: &FlowType,
     b: &FlowType,
 ) -> Result<List<List<Pair>>, NoMemory>
-    ensures { IfOk result (λ all. all ≡ ways (unfolded table.now) (a.now, b.now)) }
+    ensures { IfOk result (λ some. KeepsWays (unfolded table.now) some (ways (unfolded table.now) (a.now, b.now))) }
 {
     if is_free(a, b) {
         return one(alloc, List::new(alloc));
     }
-    let mut all = left_ways(alloc, table, a, b)?;
-    add_right_ways(alloc, table, a, b, &mut all)?;
-    add_part_ways(alloc, a, b, &mut all)?;
+    let all = needing_ways(alloc, table, a, b)?;
     Ok(all)
 }

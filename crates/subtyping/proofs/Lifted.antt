@@ -6,7 +6,7 @@ use Rattle.alias_table.specs.Aliases.{Key}
 use Rattle.subtyping.specs.Rows.{Pair, Level, ways, is_free, does_open, is_leaf, has_no_ways, left_ways, right_ways, part_ways}
 use Rattle.subtyping.specs.Closed.{IsClosed, IsBelow, HasAll}
 use Rattle.subtyping.specs.Numbered.{at, every, some, ways_of, Refuted, refutes, AreRefuted, IsKept}
-use Rattle.subtyping.specs.Collected.{StandFor, IsHopeless, IsRow, AreRows}
+use Rattle.subtyping.specs.Collected.{StandFor, IsLost, IsHopeless, IsRow, AreRows}
 
 -- the pairs that are alive
 abbrev living_pairs : List Bool → List Pair → List Pair
@@ -101,7 +101,9 @@ number_of pairs (n ∷ ks) (p ∷ ps) e (suc i) k h is =
 not_hopeless : (named : Key → FlowType) (set way : List Pair) → IsClosed named set → HasAll set way → IsHopeless named way → ⊥
 not_hopeless named set way closed has off =
     let why = closed off.0 (has off.0 off.1) in
-    let none : length (ways named off.0) ≡ 0 = ap length off.2 in absurd (omega (arith, why.1.1, none))
+    let q = off.2 why.0 why.1 in
+    let again = closed q.0 (why.2 q.0 q.1) in
+    let none : length (ways named q.0) ≡ 0 = ap length q.2 in absurd (omega (arith, again.1.1, none))
 
 -- no closed set has a refuted pair
 not_refuted : (named : Key → FlowType) (pairs : List Pair) (rows : List (List (List ℕ))) (set : List Pair) → length rows ≡ length pairs → AreRows named pairs rows → IsClosed named set →
@@ -162,8 +164,14 @@ no_ways named p h =
     ∙ ap (λ l. l ++ part_ways x y) (right_none named p.0 y (not_on (does_open y) b))
     ∙ part_none x y c
 
+pub lost_none : (named : Key → FlowType) (p : Pair) → ways named p ≡ [] → IsLost named p
+lost_none named p none way c = absurd (let short : length (ways named p) ≡ 0 = ap length none in omega (arith, c.1, short))
+
+pub lost_by_looks : (p : Pair) → has_no_ways (out-FlowType p.0) (out-FlowType p.1) ≡ true → (named : Key → FlowType) → IsLost named p
+lost_by_looks p off named = lost_none named p (no_ways named p off)
+
 in_way : (way : List Pair) (i : ℕ) (p : Pair) → i < length way → p ≡ get_or way i p → Contains way p
 in_way way i p h e = (i, h, sym e)
 
-pub hopeless : (way : List Pair) (i : ℕ) (p : Pair) → i < length way → p ≡ get_or way i p → has_no_ways (out-FlowType p.0) (out-FlowType p.1) ≡ true → (named : Key → FlowType) → IsHopeless named way
-hopeless way i p h e off named = (p, in_way way i p h e, no_ways named p off)
+pub hopeless : (way : List Pair) (i : ℕ) (p : Pair) → i < length way → p ≡ get_or way i p → ((named : Key → FlowType) → IsLost named p) → (named : Key → FlowType) → IsHopeless named way
+hopeless way i p h e lost named = (p, in_way way i p h e, lost named)

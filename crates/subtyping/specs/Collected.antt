@@ -13,9 +13,17 @@ Grows old new = (more : List Pair) × (new ≡ old ++ more)
 abbrev pub StandFor : List Pair → List ℕ → List Pair → Type 0
 StandFor pairs ks ps = map (slice_get pairs) ks ≡ map Some ps
 
--- no row justifies a pair of this way
+-- each row that would justify the pair needs one that no row justifies
+abbrev pub IsLost : (Key → FlowType) → Pair → Type 0
+IsLost named p = (way : List Pair) → Contains (ways named p) way → (q : Pair) × Contains way q × (ways named q ≡ [])
+
+-- a pair of this way is lost
 abbrev pub IsHopeless : (Key → FlowType) → List Pair → Type 0
-IsHopeless named way = (p : Pair) × Contains way p × (ways named p ≡ [])
+IsHopeless named way = (p : Pair) × Contains way p × IsLost named p
+
+-- some of these ways, and none that isn't hopeless is left out
+abbrev pub KeepsWays : (Key → FlowType) → List (List Pair) → List (List Pair) → Type 0
+KeepsWays named some all = ((way : List Pair) → Contains some way → Contains all way) × ((way : List Pair) → Contains all way → Contains some way ⊎ IsHopeless named way)
 
 -- a way stands in a row of numbers
 abbrev pub HasWay : List Pair → List (List ℕ) → List Pair → Type 0

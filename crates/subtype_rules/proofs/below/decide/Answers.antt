@@ -13,6 +13,9 @@ returns-then-is_free c = (λ yes. free_below (unfolded c.args.table.now) c.args.
 pub returns-then-equals : goal.returns-then-equals
 returns-then-equals c = (λ yes. subst (λ b. IsBelow (unfolded c.args.table.now) c.args.a.now b) (c.equals.ensures.0 c.if-equals.true) (table_itself c.args.table.now c.args.a.now), λ below. refl)
 
+pub returns-then-covered : goal.returns-then-covered
+returns-then-covered c = (λ yes. c.in_ok-covered.ensures c.if-covered.true (unfolded c.args.table.now) (table_itself c.args.table.now), λ below. refl)
+
 kept : (c : goal.After-drop-all-3) → IsKept c.in_ok-all.all.rows c.in_ok-alive.alive.items
 kept c = subst (λ rows. IsKept rows c.in_ok-alive.alive.items) c.as_slice.ensures c.in_ok-alive.ensures.kept
 

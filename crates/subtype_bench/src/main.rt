@@ -1,0 +1,180 @@
+//! Asks of one pair of types, of the shape and size that each line of its input gives as
+//! size * 10 + shape, whether it is a subtype. Run it under `time` with one line.
+#![tactic(auto)]
+
+use alias_table::AliasTable;
+use flow_values::{List, NoMemory, Path, Shared, Text};
+use std::alloc::Global;
+use std::io;
+use subtype_rules::is_subtype;
+use type_values::{FlowProp, FlowType, Variance};
+
+type Rows = Vec<(Path, Text, FlowType)>;
+
+fn module(alloc: Global) -> Result<Path, NoMemory> {
+    match Path::read(alloc, b"a.js") {
+        Ok(path) => Ok(path),
+        Err(_) => Err(NoMemory),
+    }
+}
+
+fn name(alloc: Global, word: &str, i: u64) -> Result<Text, NoMemory> {
+    let text = format!(in alloc; "{word}{i}")?;
+    Text::from_bytes(alloc, text.as_bytes())
+}
+
+fn named(alloc: Global, word: &str, i: u64) -> Result<FlowType, NoMemory> {
+    let module = module(alloc)?;
+    let name = name(alloc, word, i)?;
+    Ok(FlowType::Ref { module, name })
+}
+
+fn prop(alloc: Global, key: &[u8], ty: FlowType) -> Result<FlowProp, NoMemory> {
+    Ok(FlowProp {
+        key: Text::from_bytes(alloc, key)?,
+        variance: Variance::Read,
+        optional: false,
+        ty,
+    })
+}
+
+// `{+k: key, +v: value}`
+fn object(alloc: Global, key: FlowType, value: FlowType) -> Result<FlowType, NoMemory> {
+    let mut props = List::new(alloc);
+    props.push(prop(alloc, b"k", key)?)?;
+    props.push(prop(alloc, b"v", value)?)?;
+    Ok(FlowType::Object {
+        exact: true,
+        props: Shared::new(alloc, props)?,
+    })
+}
+
+// so many literals from a first one, forwards or backwards
+fn literals(alloc: Global, first: u64, count: u64, back: bool) -> Result<FlowType, NoMemory> {
+    let mut all = List::new(alloc);
+    for i in 0..count {
+        let n = if back { count - i } else { i + 1 };
+        all.push(FlowType::StrLit(name(alloc, "k", n.saturating_add(first))?))?;
+    }
+    Ok(FlowType::Union(Shared::new(alloc, all)?))
+}
+
+// an object of so many properties
+fn wide_object(alloc: Global, count: u64, back: bool) -> Result<FlowType, NoMemory> {
+    let mut props = List::new(alloc);
+    for i in 0..count {
+        let n = if back { count - i } else { i + 1 };
+        props.push(FlowProp {
+            key: name(alloc, "p", n)?,
+            variance: Variance::Read,
+            optional: false,
+            ty: if back {
+                FlowType::Number
+            } else {
+                FlowType::NumLit(name(alloc, "", 1)?)
+            },
+        })?;
+    }
+    Ok(FlowType::Object {
+        exact: true,
+        props: Shared::new(alloc, props)?,
+    })
+}
+
+fn objects(alloc: Global, count: u64, wide: bool) -> Result<FlowType, NoMemory> {
+    let mut all = List::new(alloc);
+    for i in 0..count {
+        let value = if wide {
+            FlowType::Number
+        } else {
+            FlowType::NumLit(name(alloc, "", 1)?)
+        };
+        all.push(object(alloc, FlowType::StrLit(name(alloc, "k", i)?), value)?)?;
+    }
+    Ok(FlowType::Union(Shared::new(alloc, all)?))
+}
+
+fn arrays(alloc: Global, count: u64, wide: bool) -> Result<FlowType, NoMemory> {
+    let mut ty = if wide {
+        FlowType::Number
+    } else {
+        FlowType::NumLit(name(alloc, "", 1)?)
+    };
+    for _i in 0..count {
+        ty = FlowType::ReadArray(Shared::new(alloc, ty)?);
+    }
+    Ok(ty)
+}
+
+// A cycle of so many aliases, each an object; the last one of the first cycle is another.
+fn add_cycle(
+    alloc: Global,
+    rows: &mut Rows,
+    word: &str,
+    count: u64,
+    last: bool,
+) -> Result<(), NoMemory> {
+    for i in 0..count {
+        let next = if i + 1 < count { i + 1 } else { 0 };
+        let value = if last && i + 1 == count {
+            FlowType::Number
+        } else {
+            FlowType::Str
+        };
+        let ty = object(alloc, named(alloc, word, next)?, value)?;
+        rows.push((module(alloc)?, name(alloc, word, i)?, ty))?;
+    }
+    Ok(())
+}
+
+// The rows of the two cycles of a shape: of one length or not, ending in equal objects or not.
+fn rows(alloc: Global, shape: u64, count: u64) -> Result<Rows, NoMemory> {
+    let mut rows = Vec::new(alloc);
+    let (first, second) = match shape {
+        3 | 4 => (count, count),
+        7 => (count, count.saturating_add(1)),
+        _ => (0, 0),
+    };
+    add_cycle(alloc, &mut rows, "A", first, shape == 3)?;
+    add_cycle(alloc, &mut rows, "B", second, false)?;
+    Ok(rows)
+}
+
+fn pair(alloc: Global, shape: u64, count: u64) -> Result<(FlowType, FlowType), NoMemory> {
+    Ok(match shape {
+        0 => (
+            literals(alloc, 0, count, false)?,
+            literals(alloc, 0, count, true)?,
+        ),
+        1 => (objects(alloc, count, false)?, objects(alloc, count, true)?),
+        2 => (arrays(alloc, count, false)?, arrays(alloc, count, true)?),
+        5 => (
+            literals(alloc, 0, count, false)?,
+            literals(alloc, 1, count, true)?,
+        ),
+        6 => (
+            wide_object(alloc, count, false)?,
+            wide_object(alloc, count, true)?,
+        ),
+        _ => (named(alloc, "A", 0)?, named(alloc, "B", 0)?),
+    })
+}
+
+fn ask(alloc: Global, shape: u64, count: u64) -> Result<bool, NoMemory> {
+    let rows = rows(alloc, shape, count)?;
+    let table = AliasTable::build(alloc, rows.as_slice())?;
+    let (a, b) = pair(alloc, shape, count)?;
+    is_subtype(alloc, &table, &a, &b)
+}
+
+fn main(rt: HostRuntime) -> io::Result<()> {
+    for line in rt.lines(rt.alloc()) {
+        if let Ok(count) = line?.as_str().parse::<u64>() {
+            match ask(rt.alloc(), count % 10, count / 10) {
+                Ok(yes) => println!(rt; "{count}: {yes}")?,
+                Err(NoMemory) => println!(rt; "{count}: no memory")?,
+            }
+        }
+    }
+    Ok(())
+}

@@ -1,0 +1,140 @@
+-- Pairs that are lost, as their properties tell.
+use Rattle.std.proofs.Common.{◌≡◌, ℕ, zero, suc, ◌<◌, Bool, true, false, List, [], ◌∷◌, ◌++◌, length, get_or, map, slice_get, Option, Some, None, Contains, refl, sym, ap, ◌∙◌, arith, subst, inl, inr, append_assoc, if◌then◌else◌, take, ◌+◌, ◌≤◌, ◌⊎◌}
+use Rattle.std.proofs.lemmas.List.Elements.{Contains-append_left, Contains-append_right}
+use Rattle.type_values.specs.declared.types.FlowType.{FlowType, out-FlowType}
+use Rattle.type_values.specs.declared.types.FlowProp.{FlowProp}
+use Rattle.type_values.specs.declared.types.Variance.{Variance}
+use Rattle.type_values.specs.declared.types.Variance.TheVariants.{Both, Read, Write}
+use Rattle.type_values.specs.declared.types.FlowType.TheOpen.{Object}
+use Rattle.alias_table.specs.Aliases.{Key}
+use Rattle.type_terms.specs.Optional.{eff}
+use Rattle.subtyping.specs.Rows.{Pair, Level, is_free, has_no_ways, left_ways, right_ways, part_ways, ways, one_way, objects_fit, all_needs, needs_at, needs, prop_at}
+use Rattle.subtyping.specs.Collected.{IsLost, IsHopeless, KeepsWays, IsRow}
+use Rattle.subtype_rules.specs.Kept.{HasDead, above, IsTried}
+use Rattle.subtyping.proofs.Whole.{split, first_or, nothing, here, there}
+use Rattle.subtyping.proofs.Lifted.{no_ways}
+use Rattle.subtype_rules.proofs.Grown.{take_push}
+
+dead_first : (named : Key → FlowType) (p : Pair) (some : List Pair) → has_no_ways (out-FlowType p.0) (out-FlowType p.1) ≡ true → HasDead named (p ∷ some)
+dead_first named p some off = (p, here p some, no_ways named p off)
+
+dead_later : (named : Key → FlowType) (p : Pair) (some : List Pair) → HasDead named some → HasDead named (p ∷ some)
+dead_later named p some d = (d.0, there p d.0 some d.1, d.2)
+
+-- the types of two properties, either way round, as the second one's variance asks
+pub both_dead_left : (p q : FlowProp) → q.variance ≡ Both → has_no_ways (out-FlowType p.ty) (out-FlowType q.ty) ≡ true → (named : Key → FlowType) → HasDead named (needs q.variance p q)
+both_dead_left p q is off named = subst (λ (v : Variance). HasDead named (needs v p q)) (sym is) (dead_first named (p.ty, q.ty) ((q.ty, p.ty) ∷ []) off)
+
+pub both_dead_right : (p q : FlowProp) → q.variance ≡ Both → has_no_ways (out-FlowType q.ty) (out-FlowType p.ty) ≡ true → (named : Key → FlowType) → HasDead named (needs q.variance p q)
+both_dead_right p q is off named = subst (λ (v : Variance). HasDead named (needs v p q)) (sym is) (dead_later named (p.ty, q.ty) ((q.ty, p.ty) ∷ []) (dead_first named (q.ty, p.ty) [] off))
+
+same_eff : (optional : Bool) (t : FlowType) → optional ≡ false → eff optional t ≡ t
+same_eff true t is = cc
+same_eff false t is = refl
+
+pub read_dead : (p q : FlowProp) → q.variance ≡ Read → p.optional ≡ false → q.optional ≡ false → has_no_ways (out-FlowType p.ty) (out-FlowType q.ty) ≡ true → (named : Key → FlowType) → HasDead named (needs q.variance p q)
+read_dead p q is a b off named =
+    let e : (eff p.optional p.ty, eff q.optional q.ty) ≡ (p.ty, q.ty) = λ j. (same_eff p.optional p.ty a j, same_eff q.optional q.ty b j) in
+    subst (λ (v : Variance). HasDead named (needs v p q)) (sym is) (subst (λ (r : Pair). HasDead named (r ∷ [])) (sym e) (dead_first named (p.ty, q.ty) [] off))
+
+pub write_dead : (p q : FlowProp) → q.variance ≡ Write → p.optional ≡ false → q.optional ≡ false → has_no_ways (out-FlowType q.ty) (out-FlowType p.ty) ≡ true → (named : Key → FlowType) → HasDead named (needs q.variance p q)
+write_dead p q is a b off named =
+    let e : (eff q.optional q.ty, eff p.optional p.ty) ≡ (q.ty, p.ty) = λ j. (same_eff q.optional q.ty b j, same_eff p.optional p.ty a j) in
+    subst (λ (v : Variance). HasDead named (needs v p q)) (sym is) (subst (λ (r : Pair). HasDead named (r ∷ [])) (sym e) (dead_first named (q.ty, p.ty) [] off))
+
+-- the needs at a key of B are among all
+at_key : (ps qs more : List FlowProp) (i : ℕ) (q : FlowProp) → i < length more → q ≡ get_or more i q → (r : Pair) → Contains (needs_at (prop_at ps q.key) (prop_at qs q.key)) r → Contains (all_needs ps qs more) r
+at_key ps qs [] i q h e r c = absurd (omega (arith, h))
+at_key ps qs (x ∷ more) zero q h e r c = subst (λ (y : FlowProp). Contains (needs_at (prop_at ps y.key) (prop_at qs y.key) ++ all_needs ps qs more) r) e (Contains-append_left (needs_at (prop_at ps q.key) (prop_at qs q.key)) (all_needs ps qs more) r c)
+at_key ps qs (x ∷ more) (suc i) q h e r c = Contains-append_right (needs_at (prop_at ps x.key) (prop_at qs x.key)) (all_needs ps qs more) r (at_key ps qs more i q (omega (arith, h)) e r c)
+
+pub dead_at : (ps qs : List FlowProp) (i : ℕ) (q : FlowProp) → i < length qs → q ≡ get_or qs i q → ((named : Key → FlowType) → HasDead named (needs_at (prop_at ps q.key) (prop_at qs q.key))) → (named : Key → FlowType) → HasDead named (all_needs ps qs qs)
+dead_at ps qs i q h e dead named = let d = dead named in (d.0, at_key ps qs qs i q h e d.0 d.1, d.2)
+
+one_only : (b : Bool) (way w : List Pair) → Contains (one_way b way) w → way ≡ w
+one_only true way w c = elim (first_or way [] w c) [ inl is ↦ is | inr rest ↦ nothing w rest ]
+one_only false way w c = nothing w c
+
+-- two objects whose needs have a dead pair
+pub objects_lost : (a b : FlowType) (closed_a closed_b : Bool) (ps qs : List FlowProp) → out-FlowType a ≡ Object closed_a ps → out-FlowType b ≡ Object closed_b qs → ((named : Key → FlowType) → HasDead named (all_needs ps qs qs)) → (named : Key → FlowType) → IsLost named (a, b)
+objects_lost a b closed_a closed_b ps qs a_is b_is dead named way c =
+    let only : ways named (a, b) ≡ one_way (objects_fit closed_a ps closed_b qs) (all_needs ps qs qs) = λ j. by_levels (a_is j) (b_is j) in
+    let same = one_only (objects_fit closed_a ps closed_b qs) (all_needs ps qs qs) way (subst (λ (l : List (List Pair)). Contains l way) only c) in
+    let d = dead named in
+    (d.0, subst (λ (l : List Pair). Contains l d.0) same d.1, d.2)
+  where
+    by_levels : Level → Level → List (List Pair)
+    by_levels x y = if is_free x y then [] ∷ [] else left_ways named x b ++ (right_ways named a y ++ part_ways x y)
+
+-- ---- what is kept of the ways
+
+pub keeps_same : (named : Key → FlowType) (all : List (List Pair)) → KeepsWays named all all
+keeps_same named all = ((λ way c. c), λ way c. inl c)
+
+pub keeps_none : (named : Key → FlowType) (way : List Pair) → IsHopeless named way → KeepsWays named [] (way ∷ [])
+keeps_none named way off = ((λ w c. nothing w c), λ w c. elim (first_or way [] w c) [ inl is ↦ inr (subst (IsHopeless named) is off) | inr rest ↦ nothing w rest ])
+
+pub keeps_append : (named : Key → FlowType) (a b x y : List (List Pair)) → KeepsWays named a x → KeepsWays named b y → KeepsWays named (a ++ b) (x ++ y)
+keeps_append named a b x y f g = (
+  (λ way c. elim (split a b way c) [ inl d ↦ Contains-append_left x y way (f.0 way d) | inr d ↦ Contains-append_right x y way (g.0 way d) ]),
+  λ way c. elim (split x y way c) [
+    | inl d ↦ elim (f.1 way d) [ inl e ↦ inl (Contains-append_left a b way e) | inr off ↦ inr off ]
+    | inr d ↦ elim (g.1 way d) [ inl e ↦ inl (Contains-append_right a b way e) | inr off ↦ inr off ]
+  ],
+)
+
+pub keeps_all : (named : Key → FlowType) (left right part x y z : List (List Pair)) → KeepsWays named left x → KeepsWays named right y → part ≡ z → KeepsWays named ((left ++ right) ++ part) (x ++ (y ++ z))
+keeps_all named left right part x y z f g is =
+    subst (λ (l : List (List Pair)). KeepsWays named l (x ++ (y ++ z))) (sym (append_assoc left right part))
+    (keeps_append named left (right ++ part) x (y ++ z) f (keeps_append named right part y z g (subst (λ (l : List (List Pair)). KeepsWays named part l) is (keeps_same named part))))
+
+pub keeps_needing : (named : Key → FlowType) (a b : FlowType) (some : List (List Pair)) → is_free (out-FlowType a) (out-FlowType b) ≡ false → KeepsWays named some (left_ways named (out-FlowType a) b ++ (right_ways named a (out-FlowType b) ++ part_ways (out-FlowType a) (out-FlowType b))) → KeepsWays named some (ways named (a, b))
+keeps_needing named a b some off keeps = subst (KeepsWays named some) (sym (ap (λ (x : Bool). if x then [] ∷ [] else left_ways named (out-FlowType a) b ++ (right_ways named a (out-FlowType b) ++ part_ways (out-FlowType a) (out-FlowType b))) off)) keeps
+
+pub row_keeps : (named : Key → FlowType) (pairs : List Pair) (row : List (List ℕ)) (some all : List (List Pair)) → KeepsWays named some all → IsRow named pairs row some → IsRow named pairs row all
+row_keeps named pairs row some all k r = (
+  (λ ks c. let old = r.0 ks c in (old.0, k.0 old.0 old.1, old.2)),
+  λ way c. elim (k.1 way c) [ inl d ↦ r.1 way d | inr off ↦ inr off ],
+)
+
+-- a member of a union on the left that is lost makes its way hopeless
+pub left_hopeless : (all : List FlowType) (b : FlowType) (i : ℕ) (x : FlowType) → i < length all → x ≡ get_or all i x → ((named : Key → FlowType) → IsLost named (x, b)) → (named : Key → FlowType) → IsHopeless named (map (λ x. (x, b)) all)
+left_hopeless all b i x h e lost named = ((x, b), mapped all i h e, lost named)
+  where
+    mapped : (all : List FlowType) (i : ℕ) → i < length all → x ≡ get_or all i x → Contains {X = Pair} (map (λ x. (x, b)) all) (x, b)
+    mapped [] i h e = absurd (omega (arith, h))
+    mapped (y ∷ all) zero h e = subst (λ (z : FlowType). Contains {X = Pair} ((z, b) ∷ map (λ x. (x, b)) all) (x, b)) e (here (x, b) (map (λ x. (x, b)) all))
+    mapped (y ∷ all) (suc i) h e = there (y, b) (x, b) (map (λ x. (x, b)) all) (mapped all i (omega (arith, h)) e)
+
+-- ---- the members of a union on the right, one after another
+
+push_above : (a : FlowType) (xs : List FlowType) (y : FlowType) → above a (xs ++ y ∷ []) ≡ above a xs ++ ((a, y) ∷ []) ∷ []
+push_above a [] y = refl
+push_above a (x ∷ xs) y = ap (λ l. ((a, x) ∷ []) ∷ l) (push_above a xs y)
+
+pub lost_hopeless : (a y : FlowType) → ((named : Key → FlowType) → IsLost named (a, y)) → (named : Key → FlowType) → IsHopeless named ((a, y) ∷ [])
+lost_hopeless a y lost named = ((a, y), here (a, y) [], lost named)
+
+pub above_next : (a : FlowType) (all : List FlowType) (i : ℕ) (y : FlowType) (old new : List (List Pair)) → i < length all → y ≡ get_or all i y → IsTried a y old new → ((named : Key → FlowType) → KeepsWays named old (above a (take i all))) →
+    (named : Key → FlowType) → KeepsWays named new (above a (take (i + 1) all))
+above_next a all i y old new h e tried keeps named =
+    subst (λ (l : List (List Pair)). KeepsWays named new l) (sym (ap (above a) (take_push all i y h e) ∙ push_above a (take i all) y)) (elim tried [
+      | inl is ↦ subst (λ (l : List (List Pair)). KeepsWays named l (above a (take i all) ++ ((a, y) ∷ []) ∷ [])) (sym is)
+          (keeps_append named old (((a, y) ∷ []) ∷ []) (above a (take i all)) (((a, y) ∷ []) ∷ []) (keeps named) (keeps_same named (((a, y) ∷ []) ∷ [])))
+      | inr off ↦ subst (λ (l : List (List Pair)). KeepsWays named l (above a (take i all) ++ ((a, y) ∷ []) ∷ [])) (sym off.0) (
+        (λ way c. Contains-append_left (above a (take i all)) (((a, y) ∷ []) ∷ []) way ((keeps named).0 way c)),
+        λ way c. elim (split (above a (take i all)) (((a, y) ∷ []) ∷ []) way c) [
+          | inl d ↦ (keeps named).1 way d
+          | inr d ↦ elim (first_or ((a, y) ∷ []) [] way d) [ inl is ↦ inr (subst (IsHopeless named) is (off.1 named)) | inr rest ↦ nothing way rest ]
+        ],
+      )
+    ])
+
+pub above_end : (a : FlowType) (all : List FlowType) (i : ℕ) (some : List (List Pair)) → length all ≤ i → ((named : Key → FlowType) → KeepsWays named some (above a (take i all))) → (named : Key → FlowType) → KeepsWays named some (above a all)
+above_end a all i some h keeps named = subst (λ (l : List FlowType). KeepsWays named some (above a l)) (whole all i h) (keeps named)
+  where
+    whole : (xs : List FlowType) (n : ℕ) → length xs ≤ n → take n xs ≡ xs
+    whole [] zero h = refl
+    whole [] (suc n) h = refl
+    whole (x ∷ xs) zero h = absurd (omega (arith, h))
+    whole (x ∷ xs) (suc n) h = ap (λ l. x ∷ l) (whole xs n (omega (arith, h)))

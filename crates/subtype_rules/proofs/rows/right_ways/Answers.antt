@@ -1,0 +1,12 @@
+use Rattle.std.proofs.Common.{[], ◌∷◌, List, map, sym, subst}
+use Rattle.type_values.specs.declared.types.FlowType.{FlowType}
+use Rattle.alias_table.specs.Table.{unfolded}
+use Rattle.subtyping.specs.Rows.{Level, right_ways}
+use Rattle.subtyping.specs.Collected.{KeepsWays}
+use Rattle.subtype_rules.proofs.Forms.{union_form}
+use Rattle.subtype_rules.specs.Kept.{above}
+use Rattle.subtype_rules.proofs.rows.right_ways.Goals as goal
+
+pub returns-in_ok-some-in-Union : goal.returns-in_ok-some-in-Union
+returns-in_ok-some-in-Union c = subst (λ (y : Level). KeepsWays (unfolded c.args.table.now) c.in_ok-some-in-Union.some (right_ways (unfolded c.args.table.now) c.args.a.now y)) (sym (union_form c.args.b.now c.in-Union.all c.in-Union.is))
+    (subst (λ (l : List FlowType). KeepsWays (unfolded c.args.table.now) c.in_ok-some-in-Union.some (above c.args.a.now l)) c.as_slice.ensures (c.in_ok-some-in-Union.ensures (unfolded c.args.table.now)))

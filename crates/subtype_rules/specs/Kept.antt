@@ -1,0 +1,18 @@
+-- What is left out of the ways, and why.
+use Rattle.std.specs.Prelude.{◌≡◌, ◌⊎◌, List, [], ◌∷◌, ◌++◌, map, Contains}
+use Rattle.type_values.specs.declared.types.FlowType.{FlowType}
+use Rattle.alias_table.specs.Aliases.{Key}
+use Rattle.subtyping.specs.Rows.{Pair, ways}
+use Rattle.subtyping.specs.Collected.{IsHopeless}
+
+-- a pair among these that no row justifies
+abbrev pub HasDead : (Key → FlowType) → List Pair → Type 0
+HasDead named some = (q : Pair) × Contains some q × (ways named q ≡ [])
+
+-- the ways by a member of a union on the right
+abbrev pub above : FlowType → List FlowType → List (List Pair)
+above a all = map (λ y. (a, y) ∷ []) all
+
+-- one way was put behind the others, or it is hopeless
+abbrev pub IsTried : FlowType → FlowType → List (List Pair) → List (List Pair) → Type 0
+IsTried a y old new = (new ≡ old ++ ((a, y) ∷ []) ∷ []) ⊎ ((new ≡ old) × ((named : Key → FlowType) → IsHopeless named ((a, y) ∷ [])))
