@@ -127,7 +127,7 @@ complete named pairs rows alive a b len table gone first below = go (at alive 0)
     go true is = is
     go false is = absurd (not_refuted named pairs rows below.0 len table below.1 0 (gone 0 is) (a, b) first below.2)
 
-left_none : (named : Key → FlowType) (x : Level) (b : FlowType) → does_open x ≡ false → left_ways named x b ≡ []
+pub left_none : (named : Key → FlowType) (x : Level) (b : FlowType) → does_open x ≡ false → left_ways named x b ≡ []
 left_none named (Ref home name) b h = cc
 left_none named (Union all) b h = cc
 left_none named x b h = refl
@@ -137,7 +137,7 @@ right_none named a (Ref home name) h = cc
 right_none named a (Union all) h = cc
 right_none named a y h = refl
 
-part_none : (x y : Level) → (is_leaf x || is_leaf y) ≡ true → part_ways x y ≡ []
+pub part_none : (x y : Level) → (is_leaf x || is_leaf y) ≡ true → part_ways x y ≡ []
 part_none (Object c ps) (Object d qs) h = cc
 part_none (Tuple xs) (Tuple ys) h = cc
 part_none (Array x) (Array y) h = cc
