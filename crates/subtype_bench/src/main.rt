@@ -1,11 +1,14 @@
 //! Asks of one pair of types, of the shape and size that each line of its input gives as
-//! size * 10 + shape, whether it is a subtype. Run it under `time` with one line.
+//! size * 10 + shape, whether it is a subtype. The microseconds that the question took, without
+//! making the types and the table, go to the standard error: `bench/subtype.sh` prints them.
 #![tactic(auto)]
 
 use alias_table::AliasTable;
 use flow_values::{List, NoMemory, Path, Shared, Text};
 use std::alloc::Global;
 use std::io;
+use std::rt::Clock;
+use std::time::Instant;
 use subtype_rules::is_subtype;
 use type_values::{FlowProp, FlowType, Variance};
 
@@ -59,21 +62,17 @@ fn literals(alloc: Global, first: u64, count: u64, back: bool) -> Result<FlowTyp
     Ok(FlowType::Union(Shared::new(alloc, all)?))
 }
 
-// an object of so many properties
-fn wide_object(alloc: Global, count: u64, back: bool) -> Result<FlowType, NoMemory> {
+// an object of so many properties, with keys of one length that rise
+fn wide_object(alloc: Global, count: u64, wide: bool) -> Result<FlowType, NoMemory> {
     let mut props = List::new(alloc);
     for i in 0..count {
-        let n = if back { count - i } else { i + 1 };
-        props.push(FlowProp {
-            key: name(alloc, "p", n)?,
-            variance: Variance::Read,
-            optional: false,
-            ty: if back {
-                FlowType::Number
-            } else {
-                FlowType::NumLit(name(alloc, "", 1)?)
-            },
-        })?;
+        let value = if wide {
+            FlowType::Number
+        } else {
+            FlowType::NumLit(name(alloc, "", 1)?)
+        };
+        let key = name(alloc, "p", i.saturating_add(1_000_000))?;
+        props.push(prop(alloc, key.as_bytes(), value)?)?;
     }
     Ok(FlowType::Object {
         exact: true,
@@ -160,18 +159,28 @@ fn pair(alloc: Global, shape: u64, count: u64) -> Result<(FlowType, FlowType), N
     })
 }
 
-fn ask(alloc: Global, shape: u64, count: u64) -> Result<bool, NoMemory> {
+// Asks the question of a shape and size, and answers with the microseconds that it took.
+fn ask<R: Clock>(rt: &R, alloc: Global, shape: u64, count: u64) -> Result<(bool, u128), NoMemory> {
     let rows = rows(alloc, shape, count)?;
     let table = AliasTable::build(alloc, rows.as_slice())?;
     let (a, b) = pair(alloc, shape, count)?;
-    is_subtype(alloc, &table, &a, &b)
+    let start = Instant::now(rt).ok();
+    let yes = is_subtype(alloc, &table, &a, &b)?;
+    let micros = match start {
+        Some(start) => start.elapsed(rt).map_or(0, |spent| spent.as_micros()),
+        None => 0,
+    };
+    Ok((yes, micros))
 }
 
 fn main(rt: HostRuntime) -> io::Result<()> {
     for line in rt.lines(rt.alloc()) {
         if let Ok(count) = line?.as_str().parse::<u64>() {
-            match ask(rt.alloc(), count % 10, count / 10) {
-                Ok(yes) => println!(rt; "{count}: {yes}")?,
+            match ask(&rt, rt.alloc(), count % 10, count / 10) {
+                Ok((yes, micros)) => {
+                    println!(rt; "{count}: {yes}")?;
+                    eprintln!(rt; "{micros}")?;
+                }
                 Err(NoMemory) => println!(rt; "{count}: no memory")?,
             }
         }

@@ -1,5 +1,5 @@
 -- A union is below one that has its members.
-use Rattle.std.proofs.Common.{◌≡◌, ℕ, zero, suc, ◌+◌, ◌<◌, ◌≤◌, List, [], ◌∷◌, length, get_or, take, Contains, refl, sym, ap, ◌∙◌, arith, subst, inl, inr}
+use Rattle.std.proofs.Common.{◌≡◌, ℕ, zero, suc, ◌+◌, ◌<◌, ◌≤◌, List, [], ◌∷◌, length, get_or, take, Contains, refl, sym, ap, arith, subst, inl, inr}
 use Rattle.type_values.specs.declared.types.FlowType.{FlowType, out-FlowType}
 use Rattle.type_values.specs.declared.types.FlowType.TheOpen.{Union}
 use Rattle.alias_table.specs.Aliases.{Key}

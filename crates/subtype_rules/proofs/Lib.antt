@@ -5,3 +5,4 @@ pub mod Deciding
 pub mod LostPairs
 pub mod Covers
 pub mod Forms
+pub mod Searched

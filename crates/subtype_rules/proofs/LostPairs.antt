@@ -1,18 +1,23 @@
 -- Pairs that are lost, as their properties tell.
-use Rattle.std.proofs.Common.{◌≡◌, ℕ, zero, suc, ◌<◌, Bool, true, false, List, [], ◌∷◌, ◌++◌, length, get_or, map, slice_get, Option, Some, None, Contains, refl, sym, ap, ◌∙◌, arith, subst, inl, inr, append_assoc, if◌then◌else◌, take, ◌+◌, ◌≤◌, ◌⊎◌}
+use Rattle.std.proofs.Common.{◌≡◌, ℕ, zero, suc, ◌<◌, Bool, true, false, List, [], ◌∷◌, ◌++◌, length, get_or, map, Contains, refl, sym, ap, ◌∙◌, arith, subst, inl, inr, append_assoc, if◌then◌else◌, take, ◌+◌, ◌≤◌, ◌&&◌, true≢false}
+use Rattle.std.specs.List.{list_all}
+use Rattle.std.proofs.lemmas.List.{append-nil}
 use Rattle.std.proofs.lemmas.List.Elements.{Contains-append_left, Contains-append_right}
 use Rattle.type_values.specs.declared.types.FlowType.{FlowType, out-FlowType}
 use Rattle.type_values.specs.declared.types.FlowProp.{FlowProp}
 use Rattle.type_values.specs.declared.types.Variance.{Variance}
 use Rattle.type_values.specs.declared.types.Variance.TheVariants.{Both, Read, Write}
-use Rattle.type_values.specs.declared.types.FlowType.TheOpen.{Object}
+use Rattle.type_values.specs.declared.types.FlowType.TheOpen.{Object, Tuple, Array, ReadArray, Function, Union}
 use Rattle.alias_table.specs.Aliases.{Key}
 use Rattle.type_terms.specs.Optional.{eff}
-use Rattle.subtyping.specs.Rows.{Pair, Level, is_free, has_no_ways, left_ways, right_ways, part_ways, ways, one_way, objects_fit, all_needs, needs_at, needs, prop_at}
+use Rattle.subtyping.specs.Rows.{Pair, Level, is_free, does_open, has_no_ways, left_ways, right_ways, part_ways, ways, one_way, objects_fit, all_needs, needs_at, needs, prop_at}
 use Rattle.subtyping.specs.Collected.{IsLost, IsHopeless, KeepsWays, IsRow}
 use Rattle.subtype_rules.specs.Kept.{HasDead, above, IsTried}
 use Rattle.subtyping.proofs.Whole.{split, first_or, nothing, here, there}
-use Rattle.subtyping.proofs.Lifted.{no_ways}
+use Rattle.subtyping.proofs.Lifted.{no_ways, left_none}
+use Rattle.subtyping.specs.Closed.{IsBelow}
+use Rattle.subtyping.proofs.Justified.{below_justified}
+use Rattle.subtyping.proofs.Itself.{map_out}
 use Rattle.subtype_rules.proofs.Grown.{take_push}
 
 dead_first : (named : Key → FlowType) (p : Pair) (some : List Pair) → has_no_ways (out-FlowType p.0) (out-FlowType p.1) ≡ true → HasDead named (p ∷ some)
@@ -65,6 +70,42 @@ objects_lost a b closed_a closed_b ps qs a_is b_is dead named way c =
   where
     by_levels : Level → Level → List (List Pair)
     by_levels x y = if is_free x y then [] ∷ [] else left_ways named x b ++ (right_ways named a y ++ part_ways x y)
+
+-- no closed set has a lost pair
+pub lost_not_below : (named : Key → FlowType) (a b : FlowType) → IsLost named (a, b) → IsBelow named a b → ⊥
+lost_not_below named a b lost below =
+    let j = below_justified named a b below in
+    let q = lost j.0 j.1 in
+    let k = below_justified named q.0.0 q.0.1 (j.2 q.0 q.1) in
+    let short : length (ways named q.0) ≡ 0 = ap length q.2 in omega (arith, k.1.1, short)
+
+no_part : (x : Level) (all : List FlowType) → part_ways x (Union all) ≡ []
+no_part (Object closed ps) all = refl
+no_part (Tuple xs) all = refl
+no_part (Array x) all = refl
+no_part (ReadArray x) all = refl
+no_part (Function ps r) all = refl
+no_part x all = refl
+
+each_off : (f : FlowType → Bool) (all : List FlowType) → list_all f all ≡ true → (y : FlowType) → Contains all y → f y ≡ true
+each_off f [] on y c = nothing y c
+each_off f (x ∷ all) on y c = go (f x) refl on (λ rest later. each_off f all rest y later)
+  where
+    go : (b : Bool) → f x ≡ b → b && list_all f all ≡ true → (list_all f all ≡ true → Contains all y → f y ≡ true) → f y ≡ true
+    go true is rest more = elim (first_or x all y c) [ inl same ↦ ap f (sym same) ∙ is | inr later ↦ more rest later ]
+    go false is rest more = absurd (true≢false (sym rest))
+
+-- a type that doesn't open, and a union none of whose members it may be below
+pub misses_lost : (a b : FlowType) (all : List FlowType) → out-FlowType b ≡ Union all → does_open (out-FlowType a) ≡ false → is_free (out-FlowType a) (out-FlowType b) ≡ false → list_all (λ y. has_no_ways (out-FlowType a) (out-FlowType y)) all ≡ true → (named : Key → FlowType) → IsLost named (a, b)
+misses_lost a b all b_is opens free off named way c =
+    let x = out-FlowType a in
+    let only : ways named (a, b) ≡ above a all =
+    ap (λ (z : Bool). if z then [] ∷ [] else left_ways named x b ++ (right_ways named a (out-FlowType b) ++ part_ways x (out-FlowType b))) free
+    ∙ ap (λ (l : List (List Pair)). l ++ (right_ways named a (out-FlowType b) ++ part_ways x (out-FlowType b))) (left_none named x b opens)
+    ∙ ap (λ (z : Level). right_ways named a z ++ part_ways x z) b_is
+    ∙ ap (λ (l : List (List Pair)). above a all ++ l) (no_part x all) ∙ append-nil (above a all) in
+    let m = map_out (λ (y : FlowType). (a, y) ∷ []) all way (subst (λ (l : List (List Pair)). Contains l way) only c) in
+    ((a, m.0), subst (λ (w : List Pair). Contains w (a, m.0)) m.2 (here (a, m.0) []), no_ways named (a, m.0) (each_off (λ y. has_no_ways x (out-FlowType y)) all off m.0 m.1))
 
 -- ---- what is kept of the ways
 

@@ -1,6 +1,7 @@
 -- What is left out of the ways, and why.
-use Rattle.std.specs.Prelude.{◌≡◌, ◌⊎◌, List, [], ◌∷◌, ◌++◌, map, Contains}
+use Rattle.std.specs.Prelude.{◌≡◌, ◌⊎◌, ℕ, List, [], ◌∷◌, ◌++◌, map, Contains, Option, Some, None, slice_get}
 use Rattle.type_values.specs.declared.types.FlowType.{FlowType}
+use Rattle.type_values.specs.declared.types.FlowProp.{FlowProp}
 use Rattle.alias_table.specs.Aliases.{Key}
 use Rattle.subtyping.specs.Rows.{Pair, ways}
 use Rattle.subtyping.specs.Collected.{IsHopeless}
@@ -16,3 +17,12 @@ above a all = map (λ y. (a, y) ∷ []) all
 -- one way was put behind the others, or it is hopeless
 abbrev pub IsTried : FlowType → FlowType → List (List Pair) → List (List Pair) → Type 0
 IsTried a y old new = (new ≡ old ++ ((a, y) ∷ []) ∷ []) ⊎ ((new ≡ old) × ((named : Key → FlowType) → IsHopeless named ((a, y) ∷ [])))
+
+-- the keys of properties, in order
+abbrev pub keys_of : List FlowProp → List (List ℕ)
+keys_of ps = map (λ p. p.key) ps
+
+-- the property at a place that was found
+abbrev pub prop_of_place : List FlowProp → Option ℕ → Option FlowProp
+prop_of_place ps None = None
+prop_of_place ps (Some k) = slice_get ps k

@@ -6,6 +6,7 @@ ghost use Rattle.subtype_rules.specs.Answer.{below};
 use crate::collecting::collect;
 use crate::covering::is_covered;
 use crate::deleting::{is_alive, survivors};
+use crate::losing::is_lost;
 use crate::rows::is_free;
 use alias_table::AliasTable;
 use flow_values::NoMemory;
@@ -21,6 +22,9 @@ fn decide(alloc: Global, table: &AliasTable, a: &FlowType, b: &FlowType) -> Resu
     }
     if a.equals(b) {
         return Ok(true);
+    }
+    if is_lost(a, b) {
+        return Ok(false);
     }
     let covered = is_covered(alloc, a, b)?;
     if covered {

@@ -7,6 +7,7 @@ mod covering;
 mod deleting;
 mod laws;
 mod losing;
+mod props;
 mod rows;
 
 pub use below::is_subtype;

@@ -1,12 +1,14 @@
 //! Pairs that no closed set has, as a look at their forms and their properties tells.
 ghost use Rattle.std.specs.Prelude.{◌≡◌, true, false};
-ghost use Rattle.type_values.specs.declared.types.FlowType.{FlowType};
+ghost use Rattle.std.specs.List.{list_all};
+ghost use Rattle.type_values.specs.declared.types.FlowType.{FlowType, out-FlowType};
 ghost use Rattle.alias_table.specs.Aliases.{Key};
-ghost use Rattle.subtyping.specs.Rows.{needs, needs_at, prop_at, all_needs};
+ghost use Rattle.subtyping.specs.Rows.{has_no_ways, needs, needs_at, prop_at, all_needs};
 ghost use Rattle.subtyping.specs.Collected.{IsLost};
 ghost use Rattle.subtype_rules.specs.Kept.{HasDead};
 
-use crate::rows::{has_no_ways, prop_at};
+use crate::props::Props;
+use crate::rows::{does_open, has_no_ways, is_free};
 use flow_values::Text;
 use type_values::{FlowProp, FlowType, Variance};
 
@@ -32,11 +34,11 @@ fn props_clash(p: &FlowProp, q: &FlowProp) -> bool
     }
 }
 
-fn clash_at(ps: &[FlowProp], qs: &[FlowProp], key: &Text) -> bool
-    ensures { result ≡ true → (named : Key → FlowType) → HasDead named (needs_at (prop_at ps.now key.now) (prop_at qs.now key.now)) }
+fn clash_at(ps: &Props, qs: &Props, key: &Text) -> bool
+    ensures { result ≡ true → (named : Key → FlowType) → HasDead named (needs_at (prop_at ps.now.all.now key.now) (prop_at qs.now.all.now key.now)) }
 {
-    match prop_at(ps, key) {
-        Some(p) => match prop_at(qs, key) {
+    match ps.at(key) {
+        Some(p) => match qs.at(key) {
             Some(q) => props_clash(p, q),
             None => false,
         },
@@ -44,11 +46,11 @@ fn clash_at(ps: &[FlowProp], qs: &[FlowProp], key: &Text) -> bool
     }
 }
 
-fn clash(ps: &[FlowProp], qs: &[FlowProp]) -> bool
-    ensures { result ≡ true → (named : Key → FlowType) → HasDead named (all_needs ps.now qs.now qs.now) }
+fn clash(ps: &Props, qs: &Props) -> bool
+    ensures { result ≡ true → (named : Key → FlowType) → HasDead named (all_needs ps.now.all.now qs.now.all.now qs.now.all.now) }
 {
-    for i in 0..qs.len() {
-        let q = &qs[i];
+    for i in 0..qs.all.len() {
+        let q = &qs.all[i];
         if clash_at(ps, qs, &q.key) {
             return true;
         }
@@ -69,17 +71,44 @@ fn objects_clash(a: &FlowType, b: &FlowType) -> bool
                 exact: _,
                 props: qs,
             },
-        ) => clash(ps.as_slice(), qs.as_slice()),
+        ) => {
+            let ps = Props::new(ps.as_slice());
+            let qs = Props::new(qs.as_slice());
+            clash(&ps, &qs)
+        }
         _ => false,
     }
 }
 
-/// Whether a pair is in no closed set, as its forms or its properties tell.
+// Whether no row justifies that a type is below one of these, as their forms tell.
+fn misses_each(a: &FlowType, all: &[FlowType]) -> bool
+    ensures { result ≡ list_all (λ y. has_no_ways (out-FlowType a.now) (out-FlowType y)) all.now }
+{
+    all.iter().all(|y| has_no_ways(a, y))
+}
+
+// Whether b is a union, and no row justifies that a is below one of its members.
+fn misses_union(a: &FlowType, b: &FlowType) -> bool
+    ensures { result ≡ true → (named : Key → FlowType) → IsLost named (a.now, b.now) }
+{
+    if does_open(a) || is_free(a, b) {
+        return false;
+    }
+    match b {
+        FlowType::Union(all) => misses_each(a, all.as_slice()),
+        _ => false,
+    }
+}
+
+/// Whether a pair is in no closed set, as its forms, its properties or its members tell.
 pub(crate) fn is_lost(a: &FlowType, b: &FlowType) -> bool
     ensures { result ≡ true → (named : Key → FlowType) → IsLost named (a.now, b.now) }
 {
     if has_no_ways(a, b) {
         return true;
     }
-    objects_clash(a, b)
+    if objects_clash(a, b) {
+        return true;
+    }
+    misses_union(a, b)
 }

@@ -13,6 +13,7 @@ ghost use Rattle.subtyping.specs.Collected.{IsHopeless, KeepsWays};
 ghost use Rattle.subtype_rules.specs.Kept.{above, IsTried};
 
 use crate::losing::is_lost;
+use crate::props::Props;
 use alias_table::AliasTable;
 use flow_values::{List, NoMemory, Path, Text};
 use std::alloc::Global;
@@ -21,7 +22,7 @@ use type_values::{FlowProp, FlowType, Param, Variance};
 
 pub(crate) type Pair = (FlowType, FlowType);
 
-fn is_text(a: &Text, b: &Text) -> bool
+pub(crate) fn is_text(a: &Text, b: &Text) -> bool
     ensures { result ≡ is_text a.now b.now }
 {
     a.cmp(b).is_eq()
@@ -92,7 +93,7 @@ pub(crate) fn is_free(a: &FlowType, b: &FlowType) -> bool
     is_low(a) || is_high(b) || is_plain(a, b)
 }
 
-fn does_open(t: &FlowType) -> bool
+pub(crate) fn does_open(t: &FlowType) -> bool
     ensures { result ≡ does_open (out-FlowType t.now) }
 {
     match t {
@@ -189,24 +190,11 @@ fn add_needs(
     }
 }
 
-#[tactic(auto, using(crate::proofs::Walks::at_stops, crate::proofs::Walks::at_goes, crate::proofs::Walks::at_ends))]
-pub(crate) fn prop_at<'a>(props: &'a [FlowProp], key: &Text) -> Option<&'a FlowProp>
-    ensures { option_copied result ≡ prop_at props.now key.now }
+fn fits_in(ps: &Props, qs: &Props, key: &Text) -> bool
+    ensures { result ≡ fits_at (prop_at ps.now.all.now key.now) (prop_at qs.now.all.now key.now) }
 {
-    for i in 0..props.len() {
-        let p = &props[i];
-        if is_text(&p.key, key) {
-            return Some(p);
-        }
-    }
-    None
-}
-
-fn fits_in(ps: &[FlowProp], qs: &[FlowProp], key: &Text) -> bool
-    ensures { result ≡ fits_at (prop_at ps.now key.now) (prop_at qs.now key.now) }
-{
-    match prop_at(ps, key) {
-        Some(p) => match prop_at(qs, key) {
+    match ps.at(key) {
+        Some(p) => match qs.at(key) {
             Some(q) => fits(p, q),
             None => false,
         },
@@ -216,15 +204,15 @@ fn fits_in(ps: &[FlowProp], qs: &[FlowProp], key: &Text) -> bool
 
 fn add_needs_in(
     alloc: Global,
-    ps: &[FlowProp],
-    qs: &[FlowProp],
+    ps: &Props,
+    qs: &Props,
     key: &Text,
     way: &mut List<Pair>,
 ) -> Result<(), NoMemory>
-    ensures { OnOk result (way.new ≡ way.old ++ needs_at (prop_at ps.now key.now) (prop_at qs.now key.now)) }
+    ensures { OnOk result (way.new ≡ way.old ++ needs_at (prop_at ps.now.all.now key.now) (prop_at qs.now.all.now key.now)) }
 {
-    match prop_at(ps, key) {
-        Some(p) => match prop_at(qs, key) {
+    match ps.at(key) {
+        Some(p) => match qs.at(key) {
             Some(q) => add_needs(alloc, p, q, way),
             None => Ok(()),
         },
@@ -233,11 +221,11 @@ fn add_needs_in(
 }
 
 #[tactic(auto, using(crate::proofs::Walks::fit_stops, crate::proofs::Walks::fit_goes, crate::proofs::Walks::fit_ends))]
-fn all_fit(ps: &[FlowProp], qs: &[FlowProp]) -> bool
-    ensures { result ≡ all_fit ps.now qs.now qs.now }
+fn all_fit(ps: &Props, qs: &Props) -> bool
+    ensures { result ≡ all_fit ps.now.all.now qs.now.all.now qs.now.all.now }
 {
-    for i in 0..qs.len() {
-        if !fits_in(ps, qs, &qs[i].key) {
+    for i in 0..qs.all.len() {
+        if !fits_in(ps, qs, &qs.all[i].key) {
             return false;
         }
     }
@@ -245,8 +233,8 @@ fn all_fit(ps: &[FlowProp], qs: &[FlowProp]) -> bool
 }
 
 #[tactic(auto, using(crate::proofs::Walks::others_stops, crate::proofs::Walks::others_goes, crate::proofs::Walks::others_ends))]
-fn no_others(qs: &[FlowProp], ps: &[FlowProp]) -> bool
-    ensures { result ≡ no_others qs.now ps.now }
+fn no_others(qs: &Props, ps: &[FlowProp]) -> bool
+    ensures { result ≡ no_others qs.now.all.now ps.now }
 {
     for i in 0..ps.len() {
         if !has_prop(qs, &ps[i].key) {
@@ -256,28 +244,28 @@ fn no_others(qs: &[FlowProp], ps: &[FlowProp]) -> bool
     true
 }
 
-fn has_prop(props: &[FlowProp], key: &Text) -> bool
-    ensures { result ≡ is_some (prop_at props.now key.now) }
+fn has_prop(props: &Props, key: &Text) -> bool
+    ensures { result ≡ is_some (prop_at props.now.all.now key.now) }
 {
-    match prop_at(props, key) {
+    match props.at(key) {
         Some(_) => true,
         None => false,
     }
 }
 
-fn objects_fit(closed_a: bool, ps: &[FlowProp], closed_b: bool, qs: &[FlowProp]) -> bool
-    ensures { result ≡ objects_fit closed_a ps.now closed_b qs.now }
+fn objects_fit(closed_a: bool, ps: &Props, closed_b: bool, qs: &Props) -> bool
+    ensures { result ≡ objects_fit closed_a ps.now.all.now closed_b qs.now.all.now }
 {
-    all_fit(ps, qs) && (!closed_b || closed_a && no_others(qs, ps))
+    all_fit(ps, qs) && (!closed_b || closed_a && no_others(qs, ps.all))
 }
 
 #[tactic(auto, using(crate::proofs::Walks::needs_goes, crate::proofs::Walks::needs_ends))]
-fn all_needs(alloc: Global, ps: &[FlowProp], qs: &[FlowProp]) -> Result<List<Pair>, NoMemory>
-    ensures { IfOk result (λ way. way ≡ all_needs ps.now qs.now qs.now) }
+fn all_needs(alloc: Global, ps: &Props, qs: &Props) -> Result<List<Pair>, NoMemory>
+    ensures { IfOk result (λ way. way ≡ all_needs ps.now.all.now qs.now.all.now qs.now.all.now) }
 {
     let mut way = List::new(alloc);
-    for i in 0..qs.len() {
-        add_needs_in(alloc, ps, qs, &qs[i].key, &mut way)?;
+    for i in 0..qs.all.len() {
+        add_needs_in(alloc, ps, qs, &qs.all[i].key, &mut way)?;
     }
     Ok(way)
 }
@@ -457,8 +445,9 @@ fn add_object_ways(
 ) -> Result<(), NoMemory>
     ensures { OnOk result (ways.new ≡ ways.old ++ one_way (objects_fit closed_a ps.now closed_b qs.now) (all_needs ps.now qs.now qs.now)) }
 {
-    if objects_fit(closed_a, ps, closed_b, qs) {
-        ways.push(all_needs(alloc, ps, qs)?)
+    let (ps, qs) = (Props::new(ps), Props::new(qs));
+    if objects_fit(closed_a, &ps, closed_b, &qs) {
+        ways.push(all_needs(alloc, &ps, &qs)?)
     } else {
         Ok(())
     }

@@ -1,10 +1,11 @@
-use Rattle.std.proofs.Common.{sym, ap, ◌∙◌, ◌≡◌, refl, subst}
+use Rattle.std.proofs.Common.{sym, ap, ◌∙◌, ◌≡◌, refl, subst, true≢false}
 use Rattle.alias_table.specs.Table.{unfolded}
 use Rattle.subtyping.specs.Numbered.{at, IsKept, AreRefuted}
 use Rattle.subtyping.specs.Closed.{IsBelow}
 use Rattle.subtyping.proofs.TableNames.{table_itself}
 use Rattle.subtyping.proofs.Lifted.{sound, complete}
 use Rattle.subtyping.proofs.Justified.{free_below}
+use Rattle.subtype_rules.proofs.LostPairs.{lost_not_below}
 use Rattle.subtype_rules.proofs.below.decide.Goals as goal
 
 pub returns-then-is_free : goal.returns-then-is_free
@@ -12,6 +13,9 @@ returns-then-is_free c = (λ yes. free_below (unfolded c.args.table.now) c.args.
 
 pub returns-then-equals : goal.returns-then-equals
 returns-then-equals c = (λ yes. subst (λ b. IsBelow (unfolded c.args.table.now) c.args.a.now b) (c.equals.ensures.0 c.if-equals.true) (table_itself c.args.table.now c.args.a.now), λ below. refl)
+
+pub returns-then-is_lost : goal.returns-then-is_lost
+returns-then-is_lost c = (λ yes. absurd (true≢false (sym yes)), λ below. absurd (lost_not_below (unfolded c.args.table.now) c.args.a.now c.args.b.now (c.is_lost.ensures c.if-is_lost.true (unfolded c.args.table.now)) below))
 
 pub returns-then-covered : goal.returns-then-covered
 returns-then-covered c = (λ yes. c.in_ok-covered.ensures c.if-covered.true (unfolded c.args.table.now) (table_itself c.args.table.now), λ below. refl)

@@ -1,4 +1,4 @@
-use Rattle.std.proofs.Common.{List, Contains, sym, subst}
+use Rattle.std.proofs.Common.{List, Contains, subst}
 use Rattle.type_values.specs.declared.types.FlowType.{FlowType}
 use Rattle.subtype_rules.proofs.Forms.{union_form}
 use Rattle.subtype_rules.proofs.Covers.{covered_below}

@@ -4,7 +4,6 @@ use Rattle.alias_table.specs.Table.{unfolded}
 use Rattle.subtyping.specs.Rows.{Level, left_ways}
 use Rattle.subtyping.specs.Collected.{KeepsWays}
 use Rattle.subtype_rules.proofs.Forms.{union_form}
-use Rattle.subtype_rules.specs.Kept.{above}
 use Rattle.subtype_rules.proofs.rows.left_ways.Goals as goal
 
 pub returns-in_ok-some-in-Union : goal.returns-in_ok-some-in-Union

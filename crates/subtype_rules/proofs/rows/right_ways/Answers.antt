@@ -1,4 +1,4 @@
-use Rattle.std.proofs.Common.{[], ◌∷◌, List, map, sym, subst}
+use Rattle.std.proofs.Common.{List, sym, subst}
 use Rattle.type_values.specs.declared.types.FlowType.{FlowType}
 use Rattle.alias_table.specs.Table.{unfolded}
 use Rattle.subtyping.specs.Rows.{Level, right_ways}
