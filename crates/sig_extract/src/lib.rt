@@ -1,0 +1,14 @@
+//! What a module says to others by itself: its local signature, and the faults of it.
+#![tactic(auto)]
+
+mod binding;
+mod exporting;
+mod extract;
+mod faulting;
+mod naming;
+mod ordering;
+mod reaching;
+mod scope;
+mod telling;
+
+pub use extract::{broken_signature, extract};

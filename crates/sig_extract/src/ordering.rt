@@ -1,0 +1,36 @@
+// Rows of a name and what stands beside it, in order of the names, or each name once.
+ghost use Rattle.std.specs.Prelude.{◌≡◌, IfOk};
+ghost use Rattle.check_values.specs.Rows.{by_name, first_of_each};
+
+use flow_values::{NoMemory, Text};
+use std::alloc::Global;
+use std::collections::{BTreeMap, BTreeSet};
+
+// Rows in order of their names, of those of one name the first one.
+pub fn by_name<T: Drop>(alloc: Global, rows: Vec<(Text, T)>) -> Result<BTreeMap<Text, T>, NoMemory>
+    ensures { IfOk result (λ map. map.entries ≡ by_name rows.items) }
+{
+    let mut rows = rows;
+    let mut map = BTreeMap::new(alloc);
+    while let Some((name, value)) = rows.pop() {
+        map.insert(name, value)?;
+    }
+    Ok(map)
+}
+
+// The first row of each name, in the order in which they stand.
+pub fn first_of_each<T: Copy>(
+    alloc: Global,
+    rows: &[(Text, T)],
+) -> Result<Vec<(Text, T)>, NoMemory>
+    ensures { IfOk result (λ firsts. firsts.items ≡ first_of_each rows.now) }
+{
+    let mut seen = BTreeSet::new(alloc);
+    let mut firsts = Vec::new(alloc);
+    for i in 0..rows.len() {
+        if seen.insert(rows[i].0.share()?)? {
+            firsts.push((rows[i].0.share()?, rows[i].1))?;
+        }
+    }
+    Ok(firsts)
+}
