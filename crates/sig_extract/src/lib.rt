@@ -12,3 +12,6 @@ mod scope;
 mod telling;
 
 pub use extract::{broken_signature, extract};
+
+#[cfg(test)]
+mod tests;

@@ -2,7 +2,7 @@ use Rattle.std.proofs.Common.{drop}
 use Rattle.std.specs.Ordering.{nat_cmp}
 use Rattle.std.specs.Cmp.Lexicographic.{slice_cmp}
 use Rattle.std.specs.BTreeSet.{contains}
-use Rattle.tree_typing.proofs.Keys.{IsKept}
+use Rattle.tree_typing.proofs.KeptKeys.{IsKept}
 use Rattle.tree_typing.proofs.keys.last_of_each.Given as goal
 
 -- those that were looked at, and the set of their keys

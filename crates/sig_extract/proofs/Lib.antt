@@ -1,0 +1,6 @@
+pub mod ByName
+pub mod FirstRows
+pub mod Listed
+pub mod NamesIn
+pub mod Search
+pub mod Whole
