@@ -17,9 +17,9 @@ specifiers_from : (acc : Items) (is : List Item) → specifiers_in (items_from a
 specifiers_from acc [] = sym (append-nil _)
 specifiers_from acc (i ∷ is) = specifiers_from (more_item acc (item_view i)) is ∙ append_assoc (specifiers_in acc) (specifiers_of (item_view i)) (flat_map (λ i. specifiers_of (item_view i)) is)
 
-pub specifiers_in_order : (is : List Item) → flat_map (λ i. specifiers_of (item_view i)) is ≡ specifiers_in (items_view is)
+pub specifiers_in_order : (is : List Item) → specifiers_in (items_view is) ≡ flat_map (λ i. specifiers_of (item_view i)) is
 unfolding items_view
-specifiers_in_order is = sym (specifiers_from no_item is)
+specifiers_in_order is = specifiers_from no_item is
 
 pub flat_more : {A B : Type 0} (f : A → List B) (xs : List A) (i : ℕ) (d : A) → i < length xs → flat_map f (take (i + 1) xs) ≡ flat_map f (take i xs) ++ f (get_or xs i d)
 flat_more f xs i d within = ap (λ (k : ℕ). flat_map f (take k xs)) (add-one i) ∙ ap (flat_map f) (take-suc xs i d within) ∙ flat-append f (take i xs) (get_or xs i d)
@@ -58,3 +58,9 @@ Adds has has' word = (q : Bor Bytes) → has' q ≡ cond (is_eq (slice_cmp nat_c
 -- the test tells the words
 abbrev pub Tells : (Bor Bytes → Bool) → List Bytes → Type 0
 Tells has words = (q : Bor Bytes) → has q ≡ is_among words q.now
+
+or_cond : (b c : Bool) → cond b true c ≡ c || b
+or_cond true true = refl
+or_cond true false = refl
+or_cond false true = refl
+or_cond false false = refl

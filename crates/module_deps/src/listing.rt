@@ -97,7 +97,6 @@ pub fn deps_of(
     ensures rows { IfOk result (λ deps. deps ≡ dependencies (paths_of root.now) from.now (module_view module.now)) }
 {
     let specs = specifiers_in(alloc, module.items.as_slice())?;
-    Ok(Deps {
-        rows: rows_for(alloc, root, from, specs.as_slice())?,
-    })
+    let rows = rows_for(alloc, root, from, specs.as_slice())?;
+    Ok(Deps { rows })
 }

@@ -36,18 +36,18 @@ module _ (is_type : Bool) (spec : Bytes) where
   bound_from acc [] = sym (append-nil _)
   bound_from acc (n ∷ ns) = bound_from (more_imported acc (imported_view n)) ns ∙ append_assoc (bound_importeds is_type spec acc) (bound_imported is_type spec (imported_view n)) (flat_map (λ n. bound_imported is_type spec (imported_view n)) ns)
 
-  pub bound_in_order : (ns : List Imported) → flat_map (λ n. bound_imported is_type spec (imported_view n)) ns ≡ bound_importeds is_type spec (importeds_view ns)
+  pub bound_in_order : (ns : List Imported) → bound_importeds is_type spec (importeds_view ns) ≡ flat_map (λ n. bound_imported is_type spec (imported_view n)) ns
   unfolding importeds_view
-  bound_in_order ns = sym (bound_from no_imported ns)
+  bound_in_order ns = bound_from no_imported ns
 
 module _ (tells : Bytes → Told) where
   told_from : (acc : Exporteds) (ns : List Exported) → told_listed tells (exporteds_from acc (map exported_view ns)) ≡ told_listed tells acc ++ flat_map (listed tells) ns
   told_from acc [] = sym (append-nil _)
   told_from acc (n ∷ ns) = told_from (more_exported acc (exported_view n)) ns ∙ append_assoc (told_listed tells acc) (listed tells n) (flat_map (listed tells) ns)
 
-  pub told_in_order : (ns : List Exported) → flat_map (listed tells) ns ≡ told_listed tells (exporteds_view ns)
+  pub told_in_order : (ns : List Exported) → told_listed tells (exporteds_view ns) ≡ flat_map (listed tells) ns
   unfolding exporteds_view
-  told_in_order ns = sym (told_from no_exported ns)
+  told_in_order ns = told_from no_exported ns
 
 items_listed : (acc : Items) (is : List Item) → items_from (view.items_from acc (map item_view is)) ≡ items_from acc ++ map item_view is
 items_listed acc [] = sym (append-nil _)

@@ -1,5 +1,5 @@
 // The exports of a module, in the order of the source.
-#![tactic(auto, unfolding(code_tree::specs::View::declaration_view, code_tree::specs::View::function_view))]
+#![tactic(auto, using(crate::proofs::Listed::seen_more), unfolding(code_tree::specs::View::declaration_view, code_tree::specs::View::function_view))]
 
 ghost use Rattle.std.specs.Prelude.{◌≡◌, ◌++◌, ◌∷◌, [], OnOk, IfOk, unwrap_or};
 ghost use Rattle.std.specs.List.{flat_map};
@@ -40,6 +40,7 @@ fn exported_name(exported: &Exported) -> Result<Text, NoMemory>
 }
 
 // What names in braces tell.
+#[tactic(auto, using(crate::proofs::Listed::flat_more, crate::proofs::Listed::told_in_order))]
 fn tell_names<'a>(
     alloc: Global,
     scope: &Scope<'a>,
@@ -71,6 +72,7 @@ fn tell_name<'a>(
 }
 
 // What names in braces tell that another module exports.
+#[tactic(auto, using(crate::proofs::Listed::flat_more, crate::proofs::Listed::told_in_order))]
 fn tell_elsewhere<'a>(
     is_type: bool,
     specifier: &'a Text,
@@ -224,6 +226,7 @@ fn tell_item<'a>(
 }
 
 /// What the exports of a module tell, in the order of the source.
+#[tactic(auto, using(crate::proofs::Listed::flat_more))]
 pub fn exports<'a>(
     alloc: Global,
     scope: &Scope<'a>,

@@ -1,4 +1,6 @@
 // The names in a type.
+#![tactic(auto, using(crate::proofs::Listed::flat_more, crate::proofs::NamesIn::type_parts))]
+
 ghost use Rattle.std.specs.Prelude.{◌≡◌, ◌++◌, OnOk};
 ghost use Rattle.std.specs.List.{flat_map};
 ghost use Rattle.local_signatures.specs.LocalSignature.{led_to_by_type};

@@ -1,5 +1,5 @@
 -- Of properties of one key the last, by a set of the keys so far.
-use Rattle.std.proofs.Common.{◌≡◌, ℕ, ◌+◌, ◌<◌, Bool, true, false, ◌||◌, List, [], ◌∷◌, ◌++◌, length, drop, get_or, drop-cons, add-one, reverse, cond, bytes_eq, Bor, refl, sym, ap, ◌∙◌, subst}
+use Rattle.std.proofs.Common.{◌≡◌, ℕ, suc, ◌+◌, ◌<◌, Bool, true, false, not, ◌||◌, List, [], ◌∷◌, ◌++◌, length, drop, get_or, drop-cons, add-one, reverse, cond, bytes_eq, Bor, refl, sym, ap, ◌∙◌, subst}
 use Rattle.std.specs.List.{list_any}
 use Rattle.std.specs.Ordering.{nat_cmp, is_eq}
 use Rattle.std.specs.Cmp.Lexicographic.{slice_cmp}
@@ -43,19 +43,32 @@ kept_old p props kept met is = is ∙ go (list_any (λ later. bytes_eq later.key
     go true e = refl
     go false e = absurd (cc)
 
-module _ (has has' : Bor Bytes → Bool) (props : List FlowProp) (i : ℕ) (within : i < length props) (key : Bor Bytes) where
-  at_place : (d : FlowProp) → drop i props ≡ get_or props i d ∷ drop (i + 1) props
-  at_place d = drop-cons props i d within ∙ ap (λ (k : ℕ). get_or props i d ∷ drop k props) (sym (add-one i))
+module _ (has has' : Bor Bytes → Bool) (props : List FlowProp) (i n : ℕ) (step : n ≡ i + 1) (within : i < length props) (key : Bor Bytes) where
+  at_place : (p : FlowProp) → p ≡ get_or props i p → drop i props ≡ p ∷ drop n props
+  at_place p at = drop-cons props i p within ∙ ap (λ (q : FlowProp). q ∷ drop (suc i) props) (sym at) ∙ ap (λ (k : ℕ). p ∷ drop k props) (sym (add-one i) ∙ sym step)
+
+  of_key : (p : FlowProp) → key.now ≡ p.key → Adds has has' key.now → Adds has has' p.key
+  of_key p same adds = subst (Adds has has') same adds
+
+  -- whether the key was met
+  met_is : (p : FlowProp) → key.now ≡ p.key → Tells has (drop n props) → has key ≡ list_any (λ later. bytes_eq later.key p.key) (drop n props)
+  met_is p same tells = tells key ∙ ap (λ (k : Bytes). list_any (λ later. bytes_eq later.key k) (drop n props)) same
 
   -- a turn at a key that was not met before, and at one that was
-  pub turn_new : (p : FlowProp) (kept : List FlowProp) → p ≡ get_or props i p → key.now ≡ p.key → has key ≡ false → Adds has has' p.key → IsKept has kept (drop (i + 1) props) → IsKept has' (kept ++ p ∷ []) (drop i props)
+  pub turn_new : (p : FlowProp) (kept : List FlowProp) → p ≡ get_or props i p → key.now ≡ p.key → true ≡ not (has key) → Adds has has' key.now → IsKept has kept (drop n props) → IsKept has' (kept ++ p ∷ []) (drop i props)
   turn_new p kept at same fresh adds (is, tells) =
-      subst (IsKept has' (kept ++ p ∷ [])) (sym (at_place p ∙ ap (λ (w : FlowProp). w ∷ drop (i + 1) props) (sym at)))
-        (kept_new p (drop (i + 1) props) kept (ap (λ (k : Bytes). list_any (λ later. bytes_eq later.key k) (drop (i + 1) props)) (sym same) ∙ sym (tells key) ∙ fresh) is,
-         more_told has has' p (drop (i + 1) props) tells adds)
+      subst (IsKept has' (kept ++ p ∷ [])) (sym (at_place p at))
+        (kept_new p (drop n props) kept (sym (met_is p same tells) ∙ off (has key) fresh) is, more_told has has' p (drop n props) tells (of_key p same adds))
+    where
+      off : (b : Bool) → true ≡ not b → b ≡ false
+      off true e = absurd (cc)
+      off false e = refl
 
-  pub turn_old : (p : FlowProp) (kept : List FlowProp) → p ≡ get_or props i p → key.now ≡ p.key → has key ≡ true → Adds has has' p.key → IsKept has kept (drop (i + 1) props) → IsKept has' kept (drop i props)
+  pub turn_old : (p : FlowProp) (kept : List FlowProp) → p ≡ get_or props i p → key.now ≡ p.key → false ≡ not (has key) → Adds has has' key.now → IsKept has kept (drop n props) → IsKept has' kept (drop i props)
   turn_old p kept at same met adds (is, tells) =
-      subst (IsKept has' kept) (sym (at_place p ∙ ap (λ (w : FlowProp). w ∷ drop (i + 1) props) (sym at)))
-        (kept_old p (drop (i + 1) props) kept (ap (λ (k : Bytes). list_any (λ later. bytes_eq later.key k) (drop (i + 1) props)) (sym same) ∙ sym (tells key) ∙ met) is,
-         more_told has has' p (drop (i + 1) props) tells adds)
+      subst (IsKept has' kept) (sym (at_place p at))
+        (kept_old p (drop n props) kept (sym (met_is p same tells) ∙ on (has key) met) is, more_told has has' p (drop n props) tells (of_key p same adds))
+    where
+      on : (b : Bool) → false ≡ not b → b ≡ true
+      on true e = refl
+      on false e = absurd (cc)

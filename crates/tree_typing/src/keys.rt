@@ -14,10 +14,11 @@ pub fn last_of_each(alloc: Global, props: &[FlowProp]) -> Result<List<FlowProp>,
     let mut keys = BTreeSet::new(alloc);
     let mut kept = Vec::new(alloc);
     for i in (0..props.len()).rev() {
-        if !keys.insert(props[i].key.as_bytes())? {
+        let prop = &props[i];
+        if !keys.insert(prop.key.as_bytes())? {
             continue;
         }
-        kept.push(props[i].share()?)?;
+        kept.push(prop.share()?)?;
     }
     kept.reverse();
     Ok(List::from_vec(kept))

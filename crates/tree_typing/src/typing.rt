@@ -47,7 +47,6 @@ fn union_of(alloc: Global, mut types: List<FlowType>) -> Result<FlowType, NoMemo
 }
 
 #[cycle(typing)]
-#[tactic(auto, using(crate::proofs::TypeLists::type_lists))]
 fn member_types<N: Names>(
     alloc: Global,
     names: &N,
@@ -71,7 +70,7 @@ fn member_type<N: Names>(alloc: Global, names: &N, member: &PreTree) -> Result<F
 }
 
 // A type with `?` before it, for each mark.
-#[tactic(auto, using(crate::proofs::TypeLists::places_more))]
+#[tactic(auto, using(crate::proofs::TypeLists::places_more), unfolding(type_tree::specs::View::places_view))]
 fn maybe(alloc: Global, inner: FlowType, marks: &[usize]) -> Result<FlowType, NoMemory>
     ensures { IfOk result (λ t. t ≡ maybe (places_view marks.now) inner) }
 {
@@ -87,7 +86,7 @@ fn maybe(alloc: Global, inner: FlowType, marks: &[usize]) -> Result<FlowType, No
 }
 
 // Arrays of a type, for each pair of brackets.
-#[tactic(auto, using(crate::proofs::TypeLists::places_more))]
+#[tactic(auto, using(crate::proofs::TypeLists::places_more), unfolding(type_tree::specs::View::places_view))]
 fn array_of(alloc: Global, inner: FlowType, pairs: &[usize]) -> Result<FlowType, NoMemory>
     ensures { IfOk result (λ t. t ≡ array_of (places_view pairs.now) inner) }
 {
@@ -185,7 +184,6 @@ fn is_exact(ending: Ending) -> bool
 }
 
 #[cycle(typing)]
-#[tactic(auto, using(crate::proofs::TypeLists::type_lists))]
 fn element_types<N: Names>(
     alloc: Global,
     names: &N,
@@ -201,7 +199,6 @@ fn element_types<N: Names>(
 }
 
 #[cycle(typing)]
-#[tactic(auto, using(crate::proofs::TypeLists::type_lists))]
 fn param_types<N: Names>(
     alloc: Global,
     names: &N,
@@ -240,7 +237,6 @@ fn named_param<N: Names>(alloc: Global, names: &N, param: &NamedParam) -> Result
 }
 
 #[cycle(typing)]
-#[tactic(auto, using(crate::proofs::TypeLists::type_lists))]
 fn prop_types<N: Names>(
     alloc: Global,
     names: &N,

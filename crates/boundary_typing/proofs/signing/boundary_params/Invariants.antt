@@ -5,4 +5,4 @@ use Rattle.boundary_typing.proofs.signing.boundary_params.Given as goal
 
 -- those so far are told
 abbrev pub invariant-loop-i : goal.invariant-loop-i
-invariant-loop-i g l = boundary_params (g.N.stands_for l.names) (parameters_view (take l.i l.parameters)) ≡ Some l.all
+invariant-loop-i g l = boundary_params (g.N.Names.stands_for l.names) (parameters_view (take l.i l.parameters)) ≡ Some l.all
