@@ -1,13 +1,17 @@
 -- The specifiers of items in order, each at its first place.
-use Rattle.std.proofs.Common.{◌≡◌, ℕ, ◌+◌, ◌<◌, Bool, true, false, not, ◌||◌, List, [], ◌∷◌, ◌++◌, map, filter, length, take, get_or, take-suc, add-one, cond, bytes_eq, Bor, refl, sym, ap, ◌∙◌, append_assoc, append-nil}
+use Rattle.std.proofs.Common.{◌≡◌, ℕ, ◌+◌, ◌<◌, Bool, true, false, not, ◌||◌, List, [], ◌∷◌, ◌++◌, map, filter, length, take, get_or, take-suc, add-one, cond, bytes_eq, Bor, refl, sym, ap, ◌∙◌, subst, append_assoc, append-nil}
 use Rattle.std.specs.List.{flat_map}
 use Rattle.std.specs.Ordering.{nat_cmp, is_eq}
-use Rattle.std.specs.Cmp.Lexicographic.{slice_cmp}
+use Rattle.std.specs.Cmp.Lexicographic.{slice_cmp, bytes_decides}
+use Rattle.std.proofs.lemmas.Map.Text.{is_eq-slice_cmp}
 use Rattle.js_grammar.specs.Items.{Items, no_item, more_item}
 use Rattle.js_tree.specs.View.{item_view, items_view, items_from}
 use Rattle.js_tree.specs.declared.items.Item.{Item}
 use Rattle.module_resolution.specs.Dependencies.{specifiers_of, specifiers_in}
 use Rattle.check_values.specs.Rows.{Bytes, is_among, distinct}
+use Rattle.check_values.specs.declared.signatures.DepRow.{DepRow}
+use Rattle.module_resolution.specs.Resolution.{resolved}
+use Rattle.module_deps.specs.Listing.{rows_for}
 
 flat-append : {A B : Type 0} (f : A → List B) (xs : List A) (x : A) → flat_map f (xs ++ x ∷ []) ≡ flat_map f xs ++ f x
 flat-append f [] x = append-nil (f x)
@@ -51,6 +55,28 @@ distinct_more (x ∷ xs) y = go (is_among xs y) (bytes_eq y x) refl (distinct_mo
 
 -- ---- a set of those so far
 
+bytes_turned : (a b : Bytes) → bytes_eq a b ≡ bytes_eq b a
+bytes_turned a b = go (bytes_eq a b) (bytes_eq b a) refl refl
+  where
+    go : (c d : Bool) → bytes_eq a b ≡ c → bytes_eq b a ≡ d → c ≡ d
+    go true true e f = refl
+    go false false e f = refl
+    go true false e f = sym ((bytes_decides b a).1 (sym ((bytes_decides a b).0 e))) ∙ f
+    go false true e f = sym e ∙ (bytes_decides a b).1 (sym ((bytes_decides b a).0 f))
+
+among-last : (xs : List Bytes) (y q : Bytes) → is_among (xs ++ y ∷ []) q ≡ cond (bytes_eq q y) true (is_among xs q)
+among-last [] y q = go (bytes_eq q y)
+  where
+    go : (b : Bool) → b || false ≡ cond b true false
+    go true = refl
+    go false = refl
+among-last (x ∷ xs) y q = ap (λ (b : Bool). bytes_eq q x || b) (among-last xs y q) ∙ go (bytes_eq q x) (bytes_eq q y)
+  where
+    go : (a b : Bool) → a || cond b true (is_among xs q) ≡ cond b true (a || is_among xs q)
+    go true true = refl
+    go true false = refl
+    go false b = refl
+
 -- the test also passes this one
 abbrev pub Adds : (Bor Bytes → Bool) → (Bor Bytes → Bool) → Bytes → Type 0
 Adds has has' word = (q : Bor Bytes) → has' q ≡ cond (is_eq (slice_cmp nat_cmp word q.now)) true (has q)
@@ -59,8 +85,60 @@ Adds has has' word = (q : Bor Bytes) → has' q ≡ cond (is_eq (slice_cmp nat_c
 abbrev pub Tells : (Bor Bytes → Bool) → List Bytes → Type 0
 Tells has words = (q : Bor Bytes) → has q ≡ is_among words q.now
 
-or_cond : (b c : Bool) → cond b true c ≡ c || b
-or_cond true true = refl
-or_cond true false = refl
-or_cond false true = refl
-or_cond false false = refl
+more_told : (has has' : Bor Bytes → Bool) (words : List Bytes) (word : Bytes) → Tells has words → Adds has has' word → Tells has' (words ++ word ∷ [])
+more_told has has' words word tells adds q =
+    adds q ∙ ap (λ (b : Bool). cond b true (has q)) (is_eq-slice_cmp word q.now ∙ bytes_turned word q.now) ∙ ap (λ (c : Bool). cond (bytes_eq q.now word) true c) (tells q) ∙ sym (among-last words word q.now)
+
+map-last : {A B : Type 0} (f : A → B) (xs : List A) (x : A) → map f (xs ++ x ∷ []) ≡ map f xs ++ f x ∷ []
+map-last f [] x = refl
+map-last {A} {B} f (z ∷ xs) x = ap (λ (l : List B). f z ∷ l) (map-last f xs x)
+
+-- the words so far
+abbrev pub so_far : List (Bor Bytes) → ℕ → List Bytes
+so_far specs i = map (λ s. s.now) (take i specs)
+
+so_far-suc : (specs : List (Bor Bytes)) (i : ℕ) (s : Bor Bytes) → i < length specs → so_far specs (i + 1) ≡ so_far specs i ++ (get_or specs i s).now ∷ []
+so_far-suc specs i s within = ap (λ (k : ℕ). so_far specs k) (add-one i) ∙ ap (map (λ (s : Bor Bytes). s.now)) (take-suc specs i s within) ∙ map-last (λ (s : Bor Bytes). s.now) (take i specs) (get_or specs i s)
+
+module _ (paths : List Bytes) (from : Bytes) where
+  abbrev row_of : Bytes → DepRow
+  row_of spec = record { spec = spec; found = resolved paths from spec }
+
+  -- the rows so far are those of the words so far, and the set has these
+  abbrev pub AreRows : (Bor Bytes → Bool) → List DepRow → List Bytes → Type 0
+  AreRows has rows words = (rows ≡ rows_for paths from (distinct words)) × Tells has words
+
+  module _ (has has' : Bor Bytes → Bool) (specs : List (Bor Bytes)) (i : ℕ) (within : i < length specs) (rows : List DepRow) (key : Bor Bytes) (word : Bytes) (same : key.now ≡ word) (adds : Adds has has' key.now) (at : (d : Bor Bytes) → (get_or specs i d).now ≡ word) where
+    told_more : Tells has (so_far specs i) → Tells has' (so_far specs i ++ word ∷ [])
+    told_more tells = more_told has has' (so_far specs i) word tells (subst (Adds has has') same adds)
+
+    among_is : Tells has (so_far specs i) → has key ≡ is_among (so_far specs i) word
+    among_is tells = tells key ∙ ap (is_among (so_far specs i)) same
+
+    next : (so_far specs i ++ word ∷ []) ≡ so_far specs (i + 1)
+    next = ap (λ (w : Bytes). so_far specs i ++ w ∷ []) (sym (at key)) ∙ sym (so_far-suc specs i key within)
+
+    -- a turn at a word that was not met before, and at one that was
+    pub turn_new : true ≡ not (has key) → AreRows has rows (so_far specs i) → AreRows has' (rows ++ row_of word ∷ []) (so_far specs (i + 1))
+    turn_new fresh (is, tells) = subst (AreRows has' (rows ++ row_of word ∷ [])) next (all, told_more tells)
+      where
+        off : (b : Bool) → true ≡ not b → b ≡ false
+        off true e = absurd (cc)
+        off false e = refl
+
+        all : rows ++ row_of word ∷ [] ≡ rows_for paths from (distinct (so_far specs i ++ word ∷ []))
+        all = ap (λ (l : List DepRow). l ++ row_of word ∷ []) is ∙ sym (map-last row_of (distinct (so_far specs i)) word)
+            ∙ ap (λ (b : Bool). rows_for paths from (cond b (distinct (so_far specs i)) (distinct (so_far specs i) ++ word ∷ []))) (sym (sym (among_is tells) ∙ off (has key) fresh))
+            ∙ ap (rows_for paths from) (sym (distinct_more (so_far specs i) word))
+
+    pub turn_old : false ≡ not (has key) → AreRows has rows (so_far specs i) → AreRows has' rows (so_far specs (i + 1))
+    turn_old met (is, tells) = subst (AreRows has' rows) next (all, told_more tells)
+      where
+        on : (b : Bool) → false ≡ not b → b ≡ true
+        on true e = refl
+        on false e = absurd (cc)
+
+        all : rows ≡ rows_for paths from (distinct (so_far specs i ++ word ∷ []))
+        all = is
+            ∙ ap (λ (b : Bool). rows_for paths from (cond b (distinct (so_far specs i)) (distinct (so_far specs i) ++ word ∷ []))) (sym (sym (among_is tells) ∙ on (has key) met))
+            ∙ ap (rows_for paths from) (sym (distinct_more (so_far specs i) word))

@@ -74,9 +74,11 @@ fn rows_for(
     let mut seen = BTreeSet::new(alloc);
     let mut rows = List::new(alloc);
     for i in 0..specs.len() {
-        if seen.insert(specs[i].as_bytes())? {
-            rows.push(row_for(alloc, root, from, specs[i])?)?;
+        let spec = specs[i];
+        if !seen.insert(spec.as_bytes())? {
+            continue;
         }
+        rows.push(row_for(alloc, root, from, spec)?)?;
     }
     Ok(rows)
 }

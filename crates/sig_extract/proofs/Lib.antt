@@ -4,3 +4,4 @@ pub mod Listed
 pub mod NamesIn
 pub mod Search
 pub mod Whole
+pub mod OwnPath
