@@ -1,8 +1,8 @@
 -- The first row of each name.
-use Rattle.std.proofs.Common.{◌≡◌, ℕ, suc, ◌+◌, ◌<◌, Bool, true, false, not, ◌||◌, List, [], ◌∷◌, ◌++◌, map, filter, length, take, get_or, take-suc, add-one, Option, Some, None, cond, bytes_eq, refl, sym, ap, ◌∙◌, append-nil}
+use Rattle.std.proofs.Common.{◌≡◌, ℕ, suc, ◌+◌, ◌<◌, Bool, true, false, not, ◌||◌, List, [], ◌∷◌, ◌++◌, map, filter, length, take, get_or, take-suc, add-one, Option, Some, None, cond, bytes_eq, refl, sym, ap, ◌∙◌, subst, append-nil}
 use Rattle.std.specs.Ordering.{nat_cmp, is_eq}
 use Rattle.std.specs.Cmp.Lexicographic.{slice_cmp, nat_list_cmp_total, bytes_decides}
-use Rattle.std.specs.BTreeMap.{is_at}
+use Rattle.std.specs.BTreeMap.{BTreeMap, get, is_at}
 use Rattle.std.specs.Map.{lookup}
 use Rattle.std.specs.Option.{option_map}
 use Rattle.std.specs.declared.cmp.Ordering.{Ordering}
@@ -82,19 +82,29 @@ module _ {X : Type 0} where
   taken : (rows : Rows X) (i : ℕ) (row : Bytes × X) → i < length rows → row ≡ get_or rows i row → take (i + 1) rows ≡ take i rows ++ row ∷ []
   taken rows i row within at = ap (λ (k : ℕ). take k rows) (add-one i) ∙ take-suc rows i row within ∙ ap (λ (r : Bytes × X). take i rows ++ r ∷ []) (sym at)
 
-  pub turn_new : (has has' : Bytes → Bool) (firsts rows : Rows X) (i : ℕ) (row : Bytes × X) → i < length rows → row ≡ get_or rows i row → has row.0 ≡ false → Adds has has' row.0 → AreFirst has firsts (take i rows) → AreFirst has' (firsts ++ row ∷ []) (take (i + 1) rows)
-  turn_new has has' firsts rows i row within at fresh adds (is, told) =
-      (ap (λ (l : Rows X). l ++ row ∷ []) is
-       ∙ ap (λ (b : Bool). cond b (first_of_each (take i rows)) (first_of_each (take i rows) ++ row ∷ [])) (sym (sym (told row.0) ∙ fresh))
-       ∙ sym (first_more (take i rows) row) ∙ ap first_of_each (sym (taken rows i row within at)),
-       λ q. has_more has has' (take i rows) row told adds q ∙ ap (λ (l : Rows X). is_among (names_in l) q) (sym (taken rows i row within at)))
+  module _ (has has' : Bytes → Bool) (firsts rows : Rows X) (i : ℕ) (row : Bytes × X) (within : i < length rows) (at : row ≡ get_or rows i row) (key : Bytes) (same : key ≡ row.0) (adds : Adds has has' key) where
+    told_next : ((q : Bytes) → has q ≡ is_among (names_in (take i rows)) q) → (q : Bytes) → has' q ≡ is_among (names_in (take (i + 1) rows)) q
+    told_next told q = has_more has has' (take i rows) row told (subst (Adds has has') same adds) q ∙ ap (λ (l : Rows X). is_among (names_in l) q) (sym (taken rows i row within at))
 
-  pub turn_old : (has has' : Bytes → Bool) (firsts rows : Rows X) (i : ℕ) (row : Bytes × X) → i < length rows → row ≡ get_or rows i row → has row.0 ≡ true → Adds has has' row.0 → AreFirst has firsts (take i rows) → AreFirst has' firsts (take (i + 1) rows)
-  turn_old has has' firsts rows i row within at met adds (is, told) =
-      (is
-       ∙ ap (λ (b : Bool). cond b (first_of_each (take i rows)) (first_of_each (take i rows) ++ row ∷ [])) (sym (sym (told row.0) ∙ met))
-       ∙ sym (first_more (take i rows) row) ∙ ap first_of_each (sym (taken rows i row within at)),
-       λ q. has_more has has' (take i rows) row told adds q ∙ ap (λ (l : Rows X). is_among (names_in l) q) (sym (taken rows i row within at)))
+    first_next : (b : Bool) → ((q : Bytes) → has q ≡ is_among (names_in (take i rows)) q) → has key ≡ b → cond b (first_of_each (take i rows)) (first_of_each (take i rows) ++ row ∷ []) ≡ first_of_each (take (i + 1) rows)
+    first_next b told is =
+        ap (λ (b : Bool). cond b (first_of_each (take i rows)) (first_of_each (take i rows) ++ row ∷ [])) (sym is ∙ told key ∙ ap (is_among (names_in (take i rows))) same)
+        ∙ sym (first_more (take i rows) row) ∙ ap first_of_each (sym (taken rows i row within at))
+
+    -- a turn at a name that was not met before, and at one that was
+    pub turn_new : true ≡ not (has key) → AreFirst has firsts (take i rows) → AreFirst has' (firsts ++ row ∷ []) (take (i + 1) rows)
+    turn_new fresh (is, told) = (ap (λ (l : Rows X). l ++ row ∷ []) is ∙ first_next false told (off (has key) fresh), told_next told)
+      where
+        off : (b : Bool) → true ≡ not b → b ≡ false
+        off true e = absurd (cc)
+        off false e = refl
+
+    pub turn_old : false ≡ not (has key) → AreFirst has firsts (take i rows) → AreFirst has' firsts (take (i + 1) rows)
+    turn_old met (is, told) = (is ∙ first_next true told (on (has key) met), told_next told)
+      where
+        on : (b : Bool) → false ≡ not b → b ≡ true
+        on true e = refl
+        on false e = absurd (cc)
 
   -- ---- what stands at a name
 
@@ -168,3 +178,9 @@ module _ {A B : Type 0} (f : A → B) where
       go : (b : Bool) → option_map f (row_at rows word) ≡ row_at (seen f rows) word → option_map f (cond b (Some r.1) (row_at rows word)) ≡ cond b (Some (f r.1)) (row_at (seen f rows) word)
       go true rest = refl
       go false rest = rest
+
+  -- a map of rows in order tells what stands first at a name
+  pub row_named : (names : BTreeMap Bytes A) (rows bindings : Rows A) → names.entries ≡ by_name bindings → rows ≡ first_of_each bindings → (word : Bytes) → option_map f (get (slice_cmp nat_cmp) names word) ≡ row_at (seen f rows) word
+  row_named names rows bindings ordered firsts word =
+      ap (option_map f) (lookup_is_row names.entries word ∙ ap (λ (l : Rows A). row_at l word) ordered ∙ row_at-by_name bindings word ∙ sym (row_at-first bindings word) ∙ ap (λ (l : Rows A). row_at l word) (sym firsts))
+      ∙ row_at-seen rows word

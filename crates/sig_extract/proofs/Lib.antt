@@ -5,3 +5,4 @@ pub mod NamesIn
 pub mod Search
 pub mod Whole
 pub mod OwnPath
+pub mod FaultKeys

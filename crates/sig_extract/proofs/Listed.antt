@@ -1,6 +1,8 @@
 -- The lists of a tree grow at their end; here they are read in order.
-use Rattle.std.proofs.Common.{◌≡◌, ℕ, suc, ◌+◌, ◌<◌, Bool, List, [], ◌∷◌, ◌++◌, map, length, take, get_or, take-suc, add-one, refl, sym, ap, ◌∙◌, append_assoc, append-nil}
-use Rattle.std.specs.List.{flat_map}
+use Rattle.std.proofs.Common.{◌≡◌, ℕ, suc, ◌+◌, ◌<◌, Bool, true, false, cond, Option, Some, None, List, [], ◌∷◌, ◌++◌, map, filter, length, take, get_or, take-suc, add-one, refl, sym, ap, ◌∙◌, append_assoc, append-nil}
+use Rattle.std.specs.List.{flat_map, filter_map, cons_option}
+use Rattle.std.specs.Option.{option_to_list}
+use Rattle.std.proofs.lemmas.List.Elements.{filter_map-append}
 use Rattle.check_values.specs.Rows.{Bytes, Rows}
 use Rattle.js_grammar.specs.Items as g
 use Rattle.js_grammar.specs.Items.{Importeds, no_imported, more_imported, Exporteds, no_exported, more_exported, Items, no_item, more_item}
@@ -64,3 +66,45 @@ flat-map {A} {B} {C} f h (x ∷ xs) = ap (λ (l : List C). f (h x) ++ l) (flat-m
 -- what each item gives, in the order of a module's tree
 pub each_item : {C : Type 0} (f : g.Item → List C) (is : List Item) → flat_map (λ item. f (item_view item)) is ≡ flat_map f (items_from (items_view is))
 each_item f is = sym (ap (flat_map f) (items_in_order is) ∙ flat-map f item_view is)
+
+map-append : {A B : Type 0} (f : A → B) (xs ys : List A) → map f (xs ++ ys) ≡ map f xs ++ map f ys
+map-append f [] ys = refl
+map-append {A} {B} f (x ∷ xs) ys = ap (λ (l : List B). f x ∷ l) (map-append f xs ys)
+
+filter-append : {A : Type 0} (p : A → Bool) (xs ys : List A) → filter p (xs ++ ys) ≡ filter p xs ++ filter p ys
+filter-append p [] ys = refl
+filter-append {A} p (x ∷ xs) ys = go (p x) (filter-append p xs ys)
+  where
+    go : (b : Bool) → filter p (xs ++ ys) ≡ filter p xs ++ filter p ys → cond b (x ∷ filter p (xs ++ ys)) (filter p (xs ++ ys)) ≡ cond b (x ∷ filter p xs) (filter p xs) ++ filter p ys
+    go true rest = ap (λ (l : List A). x ∷ l) rest
+    go false rest = rest
+
+one : {A B : Type 0} (g : A → Option B) (x : A) → filter_map g (x ∷ []) ≡ option_to_list (g x)
+one {A} {B} g x = go (g x)
+  where
+    go : (o : Option B) → cons_option o [] ≡ option_to_list o
+    go None = refl
+    go (Some y) = refl
+
+-- ---- the rows so far
+
+module _ {A B : Type 0} (f : A → B) (rows : Rows A) (i : ℕ) (row : Bytes × A) (within : i < length rows) (at : row ≡ get_or rows i row) where
+  seen_next : seen f (take (i + 1) rows) ≡ seen f (take i rows) ++ (row.0, f row.1) ∷ []
+  seen_next =
+      ap (λ (k : ℕ). seen f (take k rows)) (add-one i) ∙ ap (seen f) (take-suc rows i row within ∙ ap (λ (r : Bytes × A). take i rows ++ r ∷ []) (sym at))
+      ∙ seen_more f (take i rows) row
+
+  pub mapped_next : {C : Type 0} (g : Bytes × B → C) (before after : List C) → before ≡ map g (seen f (take i rows)) → after ≡ before ++ g (row.0, f row.1) ∷ [] → after ≡ map g (seen f (take (i + 1) rows))
+  mapped_next {C} g before after is pushed = pushed ∙ ap (λ (l : List C). l ++ g (row.0, f row.1) ∷ []) is ∙ sym (map-append g (seen f (take i rows)) ((row.0, f row.1) ∷ [])) ∙ ap (map g) (sym seen_next)
+
+  pub joined_next : {C : Type 0} (g : Bytes × B → List C) (before after : List C) → before ≡ flat_map g (seen f (take i rows)) → after ≡ before ++ g (row.0, f row.1) → after ≡ flat_map g (seen f (take (i + 1) rows))
+  joined_next {C} g before after is pushed = pushed ∙ ap (λ (l : List C). l ++ g (row.0, f row.1)) is ∙ sym (flat-append g (seen f (take i rows)) (row.0, f row.1)) ∙ ap (flat_map g) (sym seen_next)
+
+  pub chosen_next : {C : Type 0} (g : Bytes × B → Option C) (before after : List C) → before ≡ filter_map g (seen f (take i rows)) → after ≡ before ++ option_to_list (g (row.0, f row.1)) → after ≡ filter_map g (seen f (take (i + 1) rows))
+  chosen_next {C} g before after is pushed = pushed ∙ ap (λ (l : List C). l ++ option_to_list (g (row.0, f row.1))) is ∙ ap (λ (l : List C). filter_map g (seen f (take i rows)) ++ l) (sym (one g (row.0, f row.1))) ∙ sym (filter_map-append g (seen f (take i rows)) ((row.0, f row.1) ∷ [])) ∙ ap (filter_map g) (sym seen_next)
+
+  -- those that pass a test
+  pub kept_next : {C : Type 0} (g : Bytes × B → Option C) (p : C → Bool) (before after : List C) → before ≡ filter p (filter_map g (seen f (take i rows))) → after ≡ before ++ filter p (option_to_list (g (row.0, f row.1))) → after ≡ filter p (filter_map g (seen f (take (i + 1) rows)))
+  kept_next {C} g p before after is pushed =
+      pushed ∙ ap (λ (l : List C). l ++ filter p (option_to_list (g (row.0, f row.1)))) is ∙ sym (filter-append p (filter_map g (seen f (take i rows))) (option_to_list (g (row.0, f row.1))))
+      ∙ ap (filter p) (chosen_next g (filter_map g (seen f (take i rows))) (filter_map g (seen f (take i rows)) ++ option_to_list (g (row.0, f row.1))) refl refl)

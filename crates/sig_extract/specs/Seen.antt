@@ -2,7 +2,8 @@
 use Rattle.std.specs.Prelude.{ℕ, suc, List, [], ◌∷◌, map, Option, Some, None, unwrap_or}
 use Rattle.std.specs.Option.{option_map}
 use denote.Ref.{Bor}
-use Rattle.check_values.specs.Rows.{Bytes, Rows}
+use Rattle.check_values.specs.Rows.{Bytes, Rows, put}
+use Rattle.check_values.specs.FaultOrder.{fault_cmp}
 use Rattle.code_tree.specs.View.{declaration_view, function_view}
 use Rattle.type_tree.specs.View.{type_view}
 use Rattle.flow_values.specs.declared.span.Span.{Span}
@@ -51,9 +52,10 @@ abbrev pub place_span : List Span → Place → Span
 place_span spans (place.Name first) = span_over spans (suc first) (suc (suc first))
 place_span spans (place.Whole from to) = span_over spans from to
 
--- the fault of an export that tells no type at a place
-abbrev pub place_fault : List Span → Bytes → Place → Fault
-place_fault spans word p = record { span = place_span spans p; code = SignatureVerificationFailure; details = word }
+-- faults put among others that are in order
+abbrev pub put_before : List Fault → List Fault → List Fault
+put_before [] faults = faults
+put_before (fault ∷ more) faults = put fault_cmp fault (put_before more faults)
 
 -- the fault that a key stands for
 abbrev pub key_fault : ℕ × (ℕ × Bytes) → Fault

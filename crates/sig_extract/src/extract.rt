@@ -1,4 +1,4 @@
-ghost use Rattle.std.specs.Prelude.{◌≡◌, ◌++◌, IfOk, OnOk, map, filter};
+ghost use Rattle.std.specs.Prelude.{◌≡◌, ◌++◌, IfOk, OnOk, map, filter, option_to_list};
 ghost use Rattle.std.specs.List.{flat_map, filter_map};
 ghost use Rattle.std.specs.Ordering.{nat_cmp};
 ghost use Rattle.std.specs.Cmp.Lexicographic.{slice_cmp};
@@ -74,8 +74,9 @@ fn origins(alloc: Global, told: &[(Text, Told)]) -> Result<List<(Text, Origin)>,
 {
     let mut origins = List::new(alloc);
     for i in 0..told.len() {
-        let origin = origin_of(alloc, &told[i].1)?;
-        origins.push((told[i].0.share()?, origin))?;
+        let row = &told[i];
+        let origin = origin_of(alloc, &row.1)?;
+        origins.push((row.0.share()?, origin))?;
     }
     Ok(origins)
 }
@@ -100,21 +101,41 @@ fn led_to(alloc: Global, told: &[(Text, Told)]) -> Result<Vec<Text>, NoMemory>
 {
     let mut names = Vec::new(alloc);
     for i in 0..told.len() {
-        lead(&told[i].1, &mut names)?;
+        let row = &told[i];
+        lead(&row.1, &mut names)?;
     }
     Ok(names)
+}
+
+// Puts the alias that a row of a scope is behind others.
+fn add_alias(
+    alloc: Global,
+    scope: &Scope,
+    name: &Text,
+    binding: Binding,
+    aliases: &mut Vec<(Text, FlowType)>,
+) -> Result<(), NoMemory>
+    ensures { OnOk result (aliases.new.items ≡ aliases.old.items ++ option_to_list (alias_row (seen binding_view scope.now.rows.items) (name.now, binding_view binding))) }
+{
+    match binding {
+        Binding::Alias(tree) => {
+            let ty = type_of_tree(alloc, scope, tree)?;
+            aliases.push((name.share()?, ty))?;
+            Ok(())
+        }
+        Binding::Import { .. } | Binding::Variable(_) | Binding::Function(_) => Ok(()),
+    }
 }
 
 // The aliases of a scope, with their types.
 fn aliases(alloc: Global, scope: &Scope) -> Result<Vec<(Text, FlowType)>, NoMemory>
     ensures { IfOk result (λ aliases. aliases.items ≡ filter_map (alias_row (seen binding_view scope.now.rows.items)) (seen binding_view scope.now.rows.items)) }
 {
+    let rows = scope.rows.as_slice();
     let mut aliases = Vec::new(alloc);
-    for i in 0..scope.rows.len() {
-        if let Binding::Alias(tree) = scope.rows[i].1 {
-            let ty = type_of_tree(alloc, scope, tree)?;
-            aliases.push((scope.rows[i].0.share()?, ty))?;
-        }
+    for i in 0..rows.len() {
+        let row = &rows[i];
+        add_alias(alloc, scope, &row.0, row.1, &mut aliases)?;
     }
     Ok(aliases)
 }
@@ -137,28 +158,34 @@ fn reached_aliases(
     Ok(kept)
 }
 
-// The import that a row of a scope is.
-fn import_row(
+// Puts the import that a row of a scope is behind others, where it is reached.
+fn add_import(
     alloc: Global,
+    names: &BTreeSet<Text>,
     local: &Text,
     binding: Binding,
-) -> Result<Option<ImportRow>, NoMemory>
-    ensures { IfOk result (λ row. row ≡ import_row (local.now, binding_view binding)) }
+    kept: &mut List<ImportRow>,
+) -> Result<(), NoMemory>
+    ensures { OnOk result (kept.new ≡ kept.old ++ filter (λ row. contains (slice_cmp nat_cmp) names.now row.local) (option_to_list (import_row (local.now, binding_view binding)))) }
 {
-    let Binding::Import {
-        specifier,
-        name,
-        is_type,
-    } = binding
-    else {
-        return Ok(None);
-    };
-    Ok(Some(ImportRow {
-        local: local.share()?,
-        spec: specifier.share()?,
-        name: name_there(alloc, name)?,
-        is_type,
-    }))
+    match binding {
+        Binding::Import {
+            specifier,
+            name,
+            is_type,
+        } => {
+            if !names.contains(local) {
+                return Ok(());
+            }
+            kept.push(ImportRow {
+                local: local.share()?,
+                spec: specifier.share()?,
+                name: name_there(alloc, name)?,
+                is_type,
+            })
+        }
+        Binding::Variable(_) | Binding::Function(_) | Binding::Alias(_) => Ok(()),
+    }
 }
 
 // The imports that are reached, in the order of the source.
@@ -169,13 +196,11 @@ fn reached_imports(
 ) -> Result<List<ImportRow>, NoMemory>
     ensures { IfOk result (λ kept. kept ≡ filter (λ row. contains (slice_cmp nat_cmp) names.now row.local) (filter_map import_row (seen binding_view scope.now.rows.items))) }
 {
+    let rows = scope.rows.as_slice();
     let mut kept = List::new(alloc);
-    for i in 0..scope.rows.len() {
-        if names.contains(&scope.rows[i].0) {
-            if let Some(row) = import_row(alloc, &scope.rows[i].0, scope.rows[i].1)? {
-                kept.push(row)?;
-            }
-        }
+    for i in 0..rows.len() {
+        let row = &rows[i];
+        add_import(alloc, names, &row.0, row.1, &mut kept)?;
     }
     Ok(kept)
 }

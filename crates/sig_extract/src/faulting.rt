@@ -1,10 +1,9 @@
 // The faults of a signature: the exports whose types no annotation tells.
 ghost use Rattle.std.specs.Prelude.{◌≡◌, map, OnOk, IfOk, slice_index_or};
 ghost use Rattle.std.specs.List.{flat_map};
-ghost use Rattle.check_values.specs.FaultOrder.{fault_cmp, faults_in_order};
-ghost use Rattle.check_values.specs.Rows.{put};
+ghost use Rattle.check_values.specs.FaultOrder.{faults_in_order};
 ghost use Rattle.local_signatures.specs.Faults.{no_span, fault_of};
-ghost use Rattle.sig_extract.specs.Seen.{seen, told_view, place_span, place_fault, key_fault};
+ghost use Rattle.sig_extract.specs.Seen.{seen, told_view, place_span, key_fault, put_before};
 
 use crate::telling::{Place, Told};
 use check_values::{Code, Fault};
@@ -41,17 +40,27 @@ fn span_of(spans: &[Span], place: Place) -> Span
     }
 }
 
+// Puts the fault that an export is, if it is one, among others.
 fn add_fault(
     spans: &[Span],
     name: &Text,
-    place: Place,
+    told: &Told,
     keys: &mut BTreeSet<Key>,
 ) -> Result<(), NoMemory>
-    ensures { OnOk result (map key_fault keys.new.keys ≡ put fault_cmp (place_fault spans.now name.now place) (map key_fault keys.old.keys)) }
+    ensures { OnOk result (map key_fault keys.new.keys ≡ put_before (fault_of spans.now (name.now, told_view told.now)) (map key_fault keys.old.keys)) }
 {
-    let span = span_of(spans, place);
-    keys.insert((span.start, (span.end, name.share()?)))?;
-    Ok(())
+    match told {
+        Told::Value(None, place) => {
+            let span = span_of(spans, *place);
+            keys.insert((span.start, (span.end, name.share()?)))?;
+            Ok(())
+        }
+        Told::Value(Some(_), _)
+        | Told::Alias(_)
+        | Told::Import { .. }
+        | Told::Elsewhere { .. }
+        | Told::Nothing => Ok(()),
+    }
 }
 
 // The faults of all exports.
@@ -64,9 +73,8 @@ fn keys_of(
 {
     let mut keys = BTreeSet::new(alloc);
     for i in (0..told.len()).rev() {
-        if let Told::Value(None, place) = &told[i].1 {
-            add_fault(spans, &told[i].0, *place, &mut keys)?;
-        }
+        let row = &told[i];
+        add_fault(spans, &row.0, &row.1, &mut keys)?;
     }
     Ok(keys)
 }

@@ -7,6 +7,7 @@ use std::alloc::Global;
 use std::collections::{BTreeMap, BTreeSet};
 
 // Rows in order of their names, of those of one name the first one.
+#[tactic(auto, using(crate::proofs::ByName::put_all_none, crate::proofs::ByName::turned))]
 pub fn by_name<T: Drop>(alloc: Global, rows: Vec<(Text, T)>) -> Result<BTreeMap<Text, T>, NoMemory>
     ensures { IfOk result (λ map. map.entries ≡ by_name rows.items) }
 {
@@ -28,9 +29,11 @@ pub fn first_of_each<T: Copy>(
     let mut seen = BTreeSet::new(alloc);
     let mut firsts = Vec::new(alloc);
     for i in 0..rows.len() {
-        if seen.insert(rows[i].0.share()?)? {
-            firsts.push((rows[i].0.share()?, rows[i].1))?;
+        let row = &rows[i];
+        if !seen.insert(row.0.share()?)? {
+            continue;
         }
+        firsts.push((row.0.share()?, row.1))?;
     }
     Ok(firsts)
 }

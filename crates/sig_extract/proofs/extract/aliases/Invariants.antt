@@ -5,4 +5,4 @@ use Rattle.sig_extract.specs.Seen.{seen, binding_view}
 use Rattle.sig_extract.proofs.extract.aliases.Given as goal
 
 abbrev pub invariant-loop-i : goal.invariant-loop-i
-invariant-loop-i l = l.aliases.items ≡ filter_map (alias_row (seen binding_view l.scope.rows.items)) (seen binding_view (take l.i l.scope.rows.items))
+invariant-loop-i l = l.aliases.items ≡ filter_map (alias_row (seen binding_view l.scope.rows.items)) (seen binding_view (take l.i l.rows))

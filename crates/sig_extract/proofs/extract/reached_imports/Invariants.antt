@@ -8,4 +8,4 @@ use Rattle.sig_extract.specs.Seen.{seen, binding_view}
 use Rattle.sig_extract.proofs.extract.reached_imports.Given as goal
 
 abbrev pub invariant-loop-i : goal.invariant-loop-i
-invariant-loop-i l = l.kept ≡ filter (λ row. contains (slice_cmp nat_cmp) l.names row.local) (filter_map import_row (seen binding_view (take l.i l.scope.rows.items)))
+invariant-loop-i l = l.kept ≡ filter (λ row. contains (slice_cmp nat_cmp) l.names row.local) (filter_map import_row (seen binding_view (take l.i l.rows)))
