@@ -1,16 +1,24 @@
 -- Parameters and operands, from the first on.
-use Rattle.std.proofs.Common.{◌≡◌, ℕ, suc, ◌+◌, ◌<◌, List, [], ◌∷◌, ◌++◌, map, length, take, drop, get_or, take-suc, drop-cons, add-one, Option, Some, None, refl, sym, ap, ◌∙◌}
+use Rattle.std.proofs.Common.{◌≡◌, ℕ, zero, suc, ◌-◌, arith, ◌+◌, ◌<◌, List, [], ◌∷◌, ◌++◌, map, length, take, drop, get_or, take-suc, drop-cons, add-one, Option, Some, None, refl, sym, ap, ◌∙◌}
 use Rattle.js_grammar.specs.Words.{Bytes}
 use Rattle.js_grammar.specs.Code as g
-use Rattle.js_grammar.specs.Code.{Parameters, no_parameter, more_parameter, Operands, no_operand, more_operand}
+use Rattle.js_grammar.specs.Code.{Parameters, no_parameter, more_parameter, Operands, no_operand, more_operand, operand, as_type, right_side}
 use Rattle.type_values.specs.declared.types.FlowType.{FlowType}
 use Rattle.type_values.specs.declared.types.Param.{Param}
-use Rattle.local_signatures.specs.Boundary.{also, boundary_param, boundary_params}
+use Rattle.local_signatures.specs.Boundary.{also, boundary_param, boundary_params, cast_type}
+use Rattle.std.specs.List.{slice_get}
+use Rattle.tree_types.specs.TreeTypes.{type_of}
+use Rattle.type_tree.specs.View.{type_view}
+use Rattle.type_tree.specs.declared.types.TypeTree.{TypeTree}
 use Rattle.code_tree.specs.Flat.{parameter_view, parameters_view, parameters_from}
-use Rattle.code_tree.specs.View.{operand_view, operands_view}
+use Rattle.code_tree.specs.View.{operand_view, operand_form_view, operands_view}
 use Rattle.code_tree.specs.Steps.{operands_from}
 use Rattle.code_tree.specs.declared.types.Parameter.{Parameter}
 use Rattle.code_tree.specs.declared.types.Operand.{Operand}
+use Rattle.code_tree.specs.declared.types.OperandForm.{OperandForm}
+use Rattle.code_tree.specs.declared.types.OperandForm as form
+use Rattle.code_tree.specs.declared.types.Operator.{Operator}
+use Rattle.code_tree.specs.declared.types.Expr.{Expr}
 
 parameters_last : (acc : Parameters) (ps : List g.Parameter) (p : g.Parameter) → parameters_from acc (ps ++ p ∷ []) ≡ more_parameter (parameters_from acc ps) p
 parameters_last acc [] p = refl
@@ -60,7 +68,7 @@ module _ (alias_at : Bytes → FlowType) where
   map-parted {A} {B} f (x ∷ xs) ys = ap (λ (l : List B). f x ∷ l) (map-parted f xs ys)
 
   parted : {A : Type 0} (n : ℕ) (xs : List A) → take n xs ++ drop n xs ≡ xs
-  parted 0 xs = refl
+  parted zero xs = refl
   parted (suc n) [] = refl
   parted {A} (suc n) (x ∷ xs) = ap (λ (l : List A). x ∷ l) (parted n xs)
 
@@ -75,5 +83,48 @@ module _ (alias_at : Bytes → FlowType) where
         (told_more ps i p within
         ∙ ap (λ (q : Parameter). also (boundary_params alias_at (parameters_view (take i ps))) (boundary_param alias_at (parameter_view q))) (sym at)
         ∙ ap (also (boundary_params alias_at (parameters_view (take i ps)))) is ∙ also_none (boundary_params alias_at (parameters_view (take i ps))))
+
+  pub told_next : (ps : List Parameter) (i : ℕ) (p : Parameter) → i < length ps → p ≡ get_or ps i p → (all : List Param) (param : Param) → boundary_params alias_at (parameters_view (take i ps)) ≡ Some all → boundary_param alias_at (parameter_view p) ≡ Some param → boundary_params alias_at (parameters_view (take (i + 1) ps)) ≡ Some (all ++ param ∷ [])
+  told_next ps i p within at all param is told =
+      told_more ps i p within
+      ∙ ap (λ (q : Parameter). also (boundary_params alias_at (parameters_view (take i ps))) (boundary_param alias_at (parameter_view q))) (sym at)
+      ∙ ap (λ (o : Option (List Param)). also o (boundary_param alias_at (parameter_view p))) is ∙ ap (also (Some all)) told
+
+  -- ---- the last operand
+
+  cast_alike : (before other : Operands) (o : g.Operand) → cast_type alias_at (more_operand before o) ≡ cast_type alias_at (more_operand other o)
+  cast_alike before other (operand first end (as_type t)) = refl
+  cast_alike before other (operand first end (right_side op side)) = refl
+
+  front_of : (os : List Operand) (n : ℕ) (o : Operand) → suc n ≡ length os → slice_get os n ≡ Some o → (front : List Operand) × (os ≡ front ++ o ∷ [])
+  front_of [] n o e is = absurd (omega arith)
+  front_of (x ∷ []) zero o e is = ([], ap (λ (y : Operand). y ∷ []) (cc))
+  front_of (x ∷ []) (suc n) o e is = absurd (omega arith)
+  front_of (x ∷ y ∷ os) zero o e is = absurd (omega arith)
+  front_of (x ∷ y ∷ os) (suc n) o e is = let r = front_of (y ∷ os) n o (omega arith) is in (x ∷ r.0, ap (λ (l : List Operand). x ∷ l) r.1)
+
+  some_at : (os : List Operand) (n : ℕ) → n < length os → slice_get os n ≡ None → ⊥
+  some_at [] n within is = omega arith
+  some_at (x ∷ os) zero within is = cc
+  some_at (x ∷ os) (suc n) within is = some_at os n (omega arith) is
+
+  pub cast_none : (os : List Operand) → None ≡ slice_get os (length os - 1) → None ≡ cast_type alias_at (operands_view os)
+  unfolding operands_view
+  cast_none [] is = refl
+  cast_none (x ∷ os) is = absurd (some_at (x ∷ os) (length (x ∷ os) - 1) (omega arith) (sym is))
+
+  cast_last : (os : List Operand) (o : Operand) → Some o ≡ slice_get os (length os - 1) → cast_type alias_at (operands_view os) ≡ cast_type alias_at (more_operand no_operand (operand_view o))
+  cast_last [] o is = absurd (cc)
+  cast_last (x ∷ os) o is =
+      let r = front_of (x ∷ os) (length (x ∷ os) - 1) o (omega arith) (sym is) in
+      ap (λ (l : List Operand). cast_type alias_at (operands_view l)) r.1 ∙ ap (cast_type alias_at) (operands_last r.0 o) ∙ cast_alike (operands_view r.0) no_operand (operand_view o)
+
+  pub cast_as : (os : List Operand) (o : Operand) (t : TypeTree) → Some o ≡ slice_get os (length os - 1) → o.form ≡ form.As t → cast_type alias_at (operands_view os) ≡ Some (type_of alias_at (type_view t))
+  unfolding operand_view operand_form_view
+  cast_as os o t is as_is = cast_last os o is ∙ ap (λ (f : OperandForm). cast_type alias_at (more_operand no_operand (g.operand o.first o.end (operand_form_view f)))) as_is
+
+  pub cast_right : (os : List Operand) (o : Operand) (op : Operator) (side : Expr) → Some o ≡ slice_get os (length os - 1) → o.form ≡ form.Right op side → None ≡ cast_type alias_at (operands_view os)
+  unfolding operand_view operand_form_view
+  cast_right os o op side is right_is = sym (cast_last os o is ∙ ap (λ (f : OperandForm). cast_type alias_at (more_operand no_operand (g.operand o.first o.end (operand_form_view f)))) right_is)
 
 pub ruleset parameters_told = (told_more, not_told)

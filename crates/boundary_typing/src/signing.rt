@@ -30,7 +30,7 @@ fn boundary_param<N: Names>(
 }
 
 // All parameters, where each has an annotation.
-#[tactic(auto, using(crate::proofs::Told::parameters_told))]
+#[tactic(auto, using(crate::proofs::Told::parameters_told), unfolding(code_tree::specs::Flat::parameters_view))]
 fn boundary_params<N: Names>(
     alloc: Global,
     names: &N,

@@ -16,7 +16,6 @@ use type_tree::TypeTree;
 use type_values::FlowType;
 
 // The type behind a last `as`.
-#[tactic(auto, using(crate::proofs::Told::operands_last))]
 fn cast_type<N: Names>(
     alloc: Global,
     names: &N,

@@ -96,7 +96,7 @@ pub fn deps_of(
     module: &Module,
 ) -> Result<Deps, NoMemory>
     requires rising { IsRising (paths_of root.now) }
-    ensures rows { IfOk result (λ deps. deps ≡ dependencies (paths_of root.now) from.now (module_view module.now)) }
+    ensures rows { IfOk result (λ deps. deps ≡ dependencies (paths_of root.now) from.now (module_view «module».now)) }
 {
     let specs = specifiers_in(alloc, module.items.as_slice())?;
     let rows = rows_for(alloc, root, from, specs.as_slice())?;

@@ -1,5 +1,5 @@
 -- A search along aliases: a step of it, and where it ends.
-use Rattle.std.proofs.Common.{◌≡◌, ◌↔◌, ℕ, ◌+◌, ◌<◌, ◌≤◌, Bool, true, false, ◌||◌, List, [], ◌∷◌, ◌++◌, length, length-append, Option, Some, None, cond, bytes_eq, refl, sym, ap, ◌∙◌, ◌⊎◌, inl, inr, subst, arith}
+use Rattle.std.proofs.Common.{◌≡◌, ◌↔◌, ℕ, suc, ◌+◌, ◌<◌, ◌≤◌, Bool, true, false, ◌||◌, List, [], ◌∷◌, ◌++◌, length, length-append, Option, Some, None, cond, bytes_eq, refl, sym, ap, ◌∙◌, ◌⊎◌, inl, inr, subst, arith}
 use Rattle.std.specs.List.{sum_by}
 use Rattle.std.specs.Ordering.{nat_cmp, is_eq}
 use Rattle.std.specs.Cmp.Lexicographic.{slice_cmp, bytes_decides}
@@ -150,3 +150,27 @@ unread_less has has' word fresh adds (row ∷ rows) = go (bytes_eq row.0 word) r
     go : (b : Bool) → bytes_eq row.0 word ≡ b → cond (has' row.0) 0 (length (led_to_by_type row.1)) + unread has' rows + length (led_to_by (cond b (Some row.1) (row_at rows word))) ≤ cond (has row.0) 0 (length (led_to_by_type row.1)) + unread has rows
     go true e = there (bytes_same row.0 word e)
     go false e = else_where (has row.0) (has' row.0) refl refl (unread_less has has' word fresh adds rows)
+
+-- ---- one step
+
+-- what one step keeps, and that it falls
+abbrev pub Steps : Rows FlowType → (Bytes → Bool) → List Bytes → (Bytes → Bool) → List Bytes → Type 0
+Steps aliases has waiting has' waiting' = (starts : List Bytes) → Reaches aliases starts has waiting → Reaches aliases starts has' waiting'
+
+longer : (waiting : List Bytes) (word : Bytes) → length (waiting ++ word ∷ []) ≡ suc (length waiting)
+longer [] word = refl
+longer (w ∷ waiting) word = ap suc (longer waiting word)
+
+length-both : (a b : List Bytes) → length (a ++ b) ≡ length a + length b
+length-both [] b = refl
+length-both (x ∷ a) b = ap suc (length-both a b)
+
+pub again_falls : (n : ℕ) (waiting : List Bytes) (word : Bytes) → n + length waiting < n + length (waiting ++ word ∷ [])
+again_falls n waiting word = let e = longer waiting word in omega arith
+
+pub first_falls : (has has' : Bytes → Bool) (aliases : Rows FlowType) (waiting : List Bytes) (word : Bytes) → has word ≡ false → Adds has has' word → unread has' aliases + length (waiting ++ led_to_by (row_at aliases word)) < unread has aliases + length (waiting ++ word ∷ [])
+first_falls has has' aliases waiting word fresh adds =
+    let e = longer waiting word in
+    let f = length-both waiting (led_to_by (row_at aliases word)) in
+    let less = unread_less has has' word fresh adds aliases in
+    omega arith

@@ -242,8 +242,8 @@ pub fn extract(
     module: &Module,
     spans: &[Span],
 ) -> Result<(LocalSig, List<Fault>), NoMemory>
-    ensures signature { IfOk result (λ found. found.0 ≡ local_signature (module_view module.now)) }
-    ensures faults { IfOk result (λ found. found.1 ≡ signature_faults (module_view module.now) spans.now) }
+    ensures signature { IfOk result (λ found. found.0 ≡ local_signature (module_view «module».now)) }
+    ensures faults { IfOk result (λ found. found.1 ≡ signature_faults (module_view «module».now) spans.now) }
 {
     let items = module.items.as_slice();
     let scope = Scope::new(alloc, bindings(alloc, items)?)?;

@@ -3,6 +3,8 @@ ghost use Rattle.std.specs.Prelude.{◌≡◌, ◌<◌, ◌+◌, ◌++◌, ◌�
 ghost use Rattle.std.specs.Ordering.{nat_cmp};
 ghost use Rattle.std.specs.Cmp.Lexicographic.{slice_cmp};
 ghost use Rattle.std.specs.BTreeSet.{contains};
+ghost use Rattle.check_values.specs.Rows.{row_at};
+ghost use Rattle.local_signatures.specs.LocalSignature.{led_to_by};
 ghost use Rattle.sig_extract.specs.Reaching.{IsReachedFrom, Reaches, unread};
 
 use crate::naming::add_names;
@@ -10,6 +12,21 @@ use flow_values::{NoMemory, Text};
 use std::alloc::Global;
 use std::collections::{BTreeMap, BTreeSet};
 use type_values::FlowType;
+
+// Puts the names in the type of an alias behind those that wait; a name that is no alias has none.
+#[tactic(auto, using(crate::proofs::FirstRows::lookup_is_row))]
+fn lead_on(
+    aliases: &BTreeMap<Text, FlowType>,
+    word: &Text,
+    waiting: &mut Vec<Text>,
+) -> Result<(), NoMemory>
+    ensures { OnOk result (waiting.new.items ≡ waiting.old.items ++ led_to_by (row_at aliases.now.entries word.now)) }
+{
+    match aliases.get(word) {
+        Some(ty) => add_names(ty, waiting),
+        None => Ok(()),
+    }
+}
 
 // Reaches a name: those in its type wait, where it is an alias that was not reached before.
 fn visit(
@@ -24,9 +41,7 @@ fn visit(
     if names.contains(&word) {
         return Ok(());
     }
-    if let Some(ty) = aliases.get(&word) {
-        add_names(ty, waiting)?;
-    }
+    lead_on(aliases, &word, waiting)?;
     names.insert(word)?;
     Ok(())
 }
