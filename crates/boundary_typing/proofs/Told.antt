@@ -7,18 +7,11 @@ use Rattle.type_values.specs.declared.types.FlowType.{FlowType}
 use Rattle.type_values.specs.declared.types.Param.{Param}
 use Rattle.local_signatures.specs.Boundary.{also, boundary_param, boundary_params, cast_type}
 use Rattle.std.specs.List.{slice_get}
-use Rattle.tree_types.specs.TreeTypes.{type_of}
-use Rattle.type_tree.specs.View.{type_view}
-use Rattle.type_tree.specs.declared.types.TypeTree.{TypeTree}
 use Rattle.code_tree.specs.Flat.{parameter_view, parameters_view, parameters_from}
-use Rattle.code_tree.specs.View.{operand_view, operand_form_view, operands_view}
+use Rattle.code_tree.specs.View.{operand_view, operands_view}
 use Rattle.code_tree.specs.Steps.{operands_from}
 use Rattle.code_tree.specs.declared.types.Parameter.{Parameter}
 use Rattle.code_tree.specs.declared.types.Operand.{Operand}
-use Rattle.code_tree.specs.declared.types.OperandForm.{OperandForm}
-use Rattle.code_tree.specs.declared.types.OperandForm as form
-use Rattle.code_tree.specs.declared.types.Operator.{Operator}
-use Rattle.code_tree.specs.declared.types.Expr.{Expr}
 
 parameters_last : (acc : Parameters) (ps : List g.Parameter) (p : g.Parameter) → parameters_from acc (ps ++ p ∷ []) ≡ more_parameter (parameters_from acc ps) p
 parameters_last acc [] p = refl
@@ -113,18 +106,10 @@ module _ (alias_at : Bytes → FlowType) where
   cast_none [] is = refl
   cast_none (x ∷ os) is = absurd (some_at (x ∷ os) (length (x ∷ os) - 1) (omega arith) (sym is))
 
-  cast_last : (os : List Operand) (o : Operand) → Some o ≡ slice_get os (length os - 1) → cast_type alias_at (operands_view os) ≡ cast_type alias_at (more_operand no_operand (operand_view o))
+  pub cast_last : (os : List Operand) (o : Operand) → Some o ≡ slice_get os (length os - 1) → cast_type alias_at (operands_view os) ≡ cast_type alias_at (more_operand no_operand (operand_view o))
   cast_last [] o is = absurd (cc)
   cast_last (x ∷ os) o is =
       let r = front_of (x ∷ os) (length (x ∷ os) - 1) o (omega arith) (sym is) in
       ap (λ (l : List Operand). cast_type alias_at (operands_view l)) r.1 ∙ ap (cast_type alias_at) (operands_last r.0 o) ∙ cast_alike (operands_view r.0) no_operand (operand_view o)
-
-  pub cast_as : (os : List Operand) (o : Operand) (t : TypeTree) → Some o ≡ slice_get os (length os - 1) → o.form ≡ form.As t → cast_type alias_at (operands_view os) ≡ Some (type_of alias_at (type_view t))
-  unfolding operand_view operand_form_view
-  cast_as os o t is as_is = cast_last os o is ∙ ap (λ (f : OperandForm). cast_type alias_at (more_operand no_operand (g.operand o.first o.end (operand_form_view f)))) as_is
-
-  pub cast_right : (os : List Operand) (o : Operand) (op : Operator) (side : Expr) → Some o ≡ slice_get os (length os - 1) → o.form ≡ form.Right op side → None ≡ cast_type alias_at (operands_view os)
-  unfolding operand_view operand_form_view
-  cast_right os o op side is right_is = sym (cast_last os o is ∙ ap (λ (f : OperandForm). cast_type alias_at (more_operand no_operand (g.operand o.first o.end (operand_form_view f)))) right_is)
 
 pub ruleset parameters_told = (told_more, not_told)

@@ -3,9 +3,10 @@
 
 ghost use Rattle.std.specs.Prelude.{◌≡◌, IfOk};
 ghost use Rattle.std.specs.Option.{option_map};
+ghost use Rattle.js_grammar.specs.Code.{no_operand, more_operand};
 ghost use Rattle.local_signatures.specs.Boundary.{cast_type, boundary_value, boundary_form, annotated, boundary_declaration};
 ghost use Rattle.type_tree.specs.View.{type_view};
-ghost use Rattle.code_tree.specs.View.{expr_view, expr_form_view, chain_expr_view, operands_view, declaration_view};
+ghost use Rattle.code_tree.specs.View.{expr_view, expr_form_view, chain_expr_view, operand_view, operands_view, declaration_view};
 
 use crate::signing::function_type;
 use code_tree::{ChainExpr, Declaration, Expr, ExprForm, Level, Operand, OperandForm};
@@ -15,7 +16,22 @@ use tree_typing::{Names, type_of_tree};
 use type_tree::TypeTree;
 use type_values::FlowType;
 
+// The type of an operand that is `as` and a type.
+fn operand_type<N: Names>(
+    alloc: Global,
+    names: &N,
+    operand: &Operand,
+) -> Result<Option<FlowType>, NoMemory>
+    ensures { IfOk result (λ told. told ≡ cast_type (N.stands_for names.now) (more_operand no_operand (operand_view operand.now))) }
+{
+    match &operand.form {
+        OperandForm::As(tree) => Ok(Some(type_of_tree(alloc, names, tree)?)),
+        OperandForm::Right { .. } => Ok(None),
+    }
+}
+
 // The type behind a last `as`.
+#[tactic(auto, using(crate::proofs::Told::cast_last))]
 fn cast_type<N: Names>(
     alloc: Global,
     names: &N,
@@ -26,10 +42,8 @@ fn cast_type<N: Names>(
     let Some(last) = operands.last() else {
         return Ok(None);
     };
-    match &last.form {
-        OperandForm::As(tree) => Ok(Some(type_of_tree(alloc, names, tree)?)),
-        OperandForm::Right { .. } => Ok(None),
-    }
+    let told = operand_type(alloc, names, last)?;
+    Ok(told)
 }
 
 fn chain_type<N: Names>(

@@ -1,6 +1,7 @@
 -- The specifiers of items in order, each at its first place.
-use Rattle.std.proofs.Common.{◌≡◌, ℕ, ◌+◌, ◌<◌, Bool, true, false, not, ◌||◌, List, [], ◌∷◌, ◌++◌, map, filter, length, take, get_or, take-suc, add-one, cond, bytes_eq, Bor, refl, sym, ap, ◌∙◌, subst, append_assoc, append-nil}
+use Rattle.std.proofs.Common.{◌≡◌, ℕ, ◌+◌, ◌<◌, ◌≤◌, Bool, true, false, not, ◌||◌, List, [], ◌∷◌, ◌++◌, map, filter, length, take, get_or, take-suc, add-one, cond, bytes_eq, Bor, refl, sym, ap, ◌∙◌, subst, append_assoc, append-nil}
 use Rattle.std.specs.List.{flat_map}
+use Rattle.std.proofs.lemmas.List.{take_all}
 use Rattle.std.specs.Ordering.{nat_cmp, is_eq}
 use Rattle.std.specs.Cmp.Lexicographic.{slice_cmp, bytes_decides}
 use Rattle.std.proofs.lemmas.Map.Text.{is_eq-slice_cmp}
@@ -24,6 +25,9 @@ specifiers_from acc (i ∷ is) = specifiers_from (more_item acc (item_view i)) i
 pub specifiers_in_order : (is : List Item) → specifiers_in (items_view is) ≡ flat_map (λ i. specifiers_of (item_view i)) is
 unfolding items_view
 specifiers_in_order is = specifiers_from no_item is
+
+pub specifiers_taken : (n : ℕ) (is : List Item) (l : List Bytes) → length is ≤ n → l ≡ flat_map (λ i. specifiers_of (item_view i)) (take n is) → l ≡ specifiers_in (items_view is)
+specifiers_taken n is l long at = at ∙ ap (flat_map (λ (i : Item). specifiers_of (item_view i))) (take_all n is long) ∙ sym (specifiers_in_order is)
 
 pub flat_more : {A B : Type 0} (f : A → List B) (xs : List A) (i : ℕ) (d : A) → i < length xs → flat_map f (take (i + 1) xs) ≡ flat_map f (take i xs) ++ f (get_or xs i d)
 flat_more f xs i d within = ap (λ (k : ℕ). flat_map f (take k xs)) (add-one i) ∙ ap (flat_map f) (take-suc xs i d within) ∙ flat-append f (take i xs) (get_or xs i d)
@@ -101,35 +105,35 @@ so_far-suc : (specs : List (Bor Bytes)) (i : ℕ) (s : Bor Bytes) → i < length
 so_far-suc specs i s within = ap (λ (k : ℕ). so_far specs k) (add-one i) ∙ ap (map (λ (s : Bor Bytes). s.now)) (take-suc specs i s within) ∙ map-last (λ (s : Bor Bytes). s.now) (take i specs) (get_or specs i s)
 
 module _ (paths : List Bytes) (from : Bytes) where
-  abbrev row_of : Bytes → DepRow
+  abbrev pub row_of : Bytes → DepRow
   row_of spec = record { spec = spec; found = resolved paths from spec }
 
   -- the rows so far are those of the words so far, and the set has these
   abbrev pub AreRows : (Bor Bytes → Bool) → List DepRow → List Bytes → Type 0
   AreRows has rows words = (rows ≡ rows_for paths from (distinct words)) × Tells has words
 
-  module _ (has has' : Bor Bytes → Bool) (specs : List (Bor Bytes)) (i : ℕ) (within : i < length specs) (rows : List DepRow) (key : Bor Bytes) (word : Bytes) (same : key.now ≡ word) (adds : Adds has has' key.now) (at : (d : Bor Bytes) → (get_or specs i d).now ≡ word) where
-    told_more : Tells has (so_far specs i) → Tells has' (so_far specs i ++ word ∷ [])
-    told_more tells = more_told has has' (so_far specs i) word tells (subst (Adds has has') same adds)
+  module _ (has has' : Bor Bytes → Bool) (specs : List (Bor Bytes)) (i : ℕ) (within : i < length specs) (rows : List DepRow) (key : Bor Bytes) (s : Bor Bytes) (at : s ≡ get_or specs i s) (same : key.now ≡ s.now) (adds : Adds has has' key.now) where
+    told_more : Tells has (so_far specs i) → Tells has' (so_far specs i ++ s.now ∷ [])
+    told_more tells = more_told has has' (so_far specs i) s.now tells (subst (Adds has has') same adds)
 
-    among_is : Tells has (so_far specs i) → has key ≡ is_among (so_far specs i) word
+    among_is : Tells has (so_far specs i) → has key ≡ is_among (so_far specs i) s.now
     among_is tells = tells key ∙ ap (is_among (so_far specs i)) same
 
-    next : (so_far specs i ++ word ∷ []) ≡ so_far specs (i + 1)
-    next = ap (λ (w : Bytes). so_far specs i ++ w ∷ []) (sym (at key)) ∙ sym (so_far-suc specs i key within)
+    next : (so_far specs i ++ s.now ∷ []) ≡ so_far specs (i + 1)
+    next = ap (λ (t : Bor Bytes). so_far specs i ++ t.now ∷ []) at ∙ sym (so_far-suc specs i s within)
 
     -- a turn at a word that was not met before, and at one that was
-    pub turn_new : true ≡ not (has key) → AreRows has rows (so_far specs i) → AreRows has' (rows ++ row_of word ∷ []) (so_far specs (i + 1))
-    turn_new fresh (is, tells) = subst (AreRows has' (rows ++ row_of word ∷ [])) next (all, told_more tells)
+    pub turn_new : true ≡ not (has key) → AreRows has rows (so_far specs i) → AreRows has' (rows ++ row_of s.now ∷ []) (so_far specs (i + 1))
+    turn_new fresh (is, tells) = subst (AreRows has' (rows ++ row_of s.now ∷ [])) next (all, told_more tells)
       where
         off : (b : Bool) → true ≡ not b → b ≡ false
         off true e = absurd (cc)
         off false e = refl
 
-        all : rows ++ row_of word ∷ [] ≡ rows_for paths from (distinct (so_far specs i ++ word ∷ []))
-        all = ap (λ (l : List DepRow). l ++ row_of word ∷ []) is ∙ sym (map-last row_of (distinct (so_far specs i)) word)
-            ∙ ap (λ (b : Bool). rows_for paths from (cond b (distinct (so_far specs i)) (distinct (so_far specs i) ++ word ∷ []))) (sym (sym (among_is tells) ∙ off (has key) fresh))
-            ∙ ap (rows_for paths from) (sym (distinct_more (so_far specs i) word))
+        all : rows ++ row_of s.now ∷ [] ≡ rows_for paths from (distinct (so_far specs i ++ s.now ∷ []))
+        all = ap (λ (l : List DepRow). l ++ row_of s.now ∷ []) is ∙ sym (map-last row_of (distinct (so_far specs i)) s.now)
+            ∙ ap (λ (b : Bool). rows_for paths from (cond b (distinct (so_far specs i)) (distinct (so_far specs i) ++ s.now ∷ []))) (sym (sym (among_is tells) ∙ off (has key) fresh))
+            ∙ ap (rows_for paths from) (sym (distinct_more (so_far specs i) s.now))
 
     pub turn_old : false ≡ not (has key) → AreRows has rows (so_far specs i) → AreRows has' rows (so_far specs (i + 1))
     turn_old met (is, tells) = subst (AreRows has' rows) next (all, told_more tells)
@@ -138,7 +142,7 @@ module _ (paths : List Bytes) (from : Bytes) where
         on true e = refl
         on false e = absurd (cc)
 
-        all : rows ≡ rows_for paths from (distinct (so_far specs i ++ word ∷ []))
+        all : rows ≡ rows_for paths from (distinct (so_far specs i ++ s.now ∷ []))
         all = is
-            ∙ ap (λ (b : Bool). rows_for paths from (cond b (distinct (so_far specs i)) (distinct (so_far specs i) ++ word ∷ []))) (sym (sym (among_is tells) ∙ on (has key) met))
-            ∙ ap (rows_for paths from) (sym (distinct_more (so_far specs i) word))
+            ∙ ap (λ (b : Bool). rows_for paths from (cond b (distinct (so_far specs i)) (distinct (so_far specs i) ++ s.now ∷ []))) (sym (sym (among_is tells) ∙ on (has key) met))
+            ∙ ap (rows_for paths from) (sym (distinct_more (so_far specs i) s.now))
