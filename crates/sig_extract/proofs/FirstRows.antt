@@ -30,7 +30,7 @@ module _ {X : Type 0} where
   first_more (x ∷ xs) y = go (is_among (names_in xs) y.0) (bytes_eq y.0 x.0) refl (first_more xs y)
     where
       go : (a b : Bool) → bytes_eq y.0 x.0 ≡ b → first_of_each (xs ++ y ∷ []) ≡ cond a (first_of_each xs) (first_of_each xs ++ y ∷ []) →
-        x ∷ filter (λ later. not (bytes_eq later.0 x.0)) (first_of_each (xs ++ y ∷ [])) ≡ cond (b || a) (x ∷ filter (λ later. not (bytes_eq later.0 x.0)) (first_of_each xs)) (x ∷ (filter (λ later. not (bytes_eq later.0 x.0)) (first_of_each xs) ++ y ∷ []))
+          x ∷ filter (λ later. not (bytes_eq later.0 x.0)) (first_of_each (xs ++ y ∷ [])) ≡ cond (b || a) (x ∷ filter (λ later. not (bytes_eq later.0 x.0)) (first_of_each xs)) (x ∷ (filter (λ later. not (bytes_eq later.0 x.0)) (first_of_each xs) ++ y ∷ []))
       go true true e rest = ap (λ (l : Rows X). x ∷ filter (λ later. not (bytes_eq later.0 x.0)) l) rest
       go true false e rest = ap (λ (l : Rows X). x ∷ filter (λ later. not (bytes_eq later.0 x.0)) l) rest
       go false true e rest =

@@ -64,11 +64,7 @@ fn add_fault(
 }
 
 // The faults of all exports.
-fn keys_of(
-    alloc: Global,
-    spans: &[Span],
-    told: &[(Text, Told)],
-) -> Result<BTreeSet<Key>, NoMemory>
+fn keys_of(alloc: Global, spans: &[Span], told: &[(Text, Told)]) -> Result<BTreeSet<Key>, NoMemory>
     ensures { IfOk result (λ keys. map key_fault keys.keys ≡ faults_in_order (flat_map (fault_of spans.now) (seen told_view told.now))) }
 {
     let mut keys = BTreeSet::new(alloc);
@@ -80,11 +76,7 @@ fn keys_of(
 }
 
 /// The faults of what exports tell, in order.
-pub fn faults(
-    alloc: Global,
-    spans: &[Span],
-    told: &[(Text, Told)],
-) -> Result<List<Fault>, NoMemory>
+pub fn faults(alloc: Global, spans: &[Span], told: &[(Text, Told)]) -> Result<List<Fault>, NoMemory>
     ensures { IfOk result (λ faults. faults ≡ faults_in_order (flat_map (fault_of spans.now) (seen told_view told.now))) }
 {
     let mut keys = keys_of(alloc, spans, told)?;

@@ -3,7 +3,7 @@
 
 mod binding;
 mod exporting;
-mod extract;
+mod extracting;
 mod faulting;
 mod naming;
 mod ordering;
@@ -11,7 +11,7 @@ mod reaching;
 mod scope;
 mod telling;
 
-pub use extract::{broken_signature, extract};
+pub use extracting::{broken_signature, extract};
 
 #[cfg(test)]
 mod tests;

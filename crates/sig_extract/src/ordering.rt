@@ -20,10 +20,7 @@ pub fn by_name<T: Drop>(alloc: Global, rows: Vec<(Text, T)>) -> Result<BTreeMap<
 }
 
 // The first row of each name, in the order in which they stand.
-pub fn first_of_each<T: Copy>(
-    alloc: Global,
-    rows: &[(Text, T)],
-) -> Result<Vec<(Text, T)>, NoMemory>
+pub fn first_of_each<T: Copy>(alloc: Global, rows: &[(Text, T)]) -> Result<Vec<(Text, T)>, NoMemory>
     ensures { IfOk result (λ firsts. firsts.items ≡ first_of_each rows.now) }
 {
     let mut seen = BTreeSet::new(alloc);

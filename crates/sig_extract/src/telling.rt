@@ -92,11 +92,13 @@ fn as_value<'a>(
     match binding {
         Some(Binding::Variable(d)) => variable(alloc, scope, d),
         Some(Binding::Function(f)) => function(alloc, scope, 0, 0, f),
-        Some(Binding::Import {
-            specifier,
-            name,
-            is_type: false,
-        }) => Ok(Told::Import {
+        Some(
+            Binding::Import {
+                specifier,
+                name,
+                is_type: false,
+            },
+        ) => Ok(Told::Import {
             local: word,
             specifier,
             name,
@@ -114,11 +116,13 @@ fn as_type<'a>(word: &'a Text, binding: Option<Binding<'a>>) -> Told<'a>
 {
     match binding {
         Some(Binding::Alias(_)) => Told::Alias(word),
-        Some(Binding::Import {
-            specifier,
-            name,
-            is_type: true,
-        }) => Told::Import {
+        Some(
+            Binding::Import {
+                specifier,
+                name,
+                is_type: true,
+            },
+        ) => Told::Import {
             local: word,
             specifier,
             name,
