@@ -171,16 +171,15 @@ module _ {A B : Type 0} (f : A → B) where
   seen_first [] = refl
   seen_first (row ∷ rows) = ap (λ (l : Rows B). (row.0, f row.1) ∷ l) (seen-filter (λ name. not (bytes_eq name row.0)) (first_of_each rows) ∙ ap (filter (λ later. not (bytes_eq later.0 row.0))) (seen_first rows))
 
-  pub row_at-seen : (rows : Rows A) (word : Bytes) → option_map f (row_at rows word) ≡ row_at (seen f rows) word
-  row_at-seen [] word = refl
-  row_at-seen (r ∷ rows) word = go (bytes_eq r.0 word) (row_at-seen rows word)
+  pub row_seen : (rows : Rows A) (word : Bytes) → option_map f (row_at rows word) ≡ row_at (seen f rows) word
+  row_seen [] word = refl
+  row_seen (r ∷ rows) word = go (bytes_eq r.0 word) (row_seen rows word)
     where
       go : (b : Bool) → option_map f (row_at rows word) ≡ row_at (seen f rows) word → option_map f (cond b (Some r.1) (row_at rows word)) ≡ cond b (Some (f r.1)) (row_at (seen f rows) word)
       go true rest = refl
       go false rest = rest
 
-  -- a map of rows in order tells what stands first at a name
-  pub row_named : (names : BTreeMap Bytes A) (rows bindings : Rows A) → names.entries ≡ by_name bindings → rows ≡ first_of_each bindings → (word : Bytes) → option_map f (get (slice_cmp nat_cmp) names word) ≡ row_at (seen f rows) word
-  row_named names rows bindings ordered firsts word =
-      ap (option_map f) (lookup_is_row names.entries word ∙ ap (λ (l : Rows A). row_at l word) ordered ∙ row_at-by_name bindings word ∙ sym (row_at-first bindings word) ∙ ap (λ (l : Rows A). row_at l word) (sym firsts))
-      ∙ row_at-seen rows word
+-- a map of rows in order tells what stands first at a name
+pub row_named : {X : Type 0} (names : BTreeMap Bytes X) (rows bindings : Rows X) → names.entries ≡ by_name bindings → rows ≡ first_of_each bindings → (word : Bytes) → get (slice_cmp nat_cmp) names word ≡ row_at rows word
+row_named {X} names rows bindings ordered firsts word =
+    lookup_is_row names.entries word ∙ ap (λ (l : Rows X). row_at l word) ordered ∙ row_at-by_name bindings word ∙ sym (row_at-first bindings word) ∙ ap (λ (l : Rows X). row_at l word) (sym firsts)

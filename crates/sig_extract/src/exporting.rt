@@ -156,7 +156,7 @@ fn tell_default<'a>(
     told: Told<'a>,
     exports: &mut Exports<'a>,
 ) -> Result<(), NoMemory>
-    ensures { OnOk result (seen told_view exports.new.items ≡ seen told_view exports.old.items ++ (default_name, told_view told) ∷ []) }
+    ensures { OnOk result (seen told_view exports.new.items ≡ seen told_view exports.old.items ++ (default_name, told_view told.entry) ∷ []) }
 {
     exports.push((default_name(alloc)?, told))?;
     Ok(())

@@ -30,7 +30,7 @@ use type_values::FlowType;
 
 // The name that an import has in its module.
 fn name_there(alloc: Global, name: Option<&Text>) -> Result<Text, NoMemory>
-    ensures { IfOk result (λ text. text ≡ name_there name) }
+    ensures { IfOk result (λ text. text ≡ name_there name.entry) }
 {
     match name {
         Some(name) => name.share(),
@@ -115,7 +115,7 @@ fn add_alias(
     binding: Binding,
     aliases: &mut Vec<(Text, FlowType)>,
 ) -> Result<(), NoMemory>
-    ensures { OnOk result (aliases.new.items ≡ aliases.old.items ++ option_to_list (alias_row (seen binding_view scope.now.rows.items) (name.now, binding_view binding))) }
+    ensures { OnOk result (aliases.new.items ≡ aliases.old.items ++ option_to_list (alias_row (seen binding_view scope.now.rows.items) (name.now, binding_view binding.entry))) }
 {
     match binding {
         Binding::Alias(tree) => {
@@ -166,7 +166,7 @@ fn add_import(
     binding: Binding,
     kept: &mut List<ImportRow>,
 ) -> Result<(), NoMemory>
-    ensures { OnOk result (kept.new ≡ kept.old ++ filter (λ row. contains (slice_cmp nat_cmp) names.now row.local) (option_to_list (import_row (local.now, binding_view binding)))) }
+    ensures { OnOk result (kept.new ≡ kept.old ++ filter (λ row. contains (slice_cmp nat_cmp) names.now row.local) (option_to_list (import_row (local.now, binding_view binding.entry)))) }
 {
     match binding {
         Binding::Import {

@@ -22,7 +22,7 @@ pub struct Scope<'a> {
     pub rows: Rows<'a>,
     names: BTreeMap<Text, Binding<'a>>,
     own: Path,
-    ghost named: { (word : List ℕ) → option_map binding_view (get (slice_cmp nat_cmp) names word) ≡ row_at (seen binding_view rows.items) word },
+    ghost named: { (word : List ℕ) → get (slice_cmp nat_cmp) names word ≡ row_at rows.items word },
     ghost at_home: { own ≡ own_path },
 }
 
@@ -39,7 +39,7 @@ fn own_path(alloc: Global) -> Result<Path, NoMemory>
 
 // Whether a binding is an alias or a type import.
 fn names_type(binding: Option<Binding>) -> bool
-    ensures { result ≡ names_type (option_map binding_view «binding») }
+    ensures { result ≡ names_type (option_map binding_view binding.entry) }
 {
     match binding {
         Some(Binding::Alias(_)) => true,
@@ -51,7 +51,7 @@ fn names_type(binding: Option<Binding>) -> bool
 impl<'a> Scope<'a> {
     /// The scope of these bindings.
     pub fn new(alloc: Global, bindings: Rows<'a>) -> Result<Scope<'a>, NoMemory>
-        ensures { IfOk result (λ scope. seen binding_view scope.rows.items ≡ first_of_each (seen binding_view bindings.items)) }
+        ensures { IfOk result (λ scope. seen binding_view scope.rows.items ≡ first_of_each (seen binding_view bindings.entry.items)) }
     {
         let rows = first_of_each(alloc, bindings.as_slice())?;
         let names = by_name(alloc, bindings)?;

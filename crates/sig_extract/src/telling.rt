@@ -1,7 +1,7 @@
 // What the exports of a module tell.
 #![tactic(auto, unfolding(code_tree::specs::View::declaration_view, code_tree::specs::View::function_view))]
 
-ghost use Rattle.std.specs.Prelude.{◌≡◌, IfOk};
+ghost use Rattle.std.specs.Prelude.{◌≡◌, true, false, IfOk};
 ghost use Rattle.std.specs.Option.{option_map};
 ghost use Rattle.code_tree.specs.View.{declaration_view, function_view};
 ghost use Rattle.local_signatures.specs.Scope.{Scope};
@@ -87,7 +87,7 @@ fn as_value<'a>(
     word: &'a Text,
     binding: Option<Binding<'a>>,
 ) -> Result<Told<'a>, NoMemory>
-    ensures { IfOk result (λ told. told_view told ≡ told_binding (seen binding_view scope.now.rows.items) false word.now (option_map binding_view «binding»)) }
+    ensures { IfOk result (λ told. told_view told ≡ told_binding (seen binding_view scope.now.rows.items) false word.now (option_map binding_view binding.entry)) }
 {
     match binding {
         Some(Binding::Variable(d)) => variable(alloc, scope, d),
@@ -112,7 +112,7 @@ fn as_value<'a>(
 
 // What a name tells that is exported as a type.
 fn as_type<'a>(word: &'a Text, binding: Option<Binding<'a>>) -> Told<'a>
-    ensures { (scope : Scope) → told_view result ≡ told_binding scope true word.now (option_map binding_view «binding») }
+    ensures { (scope : Scope) → told_view result ≡ told_binding scope true word.now (option_map binding_view binding.entry) }
 {
     match binding {
         Some(Binding::Alias(_)) => Told::Alias(word),
