@@ -1,5 +1,5 @@
 -- What the rows of the code stand for.
-use Rattle.std.specs.Prelude.{ℕ, suc, List, [], ◌∷◌, map, Option, Some, None, unwrap_or}
+use Rattle.std.specs.Prelude.{◌≡◌, true, ℕ, suc, List, [], ◌∷◌, map, Option, Some, None, unwrap_or}
 use Rattle.std.specs.Option.{option_map}
 use denote.Ref.{Bor}
 use Rattle.check_values.specs.Rows.{Bytes, Rows, put}
@@ -60,3 +60,7 @@ put_before (fault ∷ more) faults = put fault_cmp fault (put_before more faults
 -- the fault that a key stands for
 abbrev pub key_fault : ℕ × (ℕ × Bytes) → Fault
 key_fault (start, (end, word)) = record { span = record { start = start; end = end }; code = SignatureVerificationFailure; details = word }
+
+-- what a name tells that is bound so and exported as a type, in any scope
+abbrev pub TellsAsType : e.Told → Bytes → Option s.Binding → Type 0
+TellsAsType told word bound = (scope : s.Scope) → told ≡ e.told_binding scope true word bound

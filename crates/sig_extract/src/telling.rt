@@ -1,12 +1,11 @@
 // What the exports of a module tell.
 #![tactic(auto, unfolding(code_tree::specs::View::declaration_view, code_tree::specs::View::function_view))]
 
-ghost use Rattle.std.specs.Prelude.{◌≡◌, true, false, IfOk};
+ghost use Rattle.std.specs.Prelude.{◌≡◌, false, IfOk};
 ghost use Rattle.std.specs.Option.{option_map};
 ghost use Rattle.code_tree.specs.View.{declaration_view, function_view};
-ghost use Rattle.local_signatures.specs.Scope.{Scope};
 ghost use Rattle.local_signatures.specs.Exports.{told_variable, told_function, told_binding, told_name};
-ghost use Rattle.sig_extract.specs.Seen.{seen, binding_view, told_view};
+ghost use Rattle.sig_extract.specs.Seen.{seen, binding_view, told_view, TellsAsType};
 
 use crate::binding::Binding;
 use crate::scope::Scope;
@@ -112,7 +111,7 @@ fn as_value<'a>(
 
 // What a name tells that is exported as a type.
 fn as_type<'a>(word: &'a Text, binding: Option<Binding<'a>>) -> Told<'a>
-    ensures { (scope : Scope) → told_view result ≡ told_binding scope true word.now (option_map binding_view binding.entry) }
+    ensures { TellsAsType (told_view result) word.now (option_map binding_view binding.entry) }
 {
     match binding {
         Some(Binding::Alias(_)) => Told::Alias(word),
