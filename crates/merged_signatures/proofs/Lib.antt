@@ -1,4 +1,6 @@
 pub mod Walks
 pub mod Names
 pub mod Bound
+pub mod Small
 pub mod Telling
+pub mod Local

@@ -60,12 +60,12 @@ module _ {X : Type 0} where
       go false is rest = rest
 
 -- where a step ends at a value, it is one of its own module
-abbrev EndsHere : Bytes → Step → Type 0
+abbrev pub EndsHere : Bytes → Step → Type 0
 EndsHere path (ends (at_value home t)) = home ≡ path
 EndsHere path s = Unit {0}
 
 -- a step goes on at a module that a specifier finds
-abbrev GoesFound : Deps → Step → Type 0
+abbrev pub GoesFound : Deps → Step → Type 0
 GoesFound deps (ends e) = Unit {0}
 GoesFound deps (goes is_type path name) = (spec : Bytes) × (found deps spec ≡ Some path)
 
@@ -92,14 +92,14 @@ goes_found_of path deps (Some (origin.Import spec name is_type)) = goes_found_to
 goes_found_of path deps (Some origin.Unknown) = tt
 
 module _ (path name : Bytes) (m : Known) where
-  ends_here : EndsHere path (step_in path (Some m) name)
+  pub ends_here : EndsHere path (step_in path (Some m) name)
   ends_here = go m.sig.broken
     where
       go : (b : Bool) → EndsHere path (cond b (ends unknown) (step_of path m.deps (row_at m.sig.exports name)))
       go true = tt
       go false = ends_here_of path m.deps (row_at m.sig.exports name)
 
-  goes_found : GoesFound m.deps (step_in path (Some m) name)
+  pub goes_found : GoesFound m.deps (step_in path (Some m) name)
   goes_found = go m.sig.broken
     where
       go : (b : Bool) → GoesFound m.deps (cond b (ends unknown) (step_of path m.deps (row_at m.sig.exports name)))

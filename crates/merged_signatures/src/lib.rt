@@ -3,6 +3,8 @@
 #![tactic(auto)]
 
 ghost use Rattle.merged_signatures.specs.Repeats.{IsToldByOneStep, IsCyclicWhereItRepeats};
+ghost use Rattle.merged_signatures.specs.Programs.{IsSmallWithFewExports};
+ghost use Rattle.merged_signatures.specs.Imports.{IsLocal};
 ghost use Rattle.merged_signatures.specs.Settled.{AJobTellsTheProgram};
 
 /// What a name denotes is told by one step along its chain and by what the next name denotes, and it is
@@ -12,8 +14,20 @@ pub fn what_names_denote()
     ensures cyclic { IsCyclicWhereItRepeats }
 {}
 
+/// Chains go on at exports alone, so what holds of small programs holds of each with fewer exports than
+/// the bound.
+pub fn few_exports()
+    ensures { IsSmallWithFewExports }
+{}
+
 /// Merging some modules of a program over the merged signatures of others gives what merging the whole
 /// program gives them, where the job knows of each module that a member's specifiers find.
 pub fn a_job_tells_the_program()
     ensures { AJobTellsTheProgram }
+{}
+
+/// A merged signature depends on what is known of the modules to which its module leads by its imports,
+/// and on nothing else.
+pub fn merging_is_local()
+    ensures { IsLocal }
 {}

@@ -1,2 +1,1 @@
 pub mod TreeTypes
-pub mod Optional
