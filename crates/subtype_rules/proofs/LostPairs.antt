@@ -12,12 +12,11 @@ use Rattle.alias_table.specs.Aliases.{Key}
 use Rattle.type_terms.specs.Optional.{eff}
 use Rattle.subtyping.specs.Rows.{Pair, Level, is_free, does_open, has_no_ways, left_ways, right_ways, part_ways, ways, one_way, objects_fit, all_needs, needs_at, needs, prop_at}
 use Rattle.subtyping.specs.Collected.{IsLost, IsHopeless, KeepsWays, IsRow}
-use Rattle.subtype_rules.specs.Kept.{HasDead, above, IsTried}
+use Rattle.subtype_rules.specs.Kept.{HasDead, HasLost, above, IsTried}
 use Rattle.subtyping.proofs.Whole.{split, first_or, nothing, here, there}
-use Rattle.subtyping.proofs.Lifted.{no_ways, left_none}
-use Rattle.subtyping.specs.Closed.{IsBelow}
+use Rattle.subtyping.proofs.Lifted.{no_ways, left_none, right_none, lost_none, lost_by_looks}
 use Rattle.subtyping.proofs.Justified.{below_justified}
-use Rattle.subtyping.proofs.Itself.{map_out}
+use Rattle.subtyping.proofs.Itself.{map_in, map_out}
 use Rattle.subtype_rules.proofs.Grown.{take_push}
 
 dead_first : (named : Key → FlowType) (p : Pair) (some : List Pair) → has_no_ways (out-FlowType p.0) (out-FlowType p.1) ≡ true → HasDead named (p ∷ some)
@@ -62,22 +61,14 @@ one_only false way w c = nothing w c
 
 -- two objects whose needs have a dead pair
 pub objects_lost : (a b : FlowType) (closed_a closed_b : Bool) (ps qs : List FlowProp) → out-FlowType a ≡ Object closed_a ps → out-FlowType b ≡ Object closed_b qs → ((named : Key → FlowType) → HasDead named (all_needs ps qs qs)) → (named : Key → FlowType) → IsLost named (a, b)
-objects_lost a b closed_a closed_b ps qs a_is b_is dead named way c =
+objects_lost a b closed_a closed_b ps qs a_is b_is dead named below =
     let only : ways named (a, b) ≡ one_way (objects_fit closed_a ps closed_b qs) (all_needs ps qs qs) = λ j. by_levels (a_is j) (b_is j) in
-    let same = one_only (objects_fit closed_a ps closed_b qs) (all_needs ps qs qs) way (subst (λ (l : List (List Pair)). Contains l way) only c) in
-    let d = dead named in
-    (d.0, subst (λ (l : List Pair). Contains l d.0) same d.1, d.2)
+    let why = below_justified named a b below in
+    let same = one_only (objects_fit closed_a ps closed_b qs) (all_needs ps qs qs) why.0 (subst (λ (l : List (List Pair)). Contains l why.0) only why.1) in
+    let d = dead named in lost_none named d.0 d.2 (why.2 d.0 (subst (λ (l : List Pair). Contains l d.0) same d.1))
   where
     by_levels : Level → Level → List (List Pair)
     by_levels x y = if is_free x y then [] ∷ [] else left_ways named x b ++ (right_ways named a y ++ part_ways x y)
-
--- no closed set has a lost pair
-pub lost_not_below : (named : Key → FlowType) (a b : FlowType) → IsLost named (a, b) → IsBelow named a b → ⊥
-lost_not_below named a b lost below =
-    let j = below_justified named a b below in
-    let q = lost j.0 j.1 in
-    let k = below_justified named q.0.0 q.0.1 (j.2 q.0 q.1) in
-    let short : length (ways named q.0) ≡ 0 = ap length q.2 in omega (arith, k.1.1, short)
 
 no_part : (x : Level) (all : List FlowType) → part_ways x (Union all) ≡ []
 no_part (Object closed ps) all = refl
@@ -97,15 +88,34 @@ each_off f (x ∷ all) on y c = go (f x) refl on (λ rest later. each_off f all 
 
 -- a type that doesn't open, and a union none of whose members it may be below
 pub misses_lost : (a b : FlowType) (all : List FlowType) → out-FlowType b ≡ Union all → does_open (out-FlowType a) ≡ false → is_free (out-FlowType a) (out-FlowType b) ≡ false → list_all (λ y. has_no_ways (out-FlowType a) (out-FlowType y)) all ≡ true → (named : Key → FlowType) → IsLost named (a, b)
-misses_lost a b all b_is opens free off named way c =
+misses_lost a b all b_is opens free off named below =
     let x = out-FlowType a in
     let only : ways named (a, b) ≡ above a all =
     ap (λ (z : Bool). if z then [] ∷ [] else left_ways named x b ++ (right_ways named a (out-FlowType b) ++ part_ways x (out-FlowType b))) free
     ∙ ap (λ (l : List (List Pair)). l ++ (right_ways named a (out-FlowType b) ++ part_ways x (out-FlowType b))) (left_none named x b opens)
     ∙ ap (λ (z : Level). right_ways named a z ++ part_ways x z) b_is
-    ∙ ap (λ (l : List (List Pair)). above a all ++ l) (no_part x all) ∙ append-nil (above a all) in
-    let m = map_out (λ (y : FlowType). (a, y) ∷ []) all way (subst (λ (l : List (List Pair)). Contains l way) only c) in
-    ((a, m.0), subst (λ (w : List Pair). Contains w (a, m.0)) m.2 (here (a, m.0) []), no_ways named (a, m.0) (each_off (λ y. has_no_ways x (out-FlowType y)) all off m.0 m.1))
+    ∙ ap (λ (l : List (List Pair)). above a all ++ l) (no_part x all)
+    ∙ append-nil (above a all) in
+    let why = below_justified named a b below in
+    let m = map_out (λ (y : FlowType). (a, y) ∷ []) all why.0 (subst (λ (l : List (List Pair)). Contains l why.0) only why.1) in
+    lost_by_looks (a, m.0) (each_off (λ y. has_no_ways x (out-FlowType y)) all off m.0 m.1) named (why.2 (a, m.0) (subst (λ (w : List Pair). Contains w (a, m.0)) m.2 (here (a, m.0) [])))
+
+pub lost_at : (named : Key → FlowType) (all : List FlowType) (b : FlowType) (i : ℕ) (x : FlowType) → i < length all → x ≡ get_or all i x → IsLost named (x, b) → HasLost named all b
+lost_at named all b i x h e lost = (x, (i, h, sym e), lost)
+
+-- a union with a member that is lost, and a type that doesn't open
+pub loses_lost : (a b : FlowType) (all : List FlowType) → out-FlowType a ≡ Union all → does_open (out-FlowType b) ≡ false → is_free (out-FlowType a) (out-FlowType b) ≡ false → (named : Key → FlowType) → HasLost named all b → IsLost named (a, b)
+loses_lost a b all a_is opens free named some below =
+    let y = out-FlowType b in
+    let only : ways named (a, b) ≡ map (λ x. (x, b)) all ∷ [] =
+    ap (λ (z : Bool). if z then [] ∷ [] else left_ways named (out-FlowType a) b ++ (right_ways named a y ++ part_ways (out-FlowType a) y)) free
+    ∙ ap (λ (l : List (List Pair)). left_ways named (out-FlowType a) b ++ (l ++ part_ways (out-FlowType a) y)) (right_none named a y opens)
+    ∙ ap (λ (z : Level). left_ways named z b ++ part_ways z y) a_is in
+    let why = below_justified named a b below in
+    elim (first_or (map (λ x. (x, b)) all) [] why.0 (subst (λ (l : List (List Pair)). Contains l why.0) only why.1)) [
+      | inl same ↦ some.2 (why.2 (some.0, b) (subst (λ (l : List Pair). Contains l (some.0, b)) same (map_in (λ (x : FlowType). (x, b)) all some.0 some.1)))
+      | inr none ↦ nothing why.0 none
+    ]
 
 -- ---- what is kept of the ways
 

@@ -4,11 +4,15 @@ use Rattle.type_values.specs.declared.types.FlowType.{FlowType}
 use Rattle.type_values.specs.declared.types.FlowProp.{FlowProp}
 use Rattle.alias_table.specs.Aliases.{Key}
 use Rattle.subtyping.specs.Rows.{Pair, ways}
-use Rattle.subtyping.specs.Collected.{IsHopeless}
+use Rattle.subtyping.specs.Collected.{IsLost, IsHopeless}
 
 -- a pair among these that no row justifies
 abbrev pub HasDead : (Key → FlowType) → List Pair → Type 0
 HasDead named some = (q : Pair) × Contains some q × (ways named q ≡ [])
+
+-- a member of these is below that in no closed set
+abbrev pub HasLost : (Key → FlowType) → List FlowType → FlowType → Type 0
+HasLost named all b = (x : FlowType) × Contains all x × IsLost named (x, b)
 
 -- the ways by a member of a union on the right
 abbrev pub above : FlowType → List FlowType → List (List Pair)

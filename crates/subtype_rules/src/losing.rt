@@ -5,7 +5,7 @@ ghost use Rattle.type_values.specs.declared.types.FlowType.{FlowType, out-FlowTy
 ghost use Rattle.alias_table.specs.Aliases.{Key};
 ghost use Rattle.subtyping.specs.Rows.{has_no_ways, needs, needs_at, prop_at, all_needs};
 ghost use Rattle.subtyping.specs.Collected.{IsLost};
-ghost use Rattle.subtype_rules.specs.Kept.{HasDead};
+ghost use Rattle.subtype_rules.specs.Kept.{HasDead, HasLost};
 
 use crate::props::Props;
 use crate::rows::{does_open, has_no_ways, is_free};
@@ -100,15 +100,50 @@ fn misses_union(a: &FlowType, b: &FlowType) -> bool
     }
 }
 
-/// Whether a pair is in no closed set, as its forms, its properties or its members tell.
-pub(crate) fn is_lost(a: &FlowType, b: &FlowType) -> bool
+// Whether a pair is lost, as its forms or its properties tell.
+fn is_apart(a: &FlowType, b: &FlowType) -> bool
     ensures { result ≡ true → (named : Key → FlowType) → IsLost named (a.now, b.now) }
 {
     if has_no_ways(a, b) {
         return true;
     }
-    if objects_clash(a, b) {
+    objects_clash(a, b)
+}
+
+fn has_apart(all: &[FlowType], b: &FlowType) -> bool
+    ensures { result ≡ true → (named : Key → FlowType) → HasLost named all.now b.now }
+{
+    for i in 0..all.len() {
+        let x = &all[i];
+        if is_apart(x, b) {
+            return true;
+        }
+    }
+    false
+}
+
+// Whether a is a union with a member that is lost, and b neither a union nor a name.
+fn loses_member(a: &FlowType, b: &FlowType) -> bool
+    ensures { result ≡ true → (named : Key → FlowType) → IsLost named (a.now, b.now) }
+{
+    if does_open(b) || is_free(a, b) {
+        return false;
+    }
+    match a {
+        FlowType::Union(all) => has_apart(all.as_slice(), b),
+        _ => false,
+    }
+}
+
+/// Whether a pair is in no closed set, as its forms, its properties or its members tell.
+pub(crate) fn is_lost(a: &FlowType, b: &FlowType) -> bool
+    ensures { result ≡ true → (named : Key → FlowType) → IsLost named (a.now, b.now) }
+{
+    if is_apart(a, b) {
         return true;
     }
-    misses_union(a, b)
+    if misses_union(a, b) {
+        return true;
+    }
+    loses_member(a, b)
 }

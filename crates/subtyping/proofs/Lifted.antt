@@ -99,11 +99,7 @@ number_of pairs (n ∷ ks) (p ∷ ps) e (suc i) k h is =
 
 -- no closed set has all of a hopeless way
 not_hopeless : (named : Key → FlowType) (set way : List Pair) → IsClosed named set → HasAll set way → IsHopeless named way → ⊥
-not_hopeless named set way closed has off =
-    let why = closed off.0 (has off.0 off.1) in
-    let q = off.2 why.0 why.1 in
-    let again = closed q.0 (why.2 q.0 q.1) in
-    let none : length (ways named q.0) ≡ 0 = ap length q.2 in absurd (omega (arith, again.1.1, none))
+not_hopeless named set way closed has off = off.2 (set, closed, has off.0 off.1)
 
 -- no closed set has a refuted pair
 not_refuted : (named : Key → FlowType) (pairs : List Pair) (rows : List (List (List ℕ))) (set : List Pair) → length rows ≡ length pairs → AreRows named pairs rows → IsClosed named set →
@@ -132,7 +128,7 @@ left_none named (Ref home name) b h = cc
 left_none named (Union all) b h = cc
 left_none named x b h = refl
 
-right_none : (named : Key → FlowType) (a : FlowType) (y : Level) → does_open y ≡ false → right_ways named a y ≡ []
+pub right_none : (named : Key → FlowType) (a : FlowType) (y : Level) → does_open y ≡ false → right_ways named a y ≡ []
 right_none named a (Ref home name) h = cc
 right_none named a (Union all) h = cc
 right_none named a y h = refl
@@ -165,7 +161,9 @@ no_ways named p h =
     ∙ part_none x y c
 
 pub lost_none : (named : Key → FlowType) (p : Pair) → ways named p ≡ [] → IsLost named p
-lost_none named p none way c = absurd (let short : length (ways named p) ≡ 0 = ap length none in omega (arith, c.1, short))
+lost_none named p none below =
+    let why = below.1 p below.2 in
+    let short : length (ways named p) ≡ 0 = ap length none in absurd (omega (arith, why.1.1, short))
 
 pub lost_by_looks : (p : Pair) → has_no_ways (out-FlowType p.0) (out-FlowType p.1) ≡ true → (named : Key → FlowType) → IsLost named p
 lost_by_looks p off named = lost_none named p (no_ways named p off)

@@ -3,6 +3,7 @@ use Rattle.std.specs.Prelude.{◌≡◌, ◌<◌, ◌⊎◌, ℕ, List, [], ◌�
 use Rattle.type_values.specs.declared.types.FlowType.{FlowType}
 use Rattle.alias_table.specs.Aliases.{Key}
 use Rattle.subtyping.specs.Rows.{Pair, ways}
+use Rattle.subtyping.specs.Closed.{IsBelow}
 use Rattle.subtyping.specs.Numbered.{ways_of}
 
 -- pairs keep their numbers
@@ -13,9 +14,9 @@ Grows old new = (more : List Pair) × (new ≡ old ++ more)
 abbrev pub StandFor : List Pair → List ℕ → List Pair → Type 0
 StandFor pairs ks ps = map (slice_get pairs) ks ≡ map Some ps
 
--- each row that would justify the pair needs one that no row justifies
+-- no closed set has the pair
 abbrev pub IsLost : (Key → FlowType) → Pair → Type 0
-IsLost named p = (way : List Pair) → Contains (ways named p) way → (q : Pair) × Contains way q × (ways named q ≡ [])
+IsLost named p = IsBelow named p.0 p.1 → ⊥
 
 -- a pair of this way is lost
 abbrev pub IsHopeless : (Key → FlowType) → List Pair → Type 0

@@ -5,7 +5,6 @@ use Rattle.subtyping.specs.Closed.{IsBelow}
 use Rattle.subtyping.proofs.TableNames.{table_itself}
 use Rattle.subtyping.proofs.Lifted.{sound, complete}
 use Rattle.subtyping.proofs.Justified.{free_below}
-use Rattle.subtype_rules.proofs.LostPairs.{lost_not_below}
 use Rattle.subtype_rules.proofs.below.decide.Goals as goal
 
 pub returns-then-is_free : goal.returns-then-is_free
@@ -15,7 +14,7 @@ pub returns-then-equals : goal.returns-then-equals
 returns-then-equals c = (λ yes. subst (λ b. IsBelow (unfolded c.args.table.now) c.args.a.now b) (c.equals.ensures.0 c.if-equals.true) (table_itself c.args.table.now c.args.a.now), λ below. refl)
 
 pub returns-then-is_lost : goal.returns-then-is_lost
-returns-then-is_lost c = (λ yes. absurd (true≢false (sym yes)), λ below. absurd (lost_not_below (unfolded c.args.table.now) c.args.a.now c.args.b.now (c.is_lost.ensures c.if-is_lost.true (unfolded c.args.table.now)) below))
+returns-then-is_lost c = (λ yes. absurd (true≢false (sym yes)), λ below. absurd (c.is_lost.ensures c.if-is_lost.true (unfolded c.args.table.now) below))
 
 pub returns-then-covered : goal.returns-then-covered
 returns-then-covered c = (λ yes. c.in_ok-covered.ensures c.if-covered.true (unfolded c.args.table.now) (table_itself c.args.table.now), λ below. refl)
