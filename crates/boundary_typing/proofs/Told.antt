@@ -73,9 +73,9 @@ module _ (alias_at : Bytes → FlowType) where
       ∙ ap (λ (l : List g.Parameter). boundary_params alias_at (parameters_from no_parameter l)) (map-parted parameter_view (take (i + 1) ps) (drop (i + 1) ps))
       ∙ ap (boundary_params alias_at) (parameters_parted no_parameter (map parameter_view (take (i + 1) ps)) (map parameter_view (drop (i + 1) ps)))
       ∙ not_told_from (parameters_view (take (i + 1) ps)) (map parameter_view (drop (i + 1) ps))
-        (told_more ps i p within
-        ∙ ap (λ (q : Parameter). also (boundary_params alias_at (parameters_view (take i ps))) (boundary_param alias_at (parameter_view q))) (sym at)
-        ∙ ap (also (boundary_params alias_at (parameters_view (take i ps)))) is ∙ also_none (boundary_params alias_at (parameters_view (take i ps))))
+      (told_more ps i p within
+      ∙ ap (λ (q : Parameter). also (boundary_params alias_at (parameters_view (take i ps))) (boundary_param alias_at (parameter_view q))) (sym at)
+      ∙ ap (also (boundary_params alias_at (parameters_view (take i ps)))) is ∙ also_none (boundary_params alias_at (parameters_view (take i ps))))
 
   pub told_next : (ps : List Parameter) (i : ℕ) (p : Parameter) → i < length ps → p ≡ get_or ps i p → (all : List Param) (param : Param) → boundary_params alias_at (parameters_view (take i ps)) ≡ Some all → boundary_param alias_at (parameter_view p) ≡ Some param → boundary_params alias_at (parameters_view (take (i + 1) ps)) ≡ Some (all ++ param ∷ [])
   told_next ps i p within at all param is told =

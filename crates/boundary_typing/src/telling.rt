@@ -130,10 +130,5 @@ pub fn declared_type<N: Names>(
 ) -> Result<Option<FlowType>, NoMemory>
     ensures { IfOk result (λ told. told ≡ boundary_declaration (N.stands_for names.now) (declaration_view declaration.now)) }
 {
-    annotated_type(
-        alloc,
-        names,
-        &declaration.annotation,
-        &declaration.value,
-    )
+    annotated_type(alloc, names, &declaration.annotation, &declaration.value)
 }

@@ -23,6 +23,7 @@ module _ (v w : View) (start : Bytes) (alike : (path : Bytes) → Imports w star
       steps : (m : Known) → w path ≡ Some m → ((q l : Bytes) → In q → end_within w n q l ≡ end_within v n q l) → (s : Step) → GoesFound m.deps s → end_of (end_within w n) s ≡ end_of (end_within v n) s
       steps m is rest (ends e) goes_there = refl
       steps m is rest (goes k q l) (spec, at) = ap (of_kind k) (rest q l (further path q there (m, spec, is, at)))
+
       from : (o : Option Known) → w path ≡ o → ((q l : Bytes) → In q → end_within w n q l ≡ end_within v n q l) → end_of (end_within w n) (step_in path o name) ≡ end_of (end_within v n) (step_in path o name)
       from None is rest = refl
       from (Some m) is rest = steps m is rest (step_in path (Some m) name) (goes_found path name m)
@@ -51,9 +52,11 @@ module _ (v w : View) (start : Bytes) (alike : (path : Bytes) → Imports w star
       ended (at_alias home l) is = tt
       ended unknown is = tt
       ended cyclic is = tt
+
       steps : (m : Known) → w path ≡ Some m → ((q l : Bytes) → In q → EndsIn (end_within w n q l)) → (s : Step) → EndsHere path s → GoesFound m.deps s → EndsIn (end_of (end_within w n) s)
       steps m is rest (ends e) here goes_there = ended e here
       steps m is rest (goes k q l) here (spec, at) = kind_in k (end_within w n q l) (rest q l (further path q there (m, spec, is, at)))
+
       from : (o : Option Known) → w path ≡ o → ((q l : Bytes) → In q → EndsIn (end_within w n q l)) → EndsIn (end_of (end_within w n) (step_in path o name))
       from None is rest = tt
       from (Some m) is rest = steps m is rest (step_in path (Some m) name) (ends_here path name m) (goes_found path name m)
@@ -67,9 +70,11 @@ module _ (v w : View) (start : Bytes) (alike : (path : Bytes) → Imports w star
       through : (row : ImportRow) (o : Option Bytes) → found m.deps row.spec ≡ o → alias_through (alias_at w) row o ≡ alias_through (alias_at v) row o
       through row None is = refl
       through row (Some q) is = alias_same row.is_type q row.name (further path q there (m, row.spec, here, is))
+
       imported : (r : Option ImportRow) → alias_imported (alias_at w) m.deps r ≡ alias_imported (alias_at v) m.deps r
       imported None = refl
       imported (Some row) = through row (found m.deps row.spec) refl
+
       own : (b : Bool) → cond b (Some (path, local)) (alias_imported (alias_at w) m.deps (import_at m.sig.imports local)) ≡ cond b (Some (path, local)) (alias_imported (alias_at v) m.deps (import_at m.sig.imports local))
       own true = refl
       own false = imported (import_at m.sig.imports local)

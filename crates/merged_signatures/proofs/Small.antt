@@ -29,7 +29,7 @@ module _ (home path name : Bytes) where
   among_exports (e ∷ exports) o same is = go (bytes_eq e.0 name) refl is (among_exports exports o same)
     where
       go : (b : Bool) → bytes_eq e.0 name ≡ b → cond b (Some e.1) (row_at exports name) ≡ Some o → (row_at exports name ≡ Some o → list_any (name_eq (path, name)) (map (λ e. (home, e.0)) exports) ≡ true) →
-        name_eq (path, name) (home, e.0) || list_any (name_eq (path, name)) (map (λ e. (home, e.0)) exports) ≡ true
+          name_eq (path, name) (home, e.0) || list_any (name_eq (path, name)) (map (λ e. (home, e.0)) exports) ≡ true
       go true at is rest = left_of (name_eq (path, name) (home, e.0)) _ (and_true (bytes_eq path home) (bytes_eq name e.0) ((bytes_decides path home).1 (sym (bytes_same home path same))) ((bytes_decides name e.0).1 (sym (bytes_same e.0 name at))))
       go false at is rest = right_of (name_eq (path, name) (home, e.0)) _ (rest is)
 
@@ -38,7 +38,7 @@ among_names [] path name m o there is = absurd (let f : None ≡ Some m = there 
 among_names (row ∷ program) path name m o there is = go (bytes_eq row.0 path) refl there (among_names program path name m o)
   where
     go : (b : Bool) → bytes_eq row.0 path ≡ b → cond b (Some row.1) (row_at program path) ≡ Some m → (row_at program path ≡ Some m → row_at m.sig.exports name ≡ Some o → list_any (name_eq (path, name)) (names_of program) ≡ true) →
-      list_any (name_eq (path, name)) (map (λ e. (row.0, e.0)) row.1.sig.exports ++ names_of program) ≡ true
+        list_any (name_eq (path, name)) (map (λ e. (row.0, e.0)) row.1.sig.exports ++ names_of program) ≡ true
     go true at there rest =
         list_any-append (name_eq (path, name)) (map (λ e. (row.0, e.0)) row.1.sig.exports) (names_of program)
         ∙ left_of _ (list_any (name_eq (path, name)) (names_of program)) (among_exports row.0 path name row.1.sig.exports o at (let e : row.1 ≡ m = (let f : Some row.1 ≡ Some m = there in cc) in ap (λ (k : Known). row_at k.sig.exports name) e ∙ is))

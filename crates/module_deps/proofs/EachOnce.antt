@@ -47,7 +47,7 @@ distinct_more [] y = refl
 distinct_more (x ∷ xs) y = go (is_among xs y) (bytes_eq y x) refl (distinct_more xs y)
   where
     go : (a b : Bool) → bytes_eq y x ≡ b → distinct (xs ++ y ∷ []) ≡ cond a (distinct xs) (distinct xs ++ y ∷ []) →
-      x ∷ filter (λ later. not (bytes_eq later x)) (distinct (xs ++ y ∷ [])) ≡ cond (b || a) (x ∷ filter (λ later. not (bytes_eq later x)) (distinct xs)) (x ∷ (filter (λ later. not (bytes_eq later x)) (distinct xs) ++ y ∷ []))
+        x ∷ filter (λ later. not (bytes_eq later x)) (distinct (xs ++ y ∷ [])) ≡ cond (b || a) (x ∷ filter (λ later. not (bytes_eq later x)) (distinct xs)) (x ∷ (filter (λ later. not (bytes_eq later x)) (distinct xs) ++ y ∷ []))
     go true true e rest = ap (λ (l : List Bytes). x ∷ filter (λ later. not (bytes_eq later x)) l) rest
     go true false e rest = ap (λ (l : List Bytes). x ∷ filter (λ later. not (bytes_eq later x)) l) rest
     go false true e rest =

@@ -9,8 +9,8 @@ ghost use Rattle.module_resolution.specs.Resolution.{resolved};
 ghost use Rattle.module_resolution.specs.Dependencies.{specifiers_of, specifiers_of_form, specifiers_in, dependencies};
 ghost use Rattle.module_deps.specs.Listing.{rows_for};
 
-use dep_lists::resolve;
 use check_values::{DepRow, Deps, Root};
+use dep_lists::resolve;
 use flow_values::{List, NoMemory, Path, Text};
 use js_tree::{ExportForm, Item, ItemForm, Module};
 use std::alloc::Global;
@@ -89,12 +89,7 @@ fn rows_for(
 /// # Errors
 ///
 /// `NoMemory` where memory is refused.
-pub fn deps_of(
-    alloc: Global,
-    root: &Root,
-    from: &Path,
-    module: &Module,
-) -> Result<Deps, NoMemory>
+pub fn deps_of(alloc: Global, root: &Root, from: &Path, module: &Module) -> Result<Deps, NoMemory>
     requires rising { IsRising (paths_of root.now) }
     ensures rows { IfOk result (λ deps. deps ≡ dependencies (paths_of root.now) from.now (module_view «module».now)) }
 {

@@ -58,7 +58,7 @@ module _ (has has' : Bor Bytes → Bool) (props : List FlowProp) (i n : ℕ) (st
   pub turn_new : (p : FlowProp) (kept : List FlowProp) → p ≡ get_or props i p → key.now ≡ p.key → true ≡ not (has key) → Adds has has' key.now → IsKept has kept (drop n props) → IsKept has' (kept ++ p ∷ []) (drop i props)
   turn_new p kept at same fresh adds (is, tells) =
       subst (IsKept has' (kept ++ p ∷ [])) (sym (at_place p at))
-        (kept_new p (drop n props) kept (sym (met_is p same tells) ∙ off (has key) fresh) is, more_told has has' p (drop n props) tells (of_key p same adds))
+      (kept_new p (drop n props) kept (sym (met_is p same tells) ∙ off (has key) fresh) is, more_told has has' p (drop n props) tells (of_key p same adds))
     where
       off : (b : Bool) → true ≡ not b → b ≡ false
       off true e = absurd (cc)
@@ -67,7 +67,7 @@ module _ (has has' : Bor Bytes → Bool) (props : List FlowProp) (i n : ℕ) (st
   pub turn_old : (p : FlowProp) (kept : List FlowProp) → p ≡ get_or props i p → key.now ≡ p.key → false ≡ not (has key) → Adds has has' key.now → IsKept has kept (drop n props) → IsKept has' kept (drop i props)
   turn_old p kept at same met adds (is, tells) =
       subst (IsKept has' kept) (sym (at_place p at))
-        (kept_old p (drop n props) kept (sym (met_is p same tells) ∙ on (has key) met) is, more_told has has' p (drop n props) tells (of_key p same adds))
+      (kept_old p (drop n props) kept (sym (met_is p same tells) ∙ on (has key) met) is, more_told has has' p (drop n props) tells (of_key p same adds))
     where
       on : (b : Bool) → false ≡ not b → b ≡ true
       on true e = refl
