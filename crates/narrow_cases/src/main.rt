@@ -3,29 +3,15 @@
 //! from the table of narrowing by hand and by a second implementation.
 #![tactic(auto)]
 
-mod trees;
-
 use alias_table::AliasTable;
 use flow_facts::{Lit, Test};
 use flow_values::{Boxed, NoMemory, Path, Text};
-use js_lexer::lex;
 use narrowing::narrow;
 use std::alloc::Global;
 use std::io;
-use type_parser::read_type;
 use type_terms::show;
+use type_texts::type_in_text;
 use type_values::FlowType;
-
-// The type that a text spells.
-fn read(alloc: Global, home: &Path, text: &str) -> Result<Option<FlowType>, NoMemory> {
-    let Ok(tokens) = lex(alloc, text.as_bytes()) else {
-        return Ok(None);
-    };
-    match read_type(alloc, tokens.as_slice(), 0, true) {
-        Ok((tree, _)) => Ok(Some(trees::type_of(&tree, alloc, home)?)),
-        Err(_) => Ok(None),
-    }
-}
 
 // The literal that a type is.
 fn literal(t: FlowType) -> Option<Lit> {
@@ -39,7 +25,7 @@ fn literal(t: FlowType) -> Option<Lit> {
 
 // The string that a text spells.
 fn string(alloc: Global, home: &Path, text: &str) -> Result<Option<Text>, NoMemory> {
-    match read(alloc, home, text)? {
+    match type_in_text(alloc, home, text)? {
         Some(FlowType::StrLit(text)) => Ok(Some(text)),
         _ => Ok(None),
     }
@@ -65,7 +51,7 @@ fn literal_test(
     text: &str,
     holds: bool,
 ) -> Result<Option<Test>, NoMemory> {
-    let Some(t) = read(alloc, home, text)? else {
+    let Some(t) = type_in_text(alloc, home, text)? else {
         return Ok(None);
     };
     match literal(t) {
@@ -133,7 +119,7 @@ fn alias(
     let Some((name, text)) = field.split_once(" = ") else {
         return Ok(None);
     };
-    match read(alloc, home, text)? {
+    match type_in_text(alloc, home, text)? {
         Some(t) => Ok(Some((home.share()?, Text::from_bytes(alloc, name.as_bytes())?, t))),
         None => Ok(None),
     }
@@ -148,7 +134,7 @@ fn narrowed(alloc: Global, home: &Path, line: &str) -> Result<Option<Text>, NoMe
     let (Some(first), Some(second)) = (fields.get(0), fields.get(1)) else {
         return Ok(None);
     };
-    let t = read(alloc, home, first)?;
+    let t = type_in_text(alloc, home, first)?;
     let test = test(alloc, home, second)?;
     let mut rows = Vec::new(alloc);
     for i in 2..fields.len() {

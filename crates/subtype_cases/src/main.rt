@@ -3,17 +3,12 @@
 //! the line. The examples were made from the rules by hand and by a second implementation of them.
 #![tactic(auto)]
 
-ghost use Rattle.std.specs.Prelude.{◌≡◌, IfOk};
-ghost use Rattle.type_values.specs.declared.types.FlowType as made;
-
 use alias_table::AliasTable;
 use flow_values::{NoMemory, Path, Text};
-use js_lexer::lex;
 use std::alloc::Global;
 use std::{fmt, io};
 use subtype_rules::is_subtype;
-use tree_typing::{Names, type_of_tree};
-use type_parser::read_type;
+use type_texts::type_in_text;
 use type_values::FlowType;
 
 /// What a line answers.
@@ -40,52 +35,28 @@ impl From<NoMemory> for Outcome {
     }
 }
 
-/// A module in which every name is an alias.
-#[derive(Drop)]
-struct OneModule {
-    path: Path,
-}
-
-impl Names for OneModule {
-    ghost stands_for = { λ of name. made.Ref of.path name };
-
-    fn type_of_name(&self, _alloc: Global, name: &Text) -> Result<FlowType, NoMemory> {
-        Ok(FlowType::Ref {
-            module: self.path.share()?,
-            name: name.share()?,
-        })
+fn type_of(alloc: Global, home: &Path, source: &str) -> Result<FlowType, Outcome> {
+    match type_in_text(alloc, home, source)? {
+        Some(ty) => Ok(ty),
+        None => Err(Outcome::NotRead),
     }
-}
-
-fn type_of(alloc: Global, names: &OneModule, source: &str) -> Result<FlowType, Outcome> {
-    let Ok(tokens) = lex(alloc, source.as_bytes()) else {
-        return Err(Outcome::NotRead);
-    };
-    let Ok((tree, end)) = read_type(alloc, tokens.as_slice(), 0, true) else {
-        return Err(Outcome::NotRead);
-    };
-    if end < tokens.len() {
-        return Err(Outcome::NotRead);
-    }
-    Ok(type_of_tree(alloc, names, &tree)?)
 }
 
 fn answer(alloc: Global, line: &str) -> Result<bool, Outcome> {
-    let Ok(path) = Path::read(alloc, b"a.js") else {
+    let Ok(home) = Path::read(alloc, b"a.js") else {
         return Err(Outcome::NoMemory);
     };
-    let names = OneModule { path };
     let mut types = Vec::new(alloc);
     let mut rows = Vec::new(alloc);
     for field in line.split('\t') {
         match field.split_once(" = ") {
             Some((name, source)) => {
                 let name = Text::from_bytes(alloc, name.as_bytes())?;
-                let row = (names.path.share()?, name, type_of(alloc, &names, source)?);
+                let row = (home.share()?, name, type_of(alloc, &home, source)?);
                 rows.push(row).map_err(|_| Outcome::NoMemory)?;
             }
             None => {
-                let ty = type_of(alloc, &names, field)?;
+                let ty = type_of(alloc, &home, field)?;
                 types.push(ty).map_err(|_| Outcome::NoMemory)?;
             }
         }
