@@ -12,6 +12,3 @@ mod rows;
 
 pub use below::is_subtype;
 pub use laws::below_is_the_relation;
-
-#[cfg(test)]
-mod tests;
