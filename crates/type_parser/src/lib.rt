@@ -3,7 +3,7 @@
 
 mod begin;
 mod groups;
-mod modes;
+pub mod modes;
 mod nesting;
 mod objects;
 mod read;
@@ -11,4 +11,8 @@ mod state;
 mod step;
 mod words;
 
+pub use nesting::Nesting;
 pub use read::{ParseFault, read_type};
+pub use state::{
+    ArrayName, Based, Frame, Group, GroupName, Keyed, Mode, Object, OpenUnion, Signed, Tuple, Turn,
+};

@@ -1,0 +1,41 @@
+#!/usr/bin/env bash
+# Lexing and reading of modules: megabytes a second and the peak of memory, on declarations and on dense code, each from 64 KiB
+# to a megabyte, beside TypeScript's own parser; and chains of 100,000 operators, which take time in proportion.
+# `rt run` in crates/parse_run builds the program that it measures.
+cd "$(dirname "$0")" || exit 1
+program=../crates/parse_run/out/parse_run
+[ -x "$program" ] || { echo "build it first: rt run in crates/parse_run" >&2; exit 1; }
+folder=$(mktemp -d)
+trap 'rm -rf "$folder"' EXIT
+node source.js >"$folder/declarations.js"
+node dense.js >"$folder/dense.js"
+
+measure() {
+    local name=$1 file=$2 bytes start end said
+    bytes=$(wc -c <"$file")
+    start=$(date +%s.%N)
+    said=$(/usr/bin/env time -f %M -o "$folder/peak" "$program" whole <"$file" | tail -1) || exit 1
+    end=$(date +%s.%N)
+    awk -v name="$name" -v bytes="$bytes" -v start="$start" -v end="$end" -v said="$said" -v peak="$(cat "$folder/peak")" \
+        'BEGIN { printf "%s: %d bytes, %s, %.1f MB/s, %.1f bytes of memory a byte\n", name, bytes, said, bytes * 10 / 1e6 / (end - start), peak * 1024 / bytes }'
+}
+
+for kind in declarations dense; do
+    lines=$(wc -l <"$folder/$kind.js")
+    for parts in 16 4 1; do
+        head -n $((lines / parts)) "$folder/$kind.js" >"$folder/part.js"
+        measure "$kind" "$folder/part.js"
+    done
+    node typescript.js "$folder/$kind.js"
+done
+for count in 50000 100000; do
+    node -e "console.log('x = ' + '!'.repeat($count) + 'a;')" >"$folder/part.js"
+    measure "marks" "$folder/part.js"
+    node -e "console.log('x = ' + Array($count).fill('a').join(' + ') + ';')" >"$folder/part.js"
+    measure "sum" "$folder/part.js"
+    # a mark of a conditional opens an entry, so one of them has 200 arms at most
+    node -e "console.log(('x = ' + 'a ? b : '.repeat(200) + 'c;\\n').repeat($count / 2000))" >"$folder/part.js"
+    measure "conditionals" "$folder/part.js"
+    node -e "console.log('function f() { ' + Array($count / 10).fill('if (a) b;').join(' else ') + ' }')" >"$folder/part.js"
+    measure "branches" "$folder/part.js"
+done

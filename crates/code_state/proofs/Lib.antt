@@ -1,0 +1,3 @@
+pub mod OpenForms
+pub mod Views
+pub mod Pushes

@@ -1,0 +1,80 @@
+//! Reads modules, one a line with `⏎` for each end of a line, and prints of each whether its tokens are a module, or where the
+//! fault stands. The answers that it must print are those of the language's description. With a word on its command line it
+//! reads all of its input as one module instead, so many times over: `bench/parse.sh` measures it.
+#![tactic(auto)]
+
+#[cfg(test)]
+mod tests;
+
+use flow_values::NoMemory;
+use js_lexer::{LexFault, lex};
+use js_parser::read_module;
+use std::alloc::Global;
+use std::env;
+use std::io::{self, Read};
+use type_parser::ParseFault;
+
+const LINE_END: &[u8] = b"\xe2\x8f\x8e";
+
+const ROUNDS: u32 = 10;
+
+// The source that a line stands for.
+fn source_of(alloc: Global, line: &[u8]) -> Result<Vec<u8>, NoMemory> {
+    let mut source = Vec::new(alloc);
+    let mut skipped = 0;
+    for i in 0..line.len() {
+        if skipped > 0 {
+            skipped -= 1;
+        } else if line.len() - i >= 3 && &line[i..i + 3] == LINE_END {
+            source.push(b'\n')?;
+            skipped = 2;
+        } else {
+            source.push(line[i])?;
+        }
+    }
+    Ok(source)
+}
+
+// Prints what a source is.
+fn report(rt: &impl Print, alloc: Global, source: &[u8]) -> io::Result<()> {
+    let tokens = match lex(alloc, source) {
+        Ok(tokens) => tokens,
+        Err(LexFault::BadToken { at }) => return println!(rt; "bad-token {at}"),
+        Err(_) => return println!(rt; "no tokens"),
+    };
+    match read_module(alloc, tokens.as_slice()) {
+        Ok(_) => println!(rt; "ok"),
+        Err(ParseFault::At { token }) => println!(rt; "at {token}"),
+        Err(ParseFault::NoMemory) => println!(rt; "no memory"),
+    }
+}
+
+fn report_line(rt: &impl Print, alloc: Global, line: &[u8]) -> io::Result<()> {
+    match source_of(alloc, line) {
+        Ok(source) => report(rt, alloc, source.as_slice()),
+        Err(NoMemory) => println!(rt; "no memory"),
+    }
+}
+
+// Whether there is a word on the command line.
+fn has_word(rt: &HostRuntime) -> bool {
+    match env::args(rt) {
+        Ok(mut words) => words.nth(1).is_some(),
+        Err(_) => false,
+    }
+}
+
+fn main(rt: HostRuntime) -> io::Result<()> {
+    if has_word(&rt) {
+        let mut source = Vec::new(rt.alloc());
+        rt.reader().read_to_end(&mut source)?;
+        for _ in 0..ROUNDS {
+            report(&rt, rt.alloc(), source.as_slice())?;
+        }
+    } else {
+        for line in rt.lines(rt.alloc()) {
+            report_line(&rt, rt.alloc(), line?.as_bytes())?;
+        }
+    }
+    Ok(())
+}
