@@ -1,6 +1,7 @@
 //! Reads modules, one a line with `⏎` for each end of a line, and prints of each whether its tokens are a module, or where the
-//! fault stands. The answers that it must print are those of the language's description. With a word on its command line it
-//! reads all of its input as one module instead, so many times over: `bench/parse.sh` measures it.
+//! fault stands. A module is spelled too, and must have as many tokens. The answers that it must print are those of the
+//! language's description. With a word on its command line it reads all of its input as one module instead, so many times over:
+//! `bench/parse.sh` measures it.
 #![tactic(auto)]
 
 #[cfg(test)]
@@ -9,6 +10,7 @@ mod tests;
 use flow_values::NoMemory;
 use js_lexer::{LexFault, lex};
 use js_parser::read_module;
+use js_tree::{Module, spell};
 use std::alloc::Global;
 use std::env;
 use std::io::{self, Read};
@@ -35,15 +37,28 @@ fn source_of(alloc: Global, line: &[u8]) -> Result<Vec<u8>, NoMemory> {
     Ok(source)
 }
 
+// Whether the spelling of a module has so many tokens.
+fn is_spelled(alloc: Global, module: &Module, tokens: usize) -> bool {
+    match spell(alloc, module) {
+        Ok(kinds) => kinds.len() == tokens,
+        Err(NoMemory) => false,
+    }
+}
+
 // Prints what a source is.
-fn report(rt: &impl Print, alloc: Global, source: &[u8]) -> io::Result<()> {
+fn report(rt: &impl Print, alloc: Global, source: &[u8], spells: bool) -> io::Result<()> {
     let tokens = match lex(alloc, source) {
         Ok(tokens) => tokens,
         Err(LexFault::BadToken { at }) => return println!(rt; "bad-token {at}"),
         Err(_) => return println!(rt; "no tokens"),
     };
     match read_module(alloc, tokens.as_slice()) {
-        Ok(_) => println!(rt; "ok"),
+        Ok(module) => {
+            if spells && !is_spelled(alloc, &module, tokens.len()) {
+                return println!(rt; "not spelled");
+            }
+            println!(rt; "ok")
+        }
         Err(ParseFault::At { token }) => println!(rt; "at {token}"),
         Err(ParseFault::NoMemory) => println!(rt; "no memory"),
     }
@@ -51,7 +66,7 @@ fn report(rt: &impl Print, alloc: Global, source: &[u8]) -> io::Result<()> {
 
 fn report_line(rt: &impl Print, alloc: Global, line: &[u8]) -> io::Result<()> {
     match source_of(alloc, line) {
-        Ok(source) => report(rt, alloc, source.as_slice()),
+        Ok(source) => report(rt, alloc, source.as_slice(), true),
         Err(NoMemory) => println!(rt; "no memory"),
     }
 }
@@ -69,7 +84,7 @@ fn main(rt: HostRuntime) -> io::Result<()> {
         let mut source = Vec::new(rt.alloc());
         rt.reader().read_to_end(&mut source)?;
         for _ in 0..ROUNDS {
-            report(&rt, rt.alloc(), source.as_slice())?;
+            report(&rt, rt.alloc(), source.as_slice(), false)?;
         }
     } else {
         for line in rt.lines(rt.alloc()) {
