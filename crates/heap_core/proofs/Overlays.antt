@@ -4,8 +4,8 @@ use Rattle.std.specs.Prelude.{is_some, unwrap_or, Result, Ok, Err, IfOk}
 use Rattle.std.specs.Arc.{arc_value}
 use Rattle.std.specs.declared.sync.Arc.{Arc}
 use Rattle.std.proofs.lemmas.List.{replicate_more, map-append}
-use Rattle.heap_core.specs.Meaning.{none_of, stamped, opening, names, after_rollback}
-use Rattle.heap_core.specs.Plain.{values, overlaid, staged_of, meaning_of}
+use Rattle.heap_core.specs.Meaning.{none_of, stamped, names}
+use Rattle.heap_core.specs.Plain.{values, overlaid, staged_of}
 use Rattle.heap_core.specs.PlainLaws.{none_some}
 use Rattle.heap_core.proofs.Lists.{at_put, at_more, drop_step}
 use Rattle.heap_core.proofs.Names.{names-skip, names-append, names-last}
@@ -140,10 +140,6 @@ module _ {P Z : Type 0} where
       let is : y ≡ None = (let k : Some y ≡ Some None = empty 0 (omega arith) in cc) in
       (λ j. is_some (is j) ∷ staged_of-same xs ys (omega arith) (λ k h. empty (suc k) (omega arith)) j)
 
-  -- a heap whose payloads that pended were dropped is rolled back
-  pub cleared : (version : ℕ) (is_open : Bool) (cs : List (Arc P Z)) (xs ys : List (Option (Arc P Z))) (ns : List ℕ) → length ys ≡ length xs → ((k : ℕ) → k < length ys → slice_get ys k ≡ Some None) → meaning_of version false cs ys ns ≡ after_rollback (meaning_of version is_open cs xs ns)
-  cleared version is_open cs xs ys ns same empty = λ j. record { version = version; is_open = false; committed = values cs; latest = overlaid-none cs ys empty j; versions = ns; staged = staged_of-same xs ys (sym same) empty j }
-
   pub values-at : (cs : List (Arc P Z)) (e : ℕ) (c : Arc P Z) → slice_get cs e ≡ Some c → slice_get (values cs) e ≡ Some (arc_value c)
   values-at [] e c h = absurd (none_some c h)
   values-at (d ∷ cs) zero c h = let same : d ≡ c = (let q : Some d ≡ Some c = h in cc) in ap (λ (z : Arc P Z). Some (arc_value z)) same
@@ -181,15 +177,12 @@ module _ {P Z : Type 0} where
   pub none_pends : (xs : List (Option (Arc P Z))) (n : ℕ) → xs ≡ nothing n → (e : ℕ) → e < length xs → slice_get xs e ≡ Some None
   none_pends xs n is = subst (λ (l : List (Option (Arc P Z))). (e : ℕ) → e < length l → slice_get l e ≡ Some None) (sym is) (get-nothing P Z n)
 
-  pub first_meaning : (cs : List (Arc P Z)) (xs : List (Option (Arc P Z))) (ns : List ℕ) (n : ℕ) (first : List P) → values cs ≡ first → length first ≡ n → xs ≡ nothing n → ns ≡ replicate n 0 → meaning_of 0 false cs xs ns ≡ opening first
-  first_meaning cs xs ns n first same many none zeros = λ j. record {
-    version = 0;
-    is_open = false;
-    committed = same j;
-    latest = (ap (overlaid cs) none ∙ (overlaid-nothing cs n ∙ same)) j;
-    versions = (zeros ∙ sym (ap (λ k. replicate k 0) many)) j;
-    staged = (ap staged_of none ∙ (staged_of-nothing P Z n ∙ sym (ap (λ k. replicate k false) many))) j;
-  }
+  -- nothing is staged over the first payloads
+  pub nothing_over : (cs : List (Arc P Z)) (xs : List (Option (Arc P Z))) (n : ℕ) → xs ≡ nothing n → overlaid cs xs ≡ values cs
+  nothing_over cs xs n none = ap (overlaid cs) none ∙ overlaid-nothing cs n
+
+  pub nothing_staged : (xs : List (Option (Arc P Z))) (n : ℕ) → xs ≡ nothing n → staged_of xs ≡ replicate n false
+  nothing_staged xs n none = ap staged_of none ∙ staged_of-nothing P Z n
 
   -- one more payload of the opening state
   pub state_more : (cs more : List (Arc P Z)) (c : Arc P Z) (root x : P) (i : ℕ) → 1 ≤ i → values cs ≡ root ∷ replicate (i - 1) x → more ≡ cs ++ c ∷ [] → arc_value c ≡ x → values more ≡ root ∷ replicate (i + 1 - 1) x

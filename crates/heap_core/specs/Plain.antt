@@ -1,8 +1,7 @@
 -- A plain heap's lists: what is committed, and what is staged over it.
-use Rattle.std.specs.Prelude.{ℕ, Bool, List, [], ◌∷◌, map, Option, is_some, unwrap_or}
+use Rattle.std.specs.Prelude.{Bool, List, [], ◌∷◌, map, Option, is_some, unwrap_or}
 use Rattle.std.specs.Arc.{arc_value}
 use Rattle.std.specs.declared.sync.Arc.{Arc}
-use Rattle.heap_core.specs.Meaning.{Meaning}
 
 module _ {P Z : Type 0} where
   -- the payloads, each behind its `Arc`
@@ -18,8 +17,3 @@ module _ {P Z : Type 0} where
   -- an entity is staged where a payload of it pends
   abbrev pub staged_of : List (Option (Arc P Z)) → List Bool
   staged_of xs = map is_some xs
-
-module _ {P : Type 0} where
-  -- a plain heap as data
-  abbrev pub meaning_of : {Z : Type 0} → ℕ → Bool → List (Arc P Z) → List (Option (Arc P Z)) → List ℕ → Meaning P
-  meaning_of version is_open cs xs ns = record { version = version; is_open = is_open; committed = values cs; latest = overlaid cs xs; versions = ns; staged = staged_of xs }

@@ -1,8 +1,8 @@
 -- Laws of a plain heap: what its meaning keeps.
-use Rattle.std.proofs.Common.{◌≡◌, ℕ, zero, suc, ◌+◌, ◌^◌, ◌<◌, ◌≤◌, Bool, true, false, List, [], ◌∷◌, length, slice_get, refl, sym, ap, ◌∙◌, arith, Option, Some, None}
+use Rattle.std.proofs.Common.{◌≡◌, ℕ, zero, suc, ◌<◌, ◌≤◌, true, false, List, [], ◌∷◌, length, slice_get, refl, ap, arith, Option, Some, None}
 use Rattle.std.specs.declared.sync.Arc.{Arc}
-use Rattle.heap_core.specs.Meaning.{AllFit, IsSound, none_of}
-use Rattle.heap_core.specs.Plain.{values, overlaid, staged_of, meaning_of}
+use Rattle.heap_core.specs.Meaning.{AllFit}
+use Rattle.heap_core.specs.Plain.{values, overlaid, staged_of}
 
 -- none is no value
 pub none_some : {A : Type 0} {X : Type 0} (x : A) → None ≡ Some x → X
@@ -34,20 +34,6 @@ module _ {P Z : Type 0} where
   overlaid-unstaged (c ∷ cs) (None ∷ xs) zero h = refl
   overlaid-unstaged (c ∷ cs) (Some x ∷ xs) zero h = absurd (let k : Some true ≡ Some false = h in cc)
   overlaid-unstaged (c ∷ cs) (x ∷ xs) (suc e) h = overlaid-unstaged cs xs e h
-
-  -- a heap whose lists are as long as they should be is sound
-  pub plain_sound : (fits : ℕ → P → ℕ → P → Type 0) (version : ℕ) (is_open : Bool) (cs : List (Arc P Z)) (xs : List (Option (Arc P Z))) (ns : List ℕ) → 0 < length cs → length xs ≡ length cs → length ns ≡ length cs
-      → AllFit fits (values cs) → ((e n : ℕ) → slice_get ns e ≡ Some n → n ≤ version) → (is_open ≡ false → staged_of xs ≡ none_of (staged_of xs)) → (is_open ≡ true → version + 1 < 2 ^ 31)
-      → IsSound fits (meaning_of version is_open cs xs ns)
-  plain_sound fits version is_open cs xs ns some a b fit bounded closed room = record {
-    some_entity = let l = length-values cs in omega arith;
-    as_many = (length-overlaid cs xs ∙ sym (length-values cs), b ∙ sym (length-values cs), length-staged_of xs ∙ (a ∙ sym (length-values cs)));
-    fit = fit;
-    bounded = bounded;
-    unstaged = λ e h. overlaid-unstaged cs xs e h;
-    closed = closed;
-    room = room;
-  }
 
   -- what a reader promises of the state that it reads
   pub reads_fit : (fits : ℕ → P → ℕ → P → Type 0) (cs : List (Arc P Z)) → 0 < length cs → AllFit fits (values cs) → (0 < length (values cs)) × AllFit fits (values cs)

@@ -2,8 +2,8 @@
 ghost use Rattle.std.specs.Prelude.{◌≡◌, ◌<◌, true, length, None, IfOk, OnErr};
 ghost use Rattle.std.specs.Arc.{arc_value};
 ghost use Rattle.heap_core.specs.Meaning.{staging};
-ghost use Rattle.heap_core.specs.Plain.{meaning_of};
-ghost use Rattle.heap_core.specs.PlainLaws.{plain_sound, none_some};
+ghost use Rattle.heap_core.specs.PlainHeaps.{meaning_of, plain_sound};
+ghost use Rattle.heap_core.specs.PlainLaws.{none_some};
 
 use super::PlainHeap;
 use super::steps::{clear, latest_of, list, put, settle};
@@ -16,11 +16,11 @@ impl<P: Program> HeapWriter<P> for PlainHeap<P> {
 
     ghost part = { λ _. tt };
 
-    ghost meaning = { λ h. meaning_of h.version h.is_open h.committed.items h.pending.items h.versions.items };
+    ghost meaning = { λ h. meaning_of h };
 
     ghost told = { λ _. None };
 
-    ghost sound = { λ h. plain_sound P.fits h.version h.is_open h.committed.items h.pending.items h.versions.items h.some_entity h.as_many.0 h.as_many.1 h.fit h.bounded h.closed h.room };
+    ghost sound = { λ h. plain_sound h };
 
     ghost told_last = { λ h states e. none_some states e };
 
@@ -38,8 +38,8 @@ impl<P: Program> HeapWriter<P> for PlainHeap<P> {
 
     fn stage(&mut self, e: u32, payload: Arc<P>) -> Result<(), NoMemory>
         requires { (self.old.is_open ≡ true) × (e < length self.old.committed.items) }
-        ensures ok { IfOk result (λ _. meaning_of self.new.version self.new.is_open self.new.committed.items self.new.pending.items self.new.versions.items ≡ staging e (arc_value payload) (meaning_of self.old.version self.old.is_open self.old.committed.items self.old.pending.items self.old.versions.items)) }
-        ensures err { OnErr result (meaning_of self.new.version self.new.is_open self.new.committed.items self.new.pending.items self.new.versions.items ≡ meaning_of self.old.version self.old.is_open self.old.committed.items self.old.pending.items self.old.versions.items) }
+        ensures ok { IfOk result (λ _. meaning_of self.new ≡ staging e (arc_value payload) (meaning_of self.old)) }
+        ensures err { OnErr result (meaning_of self.new ≡ meaning_of self.old) }
     {
         let is_staged = self.pending[e as usize].is_some();
         list(&mut self.staged, e, is_staged)?;

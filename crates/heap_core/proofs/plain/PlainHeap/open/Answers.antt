@@ -1,8 +1,8 @@
-use Rattle.std.proofs.Common.{rules, ◌≡◌, ◌-◌, ◌∷◌, arith, sym, subst, length, replicate}
+use Rattle.std.proofs.Common.{◌≡◌, ◌-◌, ◌∷◌, ◌∙◌, arith, ap, sym, subst, length, replicate, false}
 use Rattle.std.proofs.lemmas.List.{length-replicate}
 use Rattle.std.specs.Arc.{arc_value}
 use Rattle.heap_core.specs.Meaning.{AllFit}
-use Rattle.heap_core.proofs.Overlays.{staged_of_none, listed_none, none_pends, first_meaning, zeros-bounded}
+use Rattle.heap_core.proofs.Overlays.{staged_of_none, listed_none, none_pends, nothing_over, nothing_staged, zeros-bounded}
 use Rattle.heap_core.proofs.plain.PlainHeap.open.Goals as goal
 
 pub invariant_of-result-clause-closed : goal.invariant_of-result-clause-closed
@@ -20,5 +20,14 @@ invariant_of-result-clause-bounded g c = zeros-bounded c.in_ok-versions.versions
 pub returns : goal.returns
 returns g c =
     let x = arc_value c.args.absent in let m = length-replicate (c.args.entities - 1) x in let some = c.requires.some in
-    let many : length (arc_value c.args.root ∷ replicate (c.args.entities - 1) x) ≡ c.args.entities = omega arith in
-    first_meaning c.in_ok-committed.committed.items c.in_ok-pending.pending.items c.in_ok-versions.versions.items c.args.entities (arc_value c.args.root ∷ replicate (c.args.entities - 1) x) c.in_ok-committed.ensures many c.in_ok-pending.ensures (search rules)
+    let first = arc_value c.args.root ∷ replicate (c.args.entities - 1) x in let made = c.in_ok-committed.ensures in
+    let many : length first ≡ c.args.entities = omega arith in
+    let none = c.in_ok-pending.ensures in let xs = c.in_ok-pending.pending.items in
+    λ j. record {
+      version = 0;
+      is_open = false;
+      committed = made j;
+      latest = (nothing_over c.in_ok-committed.committed.items xs c.args.entities none ∙ made) j;
+      versions = (c.in_ok-versions.ensures ∙ sym (ap (λ k. replicate k 0) many)) j;
+      staged = (nothing_staged xs c.args.entities none ∙ sym (ap (λ k. replicate k false) many)) j;
+    }
