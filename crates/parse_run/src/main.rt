@@ -1,5 +1,5 @@
 //! Reads modules, one a line with `⏎` for each end of a line, and prints of each whether its tokens are a module, or where the
-//! fault stands. A module is spelled too, and must have as many tokens. The answers that it must print are those of the
+//! fault stands. A module is spelled too, and must have these tokens. The answers that it must print are those of the
 //! language's description. With a word on its command line it reads all of its input as one module instead, so many times over:
 //! `bench/parse.sh` measures it.
 #![tactic(auto)]
@@ -10,6 +10,7 @@ mod tests;
 use flow_values::NoMemory;
 use js_lexer::{LexFault, lex};
 use js_parser::read_module;
+use js_token::Token;
 use js_tree::{Module, spell};
 use std::alloc::Global;
 use std::env;
@@ -37,10 +38,13 @@ fn source_of(alloc: Global, line: &[u8]) -> Result<Vec<u8>, NoMemory> {
     Ok(source)
 }
 
-// Whether the spelling of a module has so many tokens.
-fn is_spelled(alloc: Global, module: &Module, tokens: usize) -> bool {
+// Whether the spelling of a module is that of the tokens.
+fn is_spelled(alloc: Global, module: &Module, tokens: &[Token]) -> bool {
     match spell(alloc, module) {
-        Ok(kinds) => kinds.len() == tokens,
+        Ok(kinds) => {
+            let kinds = kinds.as_slice();
+            kinds.len() == tokens.len() && (0..kinds.len()).all(|i| kinds[i] == tokens[i].kind)
+        }
         Err(NoMemory) => false,
     }
 }
@@ -54,7 +58,7 @@ fn report(rt: &impl Print, alloc: Global, source: &[u8], spells: bool) -> io::Re
     };
     match read_module(alloc, tokens.as_slice()) {
         Ok(module) => {
-            if spells && !is_spelled(alloc, &module, tokens.len()) {
+            if spells && !is_spelled(alloc, &module, tokens.as_slice()) {
                 return println!(rt; "not spelled");
             }
             println!(rt; "ok")

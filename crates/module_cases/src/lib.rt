@@ -1,5 +1,0 @@
-//! Modules built by hand, spelled, and compared with the tokens of their text.
-#![tactic(auto)]
-
-#[cfg(test)]
-mod tests;
