@@ -6,6 +6,3 @@ mod rows;
 
 pub use opening::{has_members, has_one_list_of_members, members, members_of};
 pub use rows::rows_unfold;
-
-#[cfg(test)]
-mod tests;

@@ -6,6 +6,3 @@ mod walking;
 
 pub use links::{End, Link};
 pub use walking::ends_of;
-
-#[cfg(test)]
-mod tests;

@@ -12,6 +12,3 @@ mod names;
 pub use errors::check1;
 pub use fault::{Code, Errs, Fault};
 pub use laws::{one_answer, one_reading};
-
-#[cfg(test)]
-mod tests;

@@ -8,6 +8,3 @@ mod words;
 pub use status::Status;
 pub use top::flowd;
 pub use words::root_word;
-
-#[cfg(test)]
-mod tests;

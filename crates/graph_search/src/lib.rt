@@ -19,6 +19,3 @@ pub use grouping::components;
 pub use laws::{one_list_of_components, one_list_of_waves};
 pub use leveling::waves;
 pub use reaching::reach;
-
-#[cfg(test)]
-mod tests;

@@ -13,6 +13,3 @@ pub use edits::{EditFault, Edits, Wanted};
 pub use laws::one_edit;
 pub use opening::empty_heap;
 pub use recheck::{Outcome, recheck_all};
-
-#[cfg(test)]
-mod tests;

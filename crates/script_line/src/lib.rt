@@ -6,6 +6,3 @@ mod reading;
 
 pub use line::{Ask, Line, LineFault};
 pub use reading::read_line;
-
-#[cfg(test)]
-mod tests;

@@ -6,6 +6,3 @@ mod lines;
 
 pub use errors::{push_error, status_line};
 pub use lines::{bad_line, done_line, fault_line, files_line, long_line, many_lines, refused_line};
-
-#[cfg(test)]
-mod tests;

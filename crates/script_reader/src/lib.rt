@@ -5,6 +5,3 @@ mod reader;
 mod window;
 
 pub use reader::{LineReader, ReadFault};
-
-#[cfg(test)]
-mod tests;

@@ -6,6 +6,3 @@ mod sharing;
 mod types;
 
 pub use types::{FlowProp, FlowType, Param, Variance};
-
-#[cfg(test)]
-mod tests;

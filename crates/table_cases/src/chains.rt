@@ -1,4 +1,4 @@
-use crate::{End, Link, ends_of};
+use chain_ends::{End, Link, ends_of};
 use flow_values::NoMemory;
 
 fn value(next: usize) -> Link {

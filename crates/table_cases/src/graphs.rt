@@ -1,5 +1,5 @@
-use crate::{mark_cycles, reach};
 use flow_values::{List, NoMemory};
+use graph_search::{mark_cycles, reach};
 
 // 0 and 1 lead to each other, 2 leads to them, 3 leads to itself, 4 leads nowhere, and 5 from one
 // cycle to another.

@@ -1,4 +1,4 @@
-use crate::{Code, check1};
+use flow_model::{Code, check1};
 use flow_values::Span;
 use std::test::Fail;
 

@@ -1,9 +1,9 @@
 ghost use Rattle.recheck_run.specs.Recheck.{HasRoom};
 
-use crate::{EditFault, Edits, Outcome, empty_heap, recheck_all};
 use flow_base::{FailFolder, Folder, List, MemFolder, Path, Text};
 use flow_state::Payload;
 use heap_core::{HeapWriter, PlainHeap};
+use recheck_run::{EditFault, Edits, Outcome, empty_heap, recheck_all};
 use std::alloc::Global;
 use std::test::Fail;
 

@@ -1,7 +1,7 @@
-use crate::{Status, flowd, root_word};
 use flow_base::{
     FailFolder, FailSink, FailSource, List, MemFolder, MemSink, MemSource, Open, Path, Text,
 };
+use flowd_top::{Status, flowd, root_word};
 use std::alloc::Global;
 use std::test::Fail;
 

@@ -1,4 +1,4 @@
-use crate::{members, members_of};
+use alias_members::{members, members_of};
 use alias_table::AliasTable;
 use flow_values::{List, NoMemory, Path, Shared, Text};
 use std::alloc::Global;

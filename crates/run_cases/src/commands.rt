@@ -1,4 +1,4 @@
-use crate::{Ask, Line, LineFault, read_line};
+use script_line::{Ask, Line, LineFault, read_line};
 use std::test::Fail;
 
 #[test]

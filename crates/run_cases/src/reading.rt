@@ -1,5 +1,5 @@
-use crate::{LineReader, ReadFault};
 use flow_base::{List, MemSource, Text};
+use script_reader::{LineReader, ReadFault};
 use std::test::Fail;
 
 fn line_of(reader: &mut LineReader, source: &mut MemSource) -> Result<Text, Fail> {

@@ -1,9 +1,9 @@
-use crate::{
+use flow_base::{Path, Span, Text};
+use flow_model::{Code, Fault};
+use script_print::{
     bad_line, done_line, fault_line, files_line, long_line, many_lines, push_error, refused_line,
     status_line,
 };
-use flow_base::{Path, Span, Text};
-use flow_model::{Code, Fault};
 use std::test::Fail;
 
 #[test]
