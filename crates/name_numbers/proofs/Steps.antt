@@ -4,6 +4,7 @@ use Rattle.std.specs.Option.{option_and_then}
 use Rattle.std.specs.Ordering.{nat_cmp, is_eq}
 use Rattle.std.specs.Cmp.Lexicographic.{slice_cmp}
 use Rattle.std.specs.BTreeMap.{get, is_at}
+use Rattle.std.specs.Map.{lookup}
 use Rattle.std.proofs.lemmas.Map.Text.{is_eq-slice_cmp}
 use Rattle.check_values.specs.Rows.{Bytes, Rows, row_at}
 use Rattle.name_numbers.specs.Looking.{looked_or, looked}
@@ -69,3 +70,14 @@ module _ {N : Type 0} where
       go : (p : Option ℕ) → option_and_then (slice_get nodes) p ≡ slice_get nodes (unwrap_or p (length nodes))
       go None = sym (past_end nodes)
       go (Some n) = refl
+
+  -- where the map is empty all rows are to come
+  pub begun : (rows : Rows N) (nodes more : List N) (places : Places) → places.entries ≡ [] → (name : Bytes) → row_at rows name ≡ row_or rows name (node_at nodes more (place places name))
+  begun rows nodes more places empty name = row_alone rows name ∙ ap (λ (l : List (Bytes × ℕ)). row_or rows name (node_at nodes more (lookup (is_at (slice_cmp nat_cmp name)) l))) (sym empty)
+
+  pub begun_modules : (modules : Rows (Rows N)) (nodes more : List N) (maps : Modules) → maps.entries ≡ [] → (path name : Bytes) → looked modules path name ≡ looked_or modules path name (node_at nodes more (number_at maps path name))
+  begun_modules modules nodes more maps empty path name = ap (λ (l : List (Bytes × Places)). looked_or modules path name (node_at nodes more (option_and_then (λ p. place p name) (lookup (is_at (slice_cmp nat_cmp path)) l)))) (sym empty)
+
+pub none_left : {X : Type 0} (xs : List X) → length xs ≡ 0 → xs ≡ []
+none_left [] none = refl
+none_left (x ∷ xs) none = absurd (omega arith)

@@ -5,8 +5,8 @@ use Rattle.name_numbers.proofs.numbering.places.Given as goal
 
 abbrev pub invariant-loop-name : goal.invariant-loop-name
 invariant-loop-name g l = record {
-  grows : (added : List g.N.Type) × (l.nodes.items ≡ l.fn.nodes.items ++ added);
-  places : (name : Bytes) (more : List g.N.Type) → row_at l.initial.rows name ≡ row_or l.rows name (node_at l.nodes.items more (place l.places name));
+  grows : (added : List g.row.N.Denot) × (l.nodes.items ≡ l.fn.nodes.items ++ added);
+  places : (name : Bytes) (more : List g.row.N.Denot) → row_at l.initial.rows name ≡ row_or l.rows name (node_at l.nodes.items more (place l.places name));
 }
 
 abbrev pub decreases-loop-name : goal.decreases-loop-name

@@ -1,0 +1,3 @@
+pub mod Nodes
+pub mod Linking
+pub mod Jobs
