@@ -186,7 +186,7 @@ module _ (job : Job) (nodes : List Node) (number : Bytes → Bytes → ℕ) (num
   tells (suc steps) path name = next steps (tells steps) path name
 
   same_most : follow.most ≡ chain.most
-  unfolding follow.most, chain.most
+  unfolding follow.most chain.most
   same_most = refl
 
   pub chain_tells : (path name : Bytes) → end_export types nodes (chain_end links (number path name)) ≡ job_export_of job (job_denotes job path name)

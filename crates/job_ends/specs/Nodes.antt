@@ -26,9 +26,16 @@ outer_rows s = map (λ row. (row.0, outer row.1)) s.exports
 abbrev pub inner_rows : Bytes → Known → Rows Node
 inner_rows path m = map (λ row. (row.0, inner path m row.1)) m.sig.exports
 
--- the exports of each module of a job; one outside comes before the members
+-- the exports of modules outside
+abbrev pub outer_modules : Rows Sig → Rows (Rows Node)
+outer_modules outside = map (λ row. (row.0, outer_rows row.1)) outside
+
+abbrev pub inner_module : Bytes × Known → Bytes × Rows Node
+inner_module row = (row.0, inner_rows row.0 row.1)
+
+-- the exports of each module of a job; those outside come before the members
 abbrev pub nodes_by_module : Job → Rows (Rows Node)
-nodes_by_module job = map (λ row. (row.0, outer_rows row.1)) job.outside ++ map (λ row. (row.0, inner_rows row.0 row.1)) job.members
+nodes_by_module job = outer_modules job.outside ++ map inner_module job.members
 
 -- what is exported under a name whose chain ends at a node; types tells a member's type with its names replaced
 abbrev pub node_export : (Bytes → Known → FlowType → FlowType) → Option Node → Export
