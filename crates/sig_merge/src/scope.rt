@@ -16,6 +16,7 @@ use std::alloc::Global;
 use type_values::FlowType;
 
 // The names in the types of a member, and where the names of its job end.
+#[derive(Drop)]
 struct Scope<'a, 'b> {
     ends: &'b JobEnds<'a>,
     member: &'b Member<'a>,
