@@ -1,8 +1,7 @@
 -- What the ends of a job tell of it.
-use Rattle.std.proofs.Common.{◌≡◌, ℕ, zero, suc, ◌<◌, ◌≤◌, ◌^◌, Bool, true, false, cond, List, [], ◌∷◌, map, length, slice_get, Option, Some, None, option_map, unwrap_or, bytes_eq, ◌⊎◌, inl, inr, get_or, refl, sym, ap, ◌∙◌, arith}
-use Rattle.std.proofs.lemmas.Option.{slice_get-map, slice_get_past, slice_get_cases, slice_get_within}
+use Rattle.std.proofs.Common.{◌≡◌, ℕ, zero, suc, ◌<◌, ◌≤◌, Bool, true, false, cond, List, [], ◌∷◌, map, length, slice_get, Option, Some, None, option_map, unwrap_or, bytes_eq, ◌⊎◌, inl, inr, get_or, refl, sym, ap, ◌∙◌, arith}
+use Rattle.std.proofs.lemmas.Option.{slice_get-map, slice_get_past, slice_get_cases}
 use Rattle.check_values.specs.Rows.{Bytes, Rows, row_at}
-use Rattle.type_names.specs.Names.{Name}
 use Rattle.named_rows.specs.Seen.{seen}
 use Rattle.named_rows.proofs.FirstRows.{row_seen}
 use Rattle.name_numbers.specs.Looking.{looked}
@@ -13,12 +12,12 @@ use Rattle.chain_ends.specs.declared.links.Link.{Link}
 use Rattle.chain_ends.specs.Following as follow
 use Rattle.chain_ends.specs.Following.{AreEnds, chain_end, end_within}
 use Rattle.chain_ends.proofs.Walks.{fits_most}
-use Rattle.merged_signatures.specs.Job.{Job, alias_told, told_of_kind, job_of_kind, job_denotes, job_export_of, job_alias_at}
+use Rattle.merged_signatures.specs.Job.{Job, alias_told, told_of_kind, job_of_kind, job_denotes, job_alias_at}
 use Rattle.job_ends.specs.declared.job.MergeJob.{MergeJob}
 use Rattle.job_ends.specs.declared.nodes.Node as code
 use Rattle.job_ends.specs.declared.ends.JobEnds.{JobEnds}
 use Rattle.job_ends.specs.Jobs.{job_view}
-use Rattle.job_ends.specs.Nodes.{Node, nodes_by_module, end_export, end_alias, node_alias}
+use Rattle.job_ends.specs.Nodes.{Node, nodes_by_module, end_export, node_alias}
 use Rattle.job_ends.specs.Linking.{links_from}
 use Rattle.job_ends.specs.Views.{node_view, rows_view}
 use Rattle.job_ends.specs.Telling.{nodes_in, end_in, alias_in, job_type, TellsJob}

@@ -1,5 +1,5 @@
 -- What stands at a name of a job's modules.
-use Rattle.std.proofs.Common.{◌≡◌, ℕ, Bool, true, false, cond, List, [], ◌∷◌, ◌++◌, map, Option, Some, None, option_map, bytes_eq, refl, sym, ap, ◌∙◌}
+use Rattle.std.proofs.Common.{◌≡◌, Bool, true, false, cond, [], ◌∷◌, ◌++◌, map, Option, Some, None, option_map, bytes_eq, refl, ap, ◌∙◌}
 use Rattle.check_values.specs.Rows.{Bytes, Rows, row_at}
 use Rattle.check_values.specs.declared.signatures.Sig.{Sig}
 use Rattle.merged_signatures.specs.Chains.{Known}

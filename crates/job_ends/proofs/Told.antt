@@ -1,27 +1,25 @@
 -- The end of a chain between numbers tells what the job's chain does.
-use Rattle.std.proofs.Common.{◌≡◌, ℕ, zero, suc, ◌+◌, ◌<◌, Bool, true, false, cond, List, [], ◌∷◌, length, slice_get, Option, Some, None, option_map, unwrap_or, refl, sym, ap, ◌∙◌, arith}
-use Rattle.check_values.specs.Rows.{Bytes, Rows, row_at}
+use Rattle.std.proofs.Common.{◌≡◌, ℕ, zero, suc, ◌+◌, Bool, true, false, cond, List, [], ◌∷◌, slice_get, Option, Some, None, option_map, unwrap_or, refl, sym, ap, ◌∙◌, arith}
+use Rattle.check_values.specs.Rows.{Bytes, row_at}
 use Rattle.check_values.specs.declared.signatures.Export.{Export}
 use Rattle.check_values.specs.declared.signatures.Export.TheVariants as export
 use Rattle.check_values.specs.declared.signatures.Origin.{Origin}
 use Rattle.check_values.specs.declared.signatures.Origin.TheVariants as origin
 use Rattle.check_values.specs.declared.signatures.Sig.{Sig}
-use Rattle.type_names.specs.Names.{Name}
 use Rattle.type_values.specs.declared.types.FlowType.{FlowType}
 use Rattle.chain_ends.specs.declared.links.End.{End}
 use Rattle.chain_ends.specs.declared.links.End.TheVariants.{Value, Alias, Unknown, Cyclic}
 use Rattle.chain_ends.specs.declared.links.Link.{Link}
-use Rattle.chain_ends.specs.declared.links.Link.TheVariants.{Ends, Goes}
+use Rattle.chain_ends.specs.declared.links.Link.TheVariants.{Ends}
 use Rattle.chain_ends.specs.Following as follow
-use Rattle.chain_ends.specs.Following.{AreEnds, chain_end, end_within}
-use Rattle.chain_ends.proofs.Walks.{fits_most}
+use Rattle.chain_ends.specs.Following.{chain_end, end_within}
 use Rattle.merged_signatures.specs.Chains as chain
-use Rattle.merged_signatures.specs.Chains.{Known, found, at_value, at_alias, unknown, cyclic, Step, ends, goes, goes_to, step_in, step_of}
+use Rattle.merged_signatures.specs.Chains.{Known, found, at_value, at_alias, unknown, cyclic, ends, goes_to, step_in, step_of}
 use Rattle.merged_signatures.specs.Merged.{type_with, type_at}
 use Rattle.merged_signatures.specs.Job.{Job, JobEnd, inside, told, told_of_kind, job_of_kind, job_end_of, told_by, job_end_within, job_denotes, alias_told, job_as_alias, job_alias_at, job_export_of, members_view}
 use Rattle.name_numbers.specs.Looking.{looked}
 use Rattle.job_ends.specs.Nodes.{Node, outer, inner, nodes_by_module, node_export, only_value, only_alias, end_export, node_alias, end_alias}
-use Rattle.job_ends.specs.Linking.{outer_end, link_to, origin_link, link_of, links_from}
+use Rattle.job_ends.specs.Linking.{link_to, origin_link, link_of, links_from}
 use Rattle.job_ends.proofs.Looked.{member_node, job_node, job_looked}
 
 -- ---- kinds

@@ -1,5 +1,5 @@
 -- The names of a job as nodes.
-use Rattle.std.specs.Prelude.{ℕ, Bool, List, [], ◌∷◌, ◌++◌, map, slice_get, Option, Some, None}
+use Rattle.std.specs.Prelude.{List, ◌++◌, map, slice_get, Option, Some, None}
 use Rattle.check_values.specs.Rows.{Bytes, Rows}
 use Rattle.check_values.specs.declared.signatures.Export.{Export}
 use Rattle.check_values.specs.declared.signatures.Export.TheVariants as export

@@ -1,5 +1,5 @@
 -- What stands beside a name of a module, where each module has rows of names.
-use Rattle.std.specs.Prelude.{List, [], ◌∷◌, Option, None, if◌then◌else◌}
+use Rattle.std.specs.Prelude.{[], ◌∷◌, Option, None, if◌then◌else◌}
 use Rattle.std.specs.Str.{bytes_eq}
 use Rattle.check_values.specs.Rows.{Bytes, Rows, row_at}
 

@@ -7,7 +7,7 @@ use Rattle.type_values.specs.declared.types.FlowType.TheViews.{rolls-Union, roll
 use Rattle.type_values.specs.declared.types.FlowType.TheFolds.{fold-roll-FlowType, fold_out-FlowProp, fold_out-Param}
 use Rattle.type_values.specs.declared.types.FlowProp.{FlowProp}
 use Rattle.type_values.specs.declared.types.Param.{Param}
-use Rattle.type_names.specs.Names.{Name, level_replaced, prop_replaced, param_replaced}
+use Rattle.type_names.specs.Names.{level_replaced, prop_replaced, param_replaced}
 use Rattle.name_replacing.specs.Replacing.{by_word, type_by, prop_by, param_by}
 
 module _ (means : List ℕ → FlowType) where

@@ -1,11 +1,7 @@
-use Rattle.std.proofs.Common.{◌≡◌, ◌++◌, map, take}
-use Rattle.std.specs.Option.{option_copied}
+use Rattle.std.proofs.Common.{◌≡◌, take}
 use Rattle.named_rows.specs.Seen.{seen}
-use Rattle.name_numbers.specs.Numbering.{number_in}
-use Rattle.job_ends.specs.Jobs.{known_of, member_view, imports_by_local, found_by_spec}
-use Rattle.job_ends.specs.Nodes.{outer, inner, outer_modules, inner_module}
-use Rattle.job_ends.specs.Linking.{links_from}
-use Rattle.job_ends.specs.Views.{node_view, rows_view}
+use Rattle.job_ends.specs.Nodes.{outer_modules}
+use Rattle.job_ends.specs.Views.{rows_view}
 use Rattle.job_ends.proofs.nodes.outer_modules.Given as goal
 
 abbrev pub invariant-loop-i : goal.invariant-loop-i

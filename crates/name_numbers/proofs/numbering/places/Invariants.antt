@@ -1,4 +1,4 @@
-use Rattle.std.proofs.Common.{◌≡◌, ◌++◌, List, ℕ, length}
+use Rattle.std.proofs.Common.{◌≡◌, ◌++◌, List, length}
 use Rattle.check_values.specs.Rows.{Bytes, row_at}
 use Rattle.name_numbers.specs.Numbering.{place, row_or, node_at}
 use Rattle.name_numbers.proofs.numbering.places.Given as goal

@@ -1,4 +1,4 @@
-use Rattle.std.proofs.Common.{◌++◌, ◌∷◌, [], List, sym, ap, ◌∙◌, arith}
+use Rattle.std.proofs.Common.{[], ap, ◌∙◌, arith}
 use Rattle.check_values.specs.Rows.{Rows}
 use Rattle.name_numbers.specs.Looking.{looked_or}
 use Rattle.name_numbers.specs.Numbering.{node_at, number_at}

@@ -1,4 +1,4 @@
-use Rattle.std.proofs.Common.{◌≡◌, List, ℕ, length}
+use Rattle.std.proofs.Common.{◌≡◌, List, length}
 use Rattle.check_values.specs.Rows.{Bytes}
 use Rattle.name_numbers.specs.Looking.{looked, looked_or}
 use Rattle.name_numbers.specs.Numbering.{number_at, node_at}

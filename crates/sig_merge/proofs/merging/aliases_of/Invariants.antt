@@ -1,9 +1,0 @@
-use Rattle.std.proofs.Common.{◌≡◌, Some, map, take}
-use Rattle.job_ends.specs.Nodes.{node_export}
-use Rattle.job_ends.specs.Views.{node_view}
-use Rattle.job_ends.specs.Telling.{end_in}
-use Rattle.sig_merge.specs.Merging.{types_in, type_in, export_in, signature_by}
-use Rattle.sig_merge.proofs.merging.aliases_of.Given as goal
-
-abbrev pub invariant-loop-i : goal.invariant-loop-i
-invariant-loop-i l = l.rows ≡ map (λ row. (row.0, type_in l.ends l.member.member.now row.1)) (take l.i l.aliases)
