@@ -29,9 +29,6 @@ nothing_there : (links : List Link) (n : ℕ) → slice_get links n ≡ None →
 nothing_there links n none zero some = absurd (omega arith)
 nothing_there links n none (suc steps) some = ap (follow.end_of (end_within links steps)) none
 
-some_is : {A : Type 0} (x y : A) → Some x ≡ Some y → x ≡ y
-some_is x y e = cc
-
 end_is : (links : List Link) (ends : List End) → AreEnds links ends → (n : ℕ) → unwrap_or (slice_get ends n) Unknown ≡ chain_end links n
 end_is links ends (same, all) n = go (slice_get_cases links n).1
   where

@@ -19,13 +19,21 @@ use std::alloc::Global;
 
 /// The names of a job, and where the chain of each ends.
 #[derive(Drop)]
-pub struct JobEnds<'a> {
-    numbered: Numbered<Node<'a>>,
+pub struct JobEnds<'m, 'j> {
+    numbered: Numbered<Node<'m, 'j>>,
     ends: Vec<End>,
 }
 
+// The path of a member's module.
+fn path_of<'j>(member: &Member<'j>) -> &'j Path
+    ensures { result.now ≡ member.now.member.now.path }
+{
+    let own = member.member;
+    &own.path
+}
+
 // The alias that a node is, if it is one.
-fn node_alias<'a>(node: Option<Node<'a>>) -> Option<(&'a Path, &'a Text)>
+fn node_alias<'m, 'j>(node: Option<Node<'m, 'j>>) -> Option<(&'j Path, &'j Text)>
     ensures { option_map name_view result ≡ node_alias (option_map node_view node.entry) }
 {
     match node? {
@@ -34,7 +42,7 @@ fn node_alias<'a>(node: Option<Node<'a>>) -> Option<(&'a Path, &'a Text)>
             Export::Value(_) | Export::Unknown | Export::Cyclic => None,
         },
         Node::Inner(member, origin) => match origin {
-            Origin::Alias(name) => Some((&member.member.path, name)),
+            Origin::Alias(name) => Some((path_of(member), name)),
             Origin::Value(_)
             | Origin::Import {
                 spec: _,
@@ -46,7 +54,7 @@ fn node_alias<'a>(node: Option<Node<'a>>) -> Option<(&'a Path, &'a Text)>
     }
 }
 
-impl<'a> JobEnds<'a> {
+impl<'m, 'j> JobEnds<'m, 'j> {
     /// The ends of a job's chains. `members` are the job's own, as `members` gives them. Each chain is followed once.
     ///
     /// # Errors
@@ -54,9 +62,9 @@ impl<'a> JobEnds<'a> {
     /// `NoMemory` where memory is refused.
     pub fn new(
         alloc: Global,
-        job: &'a MergeJob,
-        members: &'a [Member<'a>],
-    ) -> Result<JobEnds<'a>, NoMemory>
+        job: &'j MergeJob,
+        members: &'m [Member<'j>],
+    ) -> Result<JobEnds<'m, 'j>, NoMemory>
         requires { map (λ own. own.member.now) members.now ≡ job.now.members }
         ensures tells { IfOk result (λ ends. TellsJob (job_view job.now) ends) }
         ensures aliases { IfOk result (λ ends. (is_type : Bool) (path name : List ℕ) → alias_in ends is_type path name ≡ job_alias_at (job_view job.now) is_type path name) }
@@ -67,7 +75,7 @@ impl<'a> JobEnds<'a> {
     }
 
     /// What is known of the names, by their numbers.
-    pub fn nodes(&self) -> &[Node<'a>]
+    pub fn nodes(&self) -> &[Node<'m, 'j>]
         ensures { result.now ≡ code_nodes self.now }
     {
         self.numbered.nodes()
@@ -81,14 +89,14 @@ impl<'a> JobEnds<'a> {
         self.ends.get(number).copied().unwrap_or(End::Unknown)
     }
 
-    fn node(&self, number: usize) -> Option<Node<'a>>
+    fn node(&self, number: usize) -> Option<Node<'m, 'j>>
         ensures { result ≡ slice_get (code_nodes self.now) number }
     {
         self.numbered.nodes().get(number).copied()
     }
 
     #[tactic(auto, using(crate::proofs::Ending::alias_node))]
-    fn end_alias(&self, end: End) -> Option<(&'a Path, &'a Text)>
+    fn end_alias(&self, end: End) -> Option<(&'j Path, &'j Text)>
         ensures { option_map name_view result ≡ end_alias (nodes_in self.now) end }
     {
         match end {
@@ -98,7 +106,7 @@ impl<'a> JobEnds<'a> {
     }
 
     /// The alias that a name of a module denotes, asked for as a type or as a value, if it denotes one.
-    pub fn alias(&self, is_type: bool, path: &Path, name: &Text) -> Option<(&'a Path, &'a Text)>
+    pub fn alias(&self, is_type: bool, path: &Path, name: &Text) -> Option<(&'j Path, &'j Text)>
         ensures { option_map name_view result ≡ alias_in self.now is_type path.now name.now }
     {
         self.end_alias(self.end(path, name).of_kind(is_type))

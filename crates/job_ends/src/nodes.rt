@@ -13,34 +13,34 @@ use std::alloc::Global;
 
 /// What a job knows of a name.
 #[derive(Clone, Copy)]
-pub enum Node<'a> {
+pub enum Node<'m, 'j> {
     /// What a signature outside tells of it.
-    Outer(&'a Export),
+    Outer(&'j Export),
     /// What a member says of it.
-    Inner(&'a Member<'a>, &'a Origin),
+    Inner(&'m Member<'j>, &'j Origin),
 }
 
 /// The names of a module, each with what is known of it.
-pub type Rows<'a> = List<(Text, Node<'a>)>;
+pub type Rows<'m, 'j> = List<(Text, Node<'m, 'j>)>;
 
 #[tactic(auto, using(crate::proofs::Lists::seen_more))]
-fn outer_rows<'a>(alloc: Global, sig: &'a Sig) -> Result<Rows<'a>, NoMemory>
-    ensures { IfOk result (λ rows. seen node_view rows ≡ outer_rows sig.now) }
+fn add_outer_rows<'m, 'j>(sig: &'j Sig, rows: &mut Rows<'m, 'j>) -> Result<(), NoMemory>
+    ensures { OnOk result (seen node_view rows.new ≡ seen node_view rows.old ++ outer_rows sig.now) }
 {
     let exports = sig.exports.as_slice();
-    let mut rows = List::new(alloc);
     for i in 0..exports.len() {
         let row = &exports[i];
         rows.push((row.0.share()?, Node::Outer(&row.1)))?;
     }
-    Ok(rows)
+    Ok(())
 }
 
 #[tactic(auto, using(crate::proofs::Lists::seen_more))]
-fn inner_rows<'a>(alloc: Global, member: &'a Member<'a>) -> Result<Rows<'a>, NoMemory>
+fn inner_rows<'m, 'j>(alloc: Global, member: &'m Member<'j>) -> Result<Rows<'m, 'j>, NoMemory>
     ensures { IfOk result (λ rows. seen node_view rows ≡ inner_rows member.now.member.now.path (known_of member.now.member.now)) }
 {
-    let exports = member.member.sig.get().exports.as_slice();
+    let own = member.member;
+    let exports = own.sig.get().exports.as_slice();
     let mut rows = List::new(alloc);
     for i in 0..exports.len() {
         let row = &exports[i];
@@ -50,25 +50,27 @@ fn inner_rows<'a>(alloc: Global, member: &'a Member<'a>) -> Result<Rows<'a>, NoM
 }
 
 #[tactic(auto, using(crate::proofs::Lists::seen_more))]
-fn outer_modules<'a>(
+fn add_outer_modules<'m, 'j>(
     alloc: Global,
-    outside: &'a [(Path, Shared<Sig>)],
-) -> Result<Vec<(Path, Rows<'a>)>, NoMemory>
-    ensures { IfOk result (λ modules. seen rows_view modules.items ≡ outer_modules outside.now) }
+    outside: &'j [(Path, Shared<Sig>)],
+    modules: &mut Vec<(Path, Rows<'m, 'j>)>,
+) -> Result<(), NoMemory>
+    ensures { OnOk result (seen rows_view modules.new.items ≡ seen rows_view modules.old.items ++ outer_modules outside.now) }
 {
-    let mut modules = Vec::new(alloc);
     for i in 0..outside.len() {
         let row = &outside[i];
-        modules.push((row.0.share()?, outer_rows(alloc, row.1.get())?))?;
+        let mut rows = List::new(alloc);
+        add_outer_rows(row.1.get(), &mut rows)?;
+        modules.push((row.0.share()?, rows))?;
     }
-    Ok(modules)
+    Ok(())
 }
 
 #[tactic(auto, using(crate::proofs::Lists::seen_more))]
-fn add_inner_modules<'a>(
+fn add_inner_modules<'m, 'j>(
     alloc: Global,
-    members: &'a [Member<'a>],
-    modules: &mut Vec<(Path, Rows<'a>)>,
+    members: &'m [Member<'j>],
+    modules: &mut Vec<(Path, Rows<'m, 'j>)>,
 ) -> Result<(), NoMemory>
     ensures { OnOk result (seen rows_view modules.new.items ≡ seen rows_view modules.old.items ++ map (λ own. inner_module (member_view own.member.now)) members.now) }
 {
@@ -86,15 +88,16 @@ fn add_inner_modules<'a>(
 ///
 /// `NoMemory` where memory is refused.
 #[tactic(auto, using(crate::proofs::Lists::of_members))]
-pub(crate) fn modules<'a>(
+pub(crate) fn modules<'m, 'j>(
     alloc: Global,
-    job: &'a MergeJob,
-    members: &'a [Member<'a>],
-) -> Result<Vec<(Path, Rows<'a>)>, NoMemory>
+    job: &'j MergeJob,
+    members: &'m [Member<'j>],
+) -> Result<Vec<(Path, Rows<'m, 'j>)>, NoMemory>
     requires { map (λ own. own.member.now) members.now ≡ job.now.members }
     ensures { IfOk result (λ modules. seen rows_view modules.items ≡ nodes_by_module (job_view job.now)) }
 {
-    let mut modules = outer_modules(alloc, job.outside.as_slice())?;
+    let mut modules = Vec::new(alloc);
+    add_outer_modules(alloc, job.outside.as_slice(), &mut modules)?;
     add_inner_modules(alloc, members, &mut modules)?;
     Ok(modules)
 }
