@@ -78,7 +78,7 @@ end_within v zero path name = cyclic
 end_within v (suc steps) path name = end_of (end_within v steps) (step_in path (v path) name)
 
 -- more steps than a program within the limits has names, so that a chain of so many repeats
-pub most : ℕ
+unfoldable pub most : ℕ
 most = 2 ^ 64
 
 -- where the chain from a name of a module ends

@@ -1,0 +1,4 @@
+pub mod Looked
+pub mod Told
+pub mod Lists
+pub mod Ending

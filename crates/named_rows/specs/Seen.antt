@@ -1,0 +1,7 @@
+-- Rows by what each stands for.
+use Rattle.std.specs.Prelude.{List, map}
+use Rattle.check_values.specs.Rows.{Bytes, Rows}
+
+-- rows with what stands beside each name seen by a function
+abbrev pub seen : {A B : Type 0} → (A → B) → List (Bytes × A) → Rows B
+seen f rows = map (λ row. (row.0, f row.1)) rows

@@ -1,0 +1,42 @@
+//! Rows of a name and what stands beside it: in order of the names, and the first row of each name.
+#![tactic(auto)]
+
+ghost use Rattle.std.specs.Prelude.{◌≡◌, IfOk};
+ghost use Rattle.check_values.specs.Rows.{by_name, first_of_each};
+
+use flow_values::{NoMemory, Text};
+use std::alloc::Global;
+use std::collections::{BTreeMap, BTreeSet};
+
+/// `rows` in order of the bytes of their names, of those of one name the first one.
+///
+/// It takes `n log n` comparisons of names for `n` rows. An error is no memory.
+#[tactic(auto, using(crate::proofs::ByName::put_all_none, crate::proofs::ByName::turned))]
+pub fn by_name<T: Drop>(alloc: Global, rows: Vec<(Text, T)>) -> Result<BTreeMap<Text, T>, NoMemory>
+    ensures { IfOk result (λ map. map.entries ≡ by_name rows.items) }
+{
+    let mut rows = rows;
+    let mut map = BTreeMap::new(alloc);
+    while let Some((name, value)) = rows.pop() {
+        map.insert(name, value)?;
+    }
+    Ok(map)
+}
+
+/// Of `rows` the first one of each name, in the order in which they stand.
+///
+/// It takes `n log n` comparisons of names for `n` rows. An error is no memory.
+pub fn first_of_each<T: Copy>(alloc: Global, rows: &[(Text, T)]) -> Result<Vec<(Text, T)>, NoMemory>
+    ensures { IfOk result (λ firsts. firsts.items ≡ first_of_each rows.now) }
+{
+    let mut seen = BTreeSet::new(alloc);
+    let mut firsts = Vec::new(alloc);
+    for i in 0..rows.len() {
+        let row = &rows[i];
+        if !seen.insert(row.0.share()?)? {
+            continue;
+        }
+        firsts.push((row.0.share()?, row.1))?;
+    }
+    Ok(firsts)
+}
