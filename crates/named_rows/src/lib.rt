@@ -23,6 +23,21 @@ pub fn by_name<T: Drop>(alloc: Global, rows: Vec<(Text, T)>) -> Result<BTreeMap<
     Ok(map)
 }
 
+/// The same as a list.
+pub fn sorted_by_name<T: Drop>(
+    alloc: Global,
+    rows: Vec<(Text, T)>,
+) -> Result<Vec<(Text, T)>, NoMemory>
+    ensures { IfOk result (λ sorted. sorted.items ≡ by_name rows.items) }
+{
+    let mut map = by_name(alloc, rows)?;
+    let mut sorted = Vec::new(alloc);
+    while let Some((name, value)) = map.pop_first() {
+        sorted.push((name, value))?;
+    }
+    Ok(sorted)
+}
+
 /// Of `rows` the first one of each name, in the order in which they stand.
 ///
 /// It takes `n log n` comparisons of names for `n` rows. An error is no memory.
