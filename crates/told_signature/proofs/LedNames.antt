@@ -1,5 +1,5 @@
 -- The names that exports lead to, each name of the module looked at once.
-use Rattle.std.proofs.Common.{◌≡◌, ℕ, ◌+◌, ◌<◌, Bool, true, false, not, ◌||◌, List, [], ◌∷◌, ◌++◌, length, take, get_or, cond, refl, sym, ap, ◌∙◌, ◌⊎◌, inl, inr, subst, append-nil, Option, None}
+use Rattle.std.proofs.Common.{◌≡◌, ℕ, ◌+◌, ◌<◌, Bool, true, false, not, ◌||◌, List, [], ◌∷◌, ◌++◌, length, take, get_or, refl, sym, ap, ◌∙◌, inl, inr, subst, append-nil, Option, None}
 use Rattle.std.specs.Ordering.{nat_cmp}
 use Rattle.std.specs.Cmp.Lexicographic.{slice_cmp}
 use Rattle.std.specs.Map.{lookup}
@@ -10,7 +10,7 @@ use Rattle.std.proofs.lemmas.List.Folds.{list_any-append}
 use Rattle.std.specs.Str.{bytes_eq}
 use Rattle.check_values.specs.Rows.{Bytes, Rows, is_among}
 use Rattle.local_signatures.specs.Exports.{Told, told_nothing, led_to}
-use Rattle.local_signatures.proofs.Words.{among_either, among_left, among_right}
+use Rattle.local_signatures.proofs.Words.{among_left, among_right}
 use Rattle.named_rows.proofs.FirstRows.{Adds, lookup_is_row}
 use Rattle.named_rows.specs.Seen.{seen}
 use Rattle.told_signature.specs.declared.telling.Told.{Told as TheTold}

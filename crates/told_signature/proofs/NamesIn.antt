@@ -11,10 +11,7 @@ use Rattle.type_values.specs.declared.types.FlowProp.{FlowProp}
 use Rattle.type_values.specs.declared.types.Param.{Param}
 use Rattle.type_names.specs.Names.{Name, all_of, names_in, level_names}
 use Rattle.local_signatures.specs.LocalSignature.{led_to_by_type}
-
-map-append : {A B : Type 0} (f : A → B) (xs ys : List A) → map f (xs ++ ys) ≡ map f xs ++ map f ys
-map-append f [] ys = refl
-map-append {A} {B} f (x ∷ xs) ys = ap (λ (l : List B). f x ∷ l) (map-append f xs ys)
+use Rattle.told_signature.proofs.Listed.{map-append}
 
 abbrev second : List Name → List Bytes
 second names = map (λ n. n.1) names

@@ -4,7 +4,7 @@ use Rattle.std.proofs.lemmas.List.Sums.{sum_by-cons}
 use Rattle.std.specs.Map.{lookup}
 use Rattle.std.specs.BTreeMap.{is_at}
 use Rattle.std.specs.Ordering.{nat_cmp, is_eq}
-use Rattle.std.specs.Cmp.Lexicographic.{slice_cmp, bytes_decides}
+use Rattle.std.specs.Cmp.Lexicographic.{slice_cmp}
 use Rattle.std.proofs.lemmas.Map.Text.{is_eq-slice_cmp}
 use Rattle.check_values.specs.Rows.{Bytes, Rows, row_at, is_among}
 use Rattle.type_values.specs.declared.types.FlowType.{FlowType}
@@ -140,7 +140,7 @@ unread_less has has' word fresh adds (row ∷ rows) =
     let old = unread_cons has row rows in
     let new = unread_cons has' row rows in
     let step : cond (has' row.0) 0 (length (led_to_by_type row.1)) + unread has' rows + length (led_to_by (row_at (row ∷ rows) word)) ≤ cond (has row.0) 0 (length (led_to_by_type row.1)) + unread has rows =
-      go (bytes_eq row.0 word) refl (unread_less has has' word fresh adds rows) in
+    go (bytes_eq row.0 word) refl (unread_less has has' word fresh adds rows) in
     omega arith
   where
     grows : (w : Bytes) → has w ≡ true → has' w ≡ true

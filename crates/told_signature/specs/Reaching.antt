@@ -1,5 +1,5 @@
 -- The names that are reached from others through aliases.
-use Rattle.std.specs.Prelude.{◌≡◌, ◌⊎◌, ℕ, ◌+◌, Bool, true, List, [], ◌∷◌, length, Some, if◌then◌else◌}
+use Rattle.std.specs.Prelude.{◌≡◌, ◌⊎◌, ℕ, Bool, true, List, length, Some, if◌then◌else◌}
 use Rattle.std.specs.List.{sum_by}
 use Rattle.check_values.specs.Rows.{Bytes, Rows, row_at, is_among}
 use Rattle.type_values.specs.declared.types.FlowType.{FlowType}

@@ -64,11 +64,7 @@ fn origin_of(alloc: Global, told: &Told) -> Result<Origin, NoMemory>
 
 // What is said of an export by what its name or it itself tells.
 #[tactic(auto, using(named_rows::proofs::FirstRows::lookup_is_row))]
-fn origin_said(
-    alloc: Global,
-    named: &BTreeMap<Text, Told>,
-    said: &Said,
-) -> Result<Origin, NoMemory>
+fn origin_said(alloc: Global, named: &BTreeMap<Text, Told>, said: &Said) -> Result<Origin, NoMemory>
     ensures { IfOk result (λ origin. origin ≡ origin_of (said_view (named_in named.now.entries) said.now)) }
 {
     match said {
