@@ -8,9 +8,12 @@ use flow_values::{NoMemory, Text};
 use std::alloc::Global;
 use std::collections::{BTreeMap, BTreeSet};
 
-/// `rows` in order of the bytes of their names, of those of one name the first one.
+/// `rows` in order of the bytes of their names, of those of one name the first one. It takes
+/// `n log n` comparisons of names for `n` rows.
 ///
-/// It takes `n log n` comparisons of names for `n` rows. An error is no memory.
+/// # Errors
+///
+/// `NoMemory` where memory is refused.
 #[tactic(auto, using(crate::proofs::ByName::put_all_none, crate::proofs::ByName::turned))]
 pub fn by_name<T: Drop>(alloc: Global, rows: Vec<(Text, T)>) -> Result<BTreeMap<Text, T>, NoMemory>
     ensures { IfOk result (λ map. map.entries ≡ by_name rows.items) }
@@ -23,9 +26,31 @@ pub fn by_name<T: Drop>(alloc: Global, rows: Vec<(Text, T)>) -> Result<BTreeMap<
     Ok(map)
 }
 
-/// Of `rows` the first one of each name, in the order in which they stand.
+/// The rows of `by_name` as a list.
 ///
-/// It takes `n log n` comparisons of names for `n` rows. An error is no memory.
+/// # Errors
+///
+/// `NoMemory` where memory is refused.
+pub fn sorted_by_name<T: Drop>(
+    alloc: Global,
+    rows: Vec<(Text, T)>,
+) -> Result<Vec<(Text, T)>, NoMemory>
+    ensures { IfOk result (λ sorted. sorted.items ≡ by_name rows.items) }
+{
+    let mut map = by_name(alloc, rows)?;
+    let mut sorted = Vec::new(alloc);
+    while let Some((name, value)) = map.pop_first() {
+        sorted.push((name, value))?;
+    }
+    Ok(sorted)
+}
+
+/// Of `rows` the first one of each name, in the order in which they stand. It takes `n log n`
+/// comparisons of names for `n` rows.
+///
+/// # Errors
+///
+/// `NoMemory` where memory is refused.
 pub fn first_of_each<T: Copy>(alloc: Global, rows: &[(Text, T)]) -> Result<Vec<(Text, T)>, NoMemory>
     ensures { IfOk result (λ firsts. firsts.items ≡ first_of_each rows.now) }
 {
@@ -40,3 +65,6 @@ pub fn first_of_each<T: Copy>(alloc: Global, rows: &[(Text, T)]) -> Result<Vec<(
     }
     Ok(firsts)
 }
+
+#[cfg(test)]
+mod tests;

@@ -1,0 +1,4 @@
+pub mod Seen
+pub mod Reaching
+pub mod Signing
+pub mod Leading
