@@ -7,6 +7,7 @@
 #[cfg(test)]
 mod tests;
 
+use case_lines::source_in_line;
 use flow_values::NoMemory;
 use js_lexer::{LexFault, lex};
 use js_parser::read_module;
@@ -17,26 +18,7 @@ use std::env;
 use std::io::{self, Read};
 use type_parser::ParseFault;
 
-const LINE_END: &[u8] = b"\xe2\x8f\x8e";
-
 const ROUNDS: u32 = 10;
-
-// The source that a line stands for.
-fn source_of(alloc: Global, line: &[u8]) -> Result<Vec<u8>, NoMemory> {
-    let mut source = Vec::new(alloc);
-    let mut skipped = 0;
-    for i in 0..line.len() {
-        if skipped > 0 {
-            skipped -= 1;
-        } else if line.len() - i >= 3 && &line[i..i + 3] == LINE_END {
-            source.push(b'\n')?;
-            skipped = 2;
-        } else {
-            source.push(line[i])?;
-        }
-    }
-    Ok(source)
-}
 
 // Whether the spelling of a module is that of the tokens.
 fn is_spelled(alloc: Global, module: &Module, tokens: &[Token]) -> bool {
@@ -69,7 +51,7 @@ fn report(rt: &impl Print, alloc: Global, source: &[u8], spells: bool) -> io::Re
 }
 
 fn report_line(rt: &impl Print, alloc: Global, line: &[u8]) -> io::Result<()> {
-    match source_of(alloc, line) {
+    match source_in_line(alloc, line) {
         Ok(source) => report(rt, alloc, source.as_slice(), true),
         Err(NoMemory) => println!(rt; "no memory"),
     }
