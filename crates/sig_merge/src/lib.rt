@@ -7,6 +7,3 @@ mod scope;
 
 pub use job_ends::{MergeJob, MergeMember};
 pub use merging::merge_component;
-
-#[cfg(test)]
-mod tests;
