@@ -1,0 +1,137 @@
+//! Reads modules, one a line with `⏎` for each end of a line, and prints of each what it says by itself: its exports, its aliases,
+//! the imports that these lead to, and the faults of its signature, a row each with a TAB between any two words. The answers that it
+//! must print are those of the language's description. With a word on its command line it prints how many of each there are:
+//! `bench/signatures.sh` measures it.
+#![tactic(auto)]
+
+use case_lines::source_in_line;
+use check_values::{Fault, LocalSig, Origin};
+use flow_values::{NoMemory, Text};
+use source_front::{Parse, front};
+use std::alloc::Global;
+use std::{env, io};
+use type_terms::show;
+use type_values::FlowType;
+
+// The characters of a text.
+fn chars(text: &Text) -> &str {
+    str::from_utf8(text.as_bytes()).unwrap_or("no text")
+}
+
+fn kind(is_type: bool) -> &'static str {
+    if is_type { "type" } else { "value" }
+}
+
+fn print_type(
+    rt: &impl Print,
+    alloc: Global,
+    word: &str,
+    name: &Text,
+    t: &FlowType,
+) -> io::Result<()> {
+    match show(alloc, t) {
+        Ok(text) => println!(rt; "{word}\t{}\t{}", chars(name), chars(&text)),
+        Err(NoMemory) => println!(rt; "no memory"),
+    }
+}
+
+fn print_export(rt: &impl Print, alloc: Global, name: &Text, origin: &Origin) -> io::Result<()> {
+    match origin {
+        Origin::Value(t) => print_type(rt, alloc, "value", name, t),
+        Origin::Alias(alias) => println!(rt; "type\t{}\t{}", chars(name), chars(alias)),
+        Origin::Import {
+            spec,
+            name: there,
+            is_type,
+        } => println!(rt;
+            "import\t{}\t{}\t{}\t{}",
+            chars(name),
+            chars(spec),
+            chars(there),
+            kind(*is_type)
+        ),
+        Origin::Unknown => println!(rt; "unknown\t{}", chars(name)),
+    }
+}
+
+fn print_signature(rt: &impl Print, alloc: Global, signature: &LocalSig) -> io::Result<()> {
+    for (name, origin) in signature.exports.as_slice() {
+        print_export(rt, alloc, name, origin)?;
+    }
+    for (name, t) in signature.aliases.as_slice() {
+        print_type(rt, alloc, "alias", name, t)?;
+    }
+    for row in signature.imports.as_slice() {
+        println!(rt;
+            "uses\t{}\t{}\t{}\t{}",
+            chars(&row.local),
+            chars(&row.spec),
+            chars(&row.name),
+            kind(row.is_type)
+        )?;
+    }
+    Ok(())
+}
+
+fn print_faults(rt: &impl Print, faults: &[Fault]) -> io::Result<()> {
+    for fault in faults {
+        println!(rt;
+            "fault\t{}..{}\t{}\t{}",
+            fault.span.start,
+            fault.span.end,
+            fault.code.name(),
+            chars(&fault.details)
+        )?;
+    }
+    Ok(())
+}
+
+// What a line's module says by itself.
+fn parse_in_line(alloc: Global, line: &[u8]) -> Result<Parse, NoMemory> {
+    front(alloc, source_in_line(alloc, line)?.as_slice())
+}
+
+fn report(rt: &impl Print, alloc: Global, line: &[u8]) -> io::Result<()> {
+    match parse_in_line(alloc, line) {
+        Ok(parse) => {
+            print_signature(rt, alloc, &parse.sig)?;
+            print_faults(rt, parse.faults.as_slice())?;
+            println!(rt;)
+        }
+        Err(NoMemory) => println!(rt; "no memory"),
+    }
+}
+
+fn report_counts(rt: &impl Print, alloc: Global, line: &[u8]) -> io::Result<()> {
+    match parse_in_line(alloc, line) {
+        Ok(parse) => println!(rt;
+            "{} exports, {} aliases, {} imports, {} faults",
+            parse.sig.exports.len(),
+            parse.sig.aliases.len(),
+            parse.sig.imports.len(),
+            parse.faults.len()
+        ),
+        Err(NoMemory) => println!(rt; "no memory"),
+    }
+}
+
+// Whether there is a word on the command line.
+fn has_word(rt: &HostRuntime) -> bool {
+    match env::args(rt) {
+        Ok(mut words) => words.nth(1).is_some(),
+        Err(_) => false,
+    }
+}
+
+fn main(rt: HostRuntime) -> io::Result<()> {
+    let counts = has_word(&rt);
+    for line in rt.lines(rt.alloc()) {
+        let line = line?;
+        if counts {
+            report_counts(&rt, rt.alloc(), line.as_bytes())?;
+        } else {
+            report(&rt, rt.alloc(), line.as_bytes())?;
+        }
+    }
+    Ok(())
+}
