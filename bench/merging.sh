@@ -21,6 +21,10 @@ for count in 1024 2048 4096; do
     node -e "const path = $path; let s = []; for (let i = 0; i < $count; i++) s.push(path(i) + '.js', i + 1 < $count ? \"export {x} from './\" + path(i + 1) + \"';\" : 'export const x: number = 1;'); console.log(s.join('\t'))" >"$folder/program"
     measure "modules in a chain of re-exports" "$count" "$count"
 done
+for count in 2500 5000 10000; do
+    node -e "let m = ''; for (let k = 0; k < $count; k++) m += 'import {x as x' + k + \"} from './m\" + k + \"'; \"; console.log(['a.js', m].join('\t'))" >"$folder/program"
+    measure "specifiers of one module" "$count" "$count"
+done
 for count in 250 500 1000; do
     node -e "const path = $path; let s = []; for (let i = 0; i < $count; i++) { let m = 'export type T = {}; '; for (let k = 0; k < $count; k++) if (k !== i) m += 'import type {T as T' + k + \"} from './\" + path(k) + \"'; \"; s.push(path(i) + '.js', m + 'export type U = {p: T' + (i + 1) % $count + '};'); } console.log(s.join('\t'))" >"$folder/program"
     measure "modules that import each other" "$count" "$((count * count))"
