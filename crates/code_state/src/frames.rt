@@ -53,7 +53,7 @@ pub struct Linked {
 #[derive(Drop)]
 pub enum Row {
     Array(usize),
-    Call(Linked, usize),
+    Call(Boxed<Linked>, usize),
 }
 
 /// A chain of one level, where it begins, and its operands so far.
@@ -119,7 +119,7 @@ pub enum TailFrame {
     /// The arms of a conditional, behind which a further test or the last branch stands.
     Last(usize, List<Arm>),
     /// The value of an arrow.
-    Arrow(Signature),
+    Arrow(Boxed<Signature>),
 }
 
 /// A form in which an expression stands before a mark.
@@ -148,9 +148,9 @@ pub enum ValueFrame {
 /// A form in which statements stand.
 #[derive(Drop)]
 pub enum BodyFrame {
-    Function(Heading, Signature),
+    Function(Heading, Boxed<Signature>),
     /// The block of an arrow.
-    Arrow(Signature),
+    Arrow(Boxed<Signature>),
     Block(OpenBlock),
     /// The branch of an `if` at a place, with its test.
     If(OpenIf, usize, Expr),
@@ -158,7 +158,8 @@ pub enum BodyFrame {
     Loop(usize, Expr),
 }
 
-/// A form that waits for an expression, a body or a statement.
+/// A form that waits for an expression, a body or a statement. It is moved where it is opened and closed, so its largest parts
+/// are boxed.
 #[derive(Drop)]
 pub enum Frame {
     Operator(OperatorFrame),

@@ -2,7 +2,7 @@
 use crate::frames::{Declared, FunctionKind, Heading, Linked, OpenBlock, OpenChain, OpenIf, Row};
 use crate::items::{AliasHead, ItemMode};
 use code_tree::{Binder, Expr, Field, Parameter, Signature, Simple};
-use flow_values::{List, Text};
+use flow_values::{Boxed, List, Text};
 use type_tree::Key;
 
 /// An open `{` and an object's properties behind it so far.
@@ -77,7 +77,7 @@ pub enum HeadMode {
     Mark(NamedParameter),
     /// Behind `)`, with a comma before it or not.
     End(OpenParameters, bool),
-    Arrow(Signature),
+    Arrow(Boxed<Signature>),
 }
 
 /// What may come next among statements.
@@ -87,7 +87,7 @@ pub enum StatementMode {
     Binder(usize, Binder),
     Declared(Declared),
     Return(usize),
-    Simple(Simple),
+    Simple(Boxed<Simple>),
     /// Behind an `if` at a place.
     If(OpenIf, usize),
     While(usize),
@@ -96,7 +96,7 @@ pub enum StatementMode {
     Else(OpenIf),
 }
 
-/// What may come next inside an item, outside types.
+/// What may come next inside an item, outside types. It is moved at each token, so its largest forms are boxed.
 #[derive(Drop)]
 pub enum Mode {
     Value(ValueMode),

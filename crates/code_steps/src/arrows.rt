@@ -15,7 +15,7 @@ use code_state::{
     Stack, StatementMode, TailFrame, Turn, Waiting,
 };
 use code_tree::Signature;
-use flow_values::{List, NoMemory};
+use flow_values::{Boxed, List, NoMemory};
 use js_token::{Punct, TokenKind, is_reserved};
 use std::alloc::Global;
 
@@ -78,6 +78,7 @@ pub fn open_body(
         Owner::Arrow => {
             match token {
                 TokenKind::Punct(Punct::Arrow) => {
+                    let signature = Boxed::new(alloc, signature)?;
                     Ok(Turn::Go(Mode::Head(HeadMode::Arrow(signature))))
                 }
                 _ => Ok(Turn::Fault),
@@ -86,6 +87,7 @@ pub fn open_body(
         Owner::Function(heading) => {
             match token {
                 TokenKind::Punct(Punct::OpenBrace) => {
+                    let signature = Boxed::new(alloc, signature)?;
                     stack.push(Frame::Body(BodyFrame::Function(heading, signature)))?;
                     Ok(Turn::Go(open_block(alloc, at)))
                 }
@@ -125,7 +127,7 @@ pub fn after_arrow(
     alloc: Global,
     at: usize,
     stack: &mut Stack,
-    signature: Signature,
+    signature: Boxed<Signature>,
     token: &TokenKind,
 ) -> Result<Turn, NoMemory>
     requires { at < usize.MAX }

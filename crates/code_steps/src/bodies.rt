@@ -43,10 +43,11 @@ fn give_block_in(
     match form {
         BodyFrame::Function(heading, signature) => {
             let Heading { kind, first, name } = heading;
-            let function = Function::new(first, end, name, signature, block);
+            let function = Function::new(first, end, name, signature.into_inner(), block);
             give_function(alloc, stack, kind, end, function)
         }
         BodyFrame::Arrow(signature) => {
+            let signature = signature.into_inner();
             let first = signature.first;
             let form = ExprForm::arrow(alloc, signature, ArrowBody::block(block))?;
             let arrow = Expr::new(first, end, form);

@@ -90,6 +90,7 @@ pub fn end_tail(alloc: Global, at: usize, form: TailFrame, last: Expr) -> Result
             Ok(Expr::new(first, at, form))
         }
         TailFrame::Arrow(signature) => {
+            let signature = signature.into_inner();
             let first = signature.first;
             let value = ArrowBody::value(alloc, last)?;
             let form = ExprForm::arrow(alloc, signature, value)?;

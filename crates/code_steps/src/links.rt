@@ -14,7 +14,7 @@ use crate::settle::settle;
 use crate::values::begin_inside;
 use code_state::{Frame, InnerFrame, Linked, Mode, Row, Stack, Turn, ValueMode};
 use code_tree::{Expr, ExprForm, Link, LinkForm};
-use flow_values::{List, NoMemory};
+use flow_values::{Boxed, List, NoMemory};
 use js_token::{Punct, TokenKind};
 use std::alloc::Global;
 
@@ -51,7 +51,7 @@ pub fn after_links(
             Ok(Turn::Go(Mode::Value(ValueMode::Want)))
         }
         TokenKind::Punct(Punct::OpenParen) => {
-            let row = Row::Call(linked, at);
+            let row = Row::Call(Boxed::new(alloc, linked)?, at);
             Ok(Turn::Go(Mode::Value(ValueMode::RowStart(row, List::new(alloc)))))
         }
         _ => {
@@ -119,7 +119,7 @@ fn begin_argument(
     alloc: Global,
     at: usize,
     stack: &mut Stack,
-    linked: Linked,
+    linked: Boxed<Linked>,
     first: usize,
     arguments: List<Expr>,
     token: &TokenKind,

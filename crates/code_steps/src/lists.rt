@@ -9,7 +9,7 @@ ghost use Rattle.code_state.specs.Turns.{Gives};
 
 use code_state::{GroupMode, Linked, Mode, OpenFields, Row, Turn, ValueMode};
 use code_tree::{Expr, ExprForm, Link, LinkForm};
-use flow_values::{List, NoMemory};
+use flow_values::{Boxed, List, NoMemory};
 use js_token::{Punct, TokenKind};
 use std::alloc::Global;
 
@@ -52,7 +52,7 @@ pub fn close_row(
         }
         Row::Call(linked, first) => {
             let form = LinkForm::call(elements, comma);
-            add_link(linked, Link::new(first, at + 1, form))
+            add_link(linked.into_inner(), Link::new(first, at + 1, form))
         }
     }
 }
@@ -84,7 +84,7 @@ fn after_array_element(
 fn after_argument(
     alloc: Global,
     at: usize,
-    linked: Linked,
+    linked: Boxed<Linked>,
     first: usize,
     arguments: List<Expr>,
     token: &TokenKind,

@@ -110,7 +110,7 @@ fn statement_step(
         StatementMode::Binder(first, binder) => after_binder(first, binder, token),
         StatementMode::Declared(declared) => after_declared(stack, declared, token),
         StatementMode::Return(first) => after_return(alloc, at, stack, first, token),
-        StatementMode::Simple(simple) => after_simple(at, stack, simple, token),
+        StatementMode::Simple(simple) => after_simple(at, stack, simple.into_inner(), token),
         StatementMode::If(so_far, place) => after_if(stack, so_far, place, token),
         StatementMode::While(first) => after_while(stack, first, token),
         StatementMode::Body => begin_body(alloc, at, stack, token),

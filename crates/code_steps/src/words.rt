@@ -18,7 +18,7 @@ use code_state::{
 };
 use code_tree::{Simple, SimpleForm};
 use code_words::{StatementWord, statement_word};
-use flow_values::{List, NoMemory, Text};
+use flow_values::{Boxed, List, NoMemory, Text};
 use js_token::{Punct, TokenKind};
 use std::alloc::Global;
 
@@ -37,15 +37,16 @@ fn begin_evaluate(
 }
 
 /// `break` or `continue`
-fn leave_loop(at: usize, stack: &Stack, form: SimpleForm) -> Turn
+fn leave_loop(alloc: Global, at: usize, stack: &Stack, form: SimpleForm) -> Result<Turn, NoMemory>
     requires { at < usize.MAX }
-    ensures { Gives result (λ k. cond (within_loop (context (stack_view stack.now))) (go k (after_simple (simple at (at + 1) (simple_form_view form)))) fault) }
+    ensures { IfOk result (λ turn. Gives turn (λ k. cond (within_loop (context (stack_view stack.now))) (go k (after_simple (simple at (at + 1) (simple_form_view form)))) fault)) }
 {
     if stack.in_loop() {
         let simple = Simple::new(at, at + 1, form);
-        Turn::Go(Mode::Statement(StatementMode::Simple(simple)))
+        let simple = Boxed::new(alloc, simple)?;
+        Ok(Turn::Go(Mode::Statement(StatementMode::Simple(simple))))
     } else {
-        Turn::Fault
+        Ok(Turn::Fault)
     }
 }
 
@@ -72,8 +73,8 @@ pub fn simple_word(
             stack.push(Frame::Value(ValueFrame::Simple(at, Verb::Throw)))?;
             Ok(Turn::Go(Mode::Value(ValueMode::Want)))
         }
-        StatementWord::Break => Ok(leave_loop(at, stack, SimpleForm::break_loop())),
-        StatementWord::Continue => Ok(leave_loop(at, stack, SimpleForm::continue_loop())),
+        StatementWord::Break => leave_loop(alloc, at, stack, SimpleForm::break_loop()),
+        StatementWord::Continue => leave_loop(alloc, at, stack, SimpleForm::continue_loop()),
         StatementWord::Plain => {
             stack.push(Frame::Value(ValueFrame::Simple(at, Verb::Evaluate)))?;
             begin_word(alloc, at, stack, word)

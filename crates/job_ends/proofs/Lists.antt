@@ -1,6 +1,6 @@
 -- Rows of the code, seen as rows of the definitions.
 use Rattle.std.proofs.Common.{◌≡◌, ℕ, suc, ◌+◌, ◌<◌, Bool, true, false, cond, List, [], ◌∷◌, ◌++◌, map, length, take, get_or, Option, Some, None, option_map, is_some, bytes_eq, refl, sym, ap, ◌∙◌, subst, arith}
-use Rattle.std.proofs.lemmas.List.{take_more, length-take-le, length-map}
+use Rattle.std.proofs.lemmas.List.{take_more, length-take-le, length-map, map-append}
 use Rattle.std.specs.Borrow.{Bor}
 use Rattle.std.specs.Option.{option_copied, option_and_then}
 use Rattle.std.specs.Ordering.{nat_cmp}
@@ -25,10 +25,6 @@ use Rattle.job_ends.specs.Jobs.{member_view, imports_by_local, found_by_spec}
 use Rattle.job_ends.specs.Nodes.{Node, inner_module}
 use Rattle.job_ends.specs.Views.{node_view}
 use Rattle.job_ends.specs.Linking.{link_of, links_from}
-
-pub seen_more : {A B : Type 0} (f : A → B) (rows : Rows A) (row : Bytes × A) → seen f (rows ++ row ∷ []) ≡ seen f rows ++ (row.0, f row.1) ∷ []
-seen_more f [] row = refl
-seen_more {A} {B} f (r ∷ rows) row = ap (λ (l : Rows B). (r.0, f r.1) ∷ l) (seen_more f rows row)
 
 -- ---- maps of rows by name
 
@@ -91,17 +87,13 @@ links_last number from [] node = ap (λ (n : ℕ). link_of number n node ∷ [])
 links_last number from (first ∷ nodes) node =
     ap (λ (l : List Link). link_of number from first ∷ l) (links_last number (suc from) nodes node ∙ ap (λ (n : ℕ). links_from number (suc from) nodes ++ link_of number n node ∷ []) (let e : suc from + length nodes ≡ from + suc (length nodes) = omega arith in e))
 
-map_last : {A B : Type 0} (f : A → B) (xs : List A) (x : A) → map f (xs ++ x ∷ []) ≡ map f xs ++ f x ∷ []
-map_last f [] x = refl
-map_last {A} {B} f (y ∷ xs) x = ap (λ (l : List B). f y ∷ l) (map_last f xs x)
-
 -- one node more
 pub links_more : (number : Bytes → Bytes → ℕ) (nodes : List code.Node) (i : ℕ) (node : code.Node) → i < length nodes → node ≡ get_or nodes i node → (links links' : List Link) (link : Link) → links ≡ links_from number 0 (map node_view (take i nodes)) → link ≡ link_of number i (node_view node) → links' ≡ links ++ link ∷ [] →
     links' ≡ links_from number 0 (map node_view (take (i + 1) nodes))
 links_more number nodes i node within at links links' link is new push =
     push ∙ ap (λ (l : List Link). l ++ link ∷ []) is ∙ ap (λ (x : Link). links_from number 0 (map node_view (take i nodes)) ++ x ∷ []) (new ∙ ap (λ (n : ℕ). link_of number n (node_view node)) count)
     ∙ sym (links_last number 0 (map node_view (take i nodes)) (node_view node))
-    ∙ ap (links_from number 0) (sym (map_last node_view (take i nodes) node) ∙ ap (map node_view) (sym (take_more nodes i node within ∙ ap (λ (x : code.Node). take i nodes ++ x ∷ []) (sym at))))
+    ∙ ap (links_from number 0) (sym (map-append node_view (take i nodes) (node ∷ [])) ∙ ap (map node_view) (sym (take_more nodes i node within ∙ ap (λ (x : code.Node). take i nodes ++ x ∷ []) (sym at))))
   where
     count : i ≡ 0 + length (map node_view (take i nodes))
     count = let a = length-map (take i nodes) node_view in let b = length-take-le i nodes (omega (arith, within)) in omega arith

@@ -30,7 +30,7 @@ pub struct Member<'a> {
     ghost of_founds: { (word : List ℕ) → option_and_then option_copied (get (slice_cmp nat_cmp) founds word) ≡ found member.now.deps word },
 }
 
-#[tactic(auto, using(crate::proofs::Lists::seen_more))]
+#[tactic(auto, using(named_rows::proofs::Lists::seen_more))]
 fn alias_rows<'a>(
     alloc: Global,
     rows: &'a [(Text, FlowType)],
@@ -45,7 +45,7 @@ fn alias_rows<'a>(
     Ok(named)
 }
 
-#[tactic(auto, using(crate::proofs::Lists::seen_more))]
+#[tactic(auto, using(named_rows::proofs::Lists::seen_more))]
 fn import_rows<'a>(
     alloc: Global,
     rows: &'a [ImportRow],
@@ -60,7 +60,7 @@ fn import_rows<'a>(
     Ok(named)
 }
 
-#[tactic(auto, using(crate::proofs::Lists::seen_more))]
+#[tactic(auto, using(named_rows::proofs::Lists::seen_more))]
 fn found_rows<'a>(
     alloc: Global,
     rows: &'a [DepRow],

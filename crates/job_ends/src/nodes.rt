@@ -23,7 +23,7 @@ pub enum Node<'m, 'j> {
 /// The names of a module, each with what is known of it.
 pub type Rows<'m, 'j> = List<(Text, Node<'m, 'j>)>;
 
-#[tactic(auto, using(crate::proofs::Lists::seen_more))]
+#[tactic(auto, using(named_rows::proofs::Lists::seen_more))]
 fn add_outer_rows<'m, 'j>(sig: &'j Sig, rows: &mut Rows<'m, 'j>) -> Result<(), NoMemory>
     ensures { OnOk result (seen node_view rows.new ≡ seen node_view rows.old ++ outer_rows sig.now) }
 {
@@ -35,7 +35,7 @@ fn add_outer_rows<'m, 'j>(sig: &'j Sig, rows: &mut Rows<'m, 'j>) -> Result<(), N
     Ok(())
 }
 
-#[tactic(auto, using(crate::proofs::Lists::seen_more))]
+#[tactic(auto, using(named_rows::proofs::Lists::seen_more))]
 fn inner_rows<'m, 'j>(alloc: Global, member: &'m Member<'j>) -> Result<Rows<'m, 'j>, NoMemory>
     ensures { IfOk result (λ rows. seen node_view rows ≡ inner_rows member.now.member.now.path (known_of member.now.member.now)) }
 {
@@ -49,7 +49,7 @@ fn inner_rows<'m, 'j>(alloc: Global, member: &'m Member<'j>) -> Result<Rows<'m, 
     Ok(rows)
 }
 
-#[tactic(auto, using(crate::proofs::Lists::seen_more))]
+#[tactic(auto, using(named_rows::proofs::Lists::seen_more))]
 fn add_outer_modules<'m, 'j>(
     alloc: Global,
     outside: &'j [(Path, Shared<Sig>)],
@@ -66,7 +66,7 @@ fn add_outer_modules<'m, 'j>(
     Ok(())
 }
 
-#[tactic(auto, using(crate::proofs::Lists::seen_more))]
+#[tactic(auto, using(named_rows::proofs::Lists::seen_more))]
 fn add_inner_modules<'m, 'j>(
     alloc: Global,
     members: &'m [Member<'j>],

@@ -1,5 +1,5 @@
 -- What a token does in a type, and what that is for the loop.
-use Rattle.std.proofs.Common.{◌≡◌, sym, ◌∙◌, ap, subst, ℕ, Bool, true, false, List}
+use Rattle.std.proofs.Common.{◌≡◌, sym, ◌∙◌, ap, subst, ℕ, Bool, true, false, List, Result}
 use Rattle.js_token.specs.declared.token.TokenKind.{TokenKind}
 use Rattle.js_grammar.specs.Types.{Ty}
 use Rattle.js_grammar.specs.Machine as ty
@@ -12,7 +12,8 @@ use Rattle.code_state.specs.declared.stack.Stack.{Stack}
 use Rattle.type_parser.specs.declared.state.Frame.{Frame}
 use Rattle.type_parser.proofs.Pushes.{stack_view-empty}
 use Rattle.js_parser.specs.Reading.{IsStop, IsEnd, Nexts}
-use Rattle.js_parser.specs.declared.reading.Next.{Next}
+use Rattle.js_parser.specs.declared.reading.Halt.{Halt}
+use Rattle.js_parser.specs.declared.reading.Reading.{Reading}
 
 in_type : (i : ℕ) (k : machine.Stack) (w : Waiting) (a : ty.Stack) (m : ty.Mode) (x : TokenKind) (b : Bool) (s : ty.Step) → b ≡ takes_function w → s ≡ ty.step b i a m x → step i k (typing w a m) x ≡ inside i k w s x
 in_type i k w a m x b s e f = ap (λ s. inside i k w s x) (sym (f ∙ ap (λ b. ty.step b i a m x) e))
@@ -26,7 +27,7 @@ type_go i k w a m x b c n e f = in_type i k w a m x b (ty.go c n) e f
 pub type_done : (i : ℕ) (k : machine.Stack) (w : Waiting) (a : ty.Stack) (m : ty.Mode) (x : TokenKind) (b : Bool) (t : Ty) → b ≡ takes_function w → ty.done t ≡ ty.step b i a m x → step i k (typing w a m) x ≡ after_type i k w t x
 type_done i k w a m x b t e f = in_type i k w a m x b (ty.done t) e f
 
-pub nexts_is : (s : Stack) (ts : List Frame) (n : Next) (t u : Step) → Nexts s ts n t → t ≡ u → Nexts s ts n u
+pub nexts_is : (s : Stack) (ts : List Frame) (n : Result Reading Halt) (t u : Step) → Nexts s ts n t → t ≡ u → Nexts s ts n u
 nexts_is s ts n t u h e = subst (Nexts s ts n) e h
 
 -- what ended is no end of the items

@@ -17,8 +17,8 @@ use Rattle.code_state.specs.Stack.{items_before, stack_view}
 use Rattle.code_state.specs.declared.stack.Stack.{Stack}
 use Rattle.js_parser.specs.declared.reading.Reading.{Reading}
 use Rattle.js_parser.specs.declared.reading.Reading.TheVariants as reading
-use Rattle.js_parser.specs.declared.reading.Next.{Next}
-use Rattle.js_parser.specs.declared.reading.Next.TheVariants as next
+use Rattle.js_parser.specs.declared.reading.Halt.{Halt}
+use Rattle.js_parser.specs.declared.reading.Halt.TheVariants as halt
 
 -- where an item begins, nothing is open
 abbrev pub forms : Stack → Reading → machine.Stack
@@ -40,10 +40,11 @@ IsStop (done e) = Unit {0}
 IsStop s = ⊥
 
 -- what a token did
-abbrev pub Nexts : Stack → List TypeFrame → Next → Step → Type 0
-Nexts s ts next.Stop t = IsStop t
-Nexts s ts (next.Go r) t = t ≡ go (forms s r) (phase s ts r)
-Nexts s ts next.Items t = t ≡ done_items (items_before s)
+abbrev pub Nexts : Stack → List TypeFrame → Result Reading Halt → Step → Type 0
+Nexts s ts (Ok r) t = t ≡ go (forms s r) (phase s ts r)
+Nexts s ts (Err halt.Stop) t = IsStop t
+Nexts s ts (Err halt.Items) t = t ≡ done_items (items_before s)
+Nexts s ts (Err halt.NoMemory) t = Unit {0}
 
 -- the token goes on nothing
 abbrev pub IsEnd : Step → Type 0

@@ -8,10 +8,9 @@ ghost use Rattle.code_law.specs.Machine.{step as machine_step};
 ghost use Rattle.js_parser.specs.Reading.{forms, phase, last_end, Takes, Ends};
 ghost use Rattle.js_parser.specs.Answer.{Reads};
 
-use crate::reading::{Next, Reading};
+use crate::reading::{Halt, Reading};
 use crate::token::next;
 use code_state::{ItemMode, Stack};
-use flow_values::NoMemory;
 use js_token::{Punct, Token, TokenKind};
 use js_tree::{Item, Module};
 use std::alloc::Global;
@@ -43,8 +42,8 @@ fn finish(
     let mut stack = stack;
     let mut types = types;
     let end = TokenKind::Punct(Punct::PlusPlus);
-    match next(alloc, at, &mut stack, &mut types, reading, &end)? {
-        Next::Items => {
+    match next(alloc, at, &mut stack, &mut types, reading, &end) {
+        Err(Halt::Items) => {
             let Stack { items, .. } = stack;
             let end = end_of(items.as_slice());
             Ok(Module {
@@ -53,8 +52,9 @@ fn finish(
                 items,
             })
         }
-        Next::Stop => Err(ParseFault::At { token: at }),
-        Next::Go(then) => {
+        Err(Halt::Stop) => Err(ParseFault::At { token: at }),
+        Err(Halt::NoMemory) => Err(ParseFault::NoMemory),
+        Ok(then) => {
             drop(then);
             Err(ParseFault::At { token: at })
         }
@@ -83,9 +83,10 @@ fn take(
         drop(reading);
         return Err(ParseFault::At { token: at });
     }
-    match next(alloc, at, stack, types, reading, token)? {
-        Next::Go(then) => Ok(then),
-        Next::Stop | Next::Items => Err(ParseFault::At { token: at }),
+    match next(alloc, at, stack, types, reading, token) {
+        Ok(then) => Ok(then),
+        Err(Halt::Stop | Halt::Items) => Err(ParseFault::At { token: at }),
+        Err(Halt::NoMemory) => Err(ParseFault::NoMemory),
     }
 }
 

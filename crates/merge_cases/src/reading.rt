@@ -2,7 +2,6 @@
 ghost use Rattle.flow_values.specs.Path.{IsRising};
 ghost use Rattle.check_values.specs.Roots.{paths_of};
 
-use case_lines::source_in_line;
 use case_roots::root_of;
 use check_values::{Deps, Root};
 use flow_values::{List, NoMemory, Path, Shared, are_rising};
@@ -16,7 +15,7 @@ use std::collections::BTreeMap;
 #[derive(Drop)]
 pub struct Modules {
     pub paths: Vec<Path>,
-    pub sources: Vec<Vec<u8>>,
+    pub sources: Vec<String>,
 }
 
 /// The modules of a line. A path that is none is left out, with its source.
@@ -27,7 +26,7 @@ pub fn modules_of(alloc: Global, line: &str) -> Result<Modules, NoMemory> {
     while let (Some(path), Some(source)) = (fields.next(), fields.next()) {
         if let Ok(path) = Path::read(alloc, path.as_bytes()) {
             paths.push(path)?;
-            sources.push(source_in_line(alloc, source.as_bytes())?)?;
+            sources.push(source.replace(alloc, '⏎', "\n")?)?;
         }
     }
     Ok(Modules { paths, sources })
@@ -65,7 +64,7 @@ pub fn members_of(alloc: Global, modules: &Modules) -> Result<Vec<MergeMember>, 
     }
     let root = root_of(alloc, paths)?;
     for (path, source) in paths.iter().zip(modules.sources.iter()) {
-        members.push(member_of(alloc, &root, path, source.as_slice())?)?;
+        members.push(member_of(alloc, &root, path, source.as_bytes())?)?;
     }
     Ok(members)
 }

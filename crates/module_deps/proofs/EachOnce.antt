@@ -1,7 +1,7 @@
 -- The specifiers of items in order, each at its first place.
 use Rattle.std.proofs.Common.{◌≡◌, ℕ, ◌+◌, ◌<◌, ◌≤◌, Bool, true, false, not, ◌||◌, List, [], ◌∷◌, ◌++◌, map, filter, length, take, get_or, take-suc, add-one, cond, bytes_eq, Bor, refl, sym, ap, ◌∙◌, subst, append_assoc, append-nil}
 use Rattle.std.specs.List.{flat_map}
-use Rattle.std.proofs.lemmas.List.{take_all}
+use Rattle.std.proofs.lemmas.List.{take_all, map-append}
 use Rattle.std.specs.Ordering.{nat_cmp, is_eq}
 use Rattle.std.specs.Cmp.Lexicographic.{slice_cmp, bytes_decides}
 use Rattle.std.proofs.lemmas.Map.Text.{is_eq-slice_cmp}
@@ -13,10 +13,7 @@ use Rattle.check_values.specs.Rows.{Bytes, is_among, distinct}
 use Rattle.check_values.specs.declared.signatures.DepRow.{DepRow}
 use Rattle.module_resolution.specs.Resolution.{resolved}
 use Rattle.module_deps.specs.Listing.{rows_for}
-
-flat-append : {A B : Type 0} (f : A → List B) (xs : List A) (x : A) → flat_map f (xs ++ x ∷ []) ≡ flat_map f xs ++ f x
-flat-append f [] x = append-nil (f x)
-flat-append f (y ∷ xs) x = ap (λ l. f y ++ l) (flat-append f xs x) ∙ sym (append_assoc (f y) (flat_map f xs) (f x))
+use Rattle.named_rows.proofs.Lists.{filter_last, among_last, bytes_turned}
 
 specifiers_from : (acc : Items) (is : List Item) → specifiers_in (items_from acc (map item_view is)) ≡ specifiers_in acc ++ flat_map (λ i. specifiers_of (item_view i)) is
 specifiers_from acc [] = sym (append-nil _)
@@ -29,18 +26,7 @@ specifiers_in_order is = specifiers_from no_item is
 pub specifiers_taken : (n : ℕ) (is : List Item) (l : List Bytes) → length is ≤ n → l ≡ flat_map (λ i. specifiers_of (item_view i)) (take n is) → l ≡ specifiers_in (items_view is)
 specifiers_taken n is l long at = at ∙ ap (flat_map (λ (i : Item). specifiers_of (item_view i))) (take_all n is long) ∙ sym (specifiers_in_order is)
 
-pub flat_more : {A B : Type 0} (f : A → List B) (xs : List A) (i : ℕ) (d : A) → i < length xs → flat_map f (take (i + 1) xs) ≡ flat_map f (take i xs) ++ f (get_or xs i d)
-flat_more f xs i d within = ap (λ (k : ℕ). flat_map f (take k xs)) (add-one i) ∙ ap (flat_map f) (take-suc xs i d within) ∙ flat-append f (take i xs) (get_or xs i d)
-
 -- ---- each at its first place
-
-filter-last : {X : Type 0} (p : X → Bool) (xs : List X) (y : X) → filter p (xs ++ y ∷ []) ≡ filter p xs ++ cond (p y) (y ∷ []) []
-filter-last p [] y = refl
-filter-last {X} p (x ∷ xs) y = go (p x) (filter-last p xs y)
-  where
-    go : (b : Bool) → filter p (xs ++ y ∷ []) ≡ filter p xs ++ cond (p y) (y ∷ []) [] → cond b (x ∷ filter p (xs ++ y ∷ [])) (filter p (xs ++ y ∷ [])) ≡ cond b (x ∷ filter p xs) (filter p xs) ++ cond (p y) (y ∷ []) []
-    go true rest = ap (λ (l : List X). x ∷ l) rest
-    go false rest = rest
 
 pub distinct_more : (xs : List Bytes) (y : Bytes) → distinct (xs ++ y ∷ []) ≡ cond (is_among xs y) (distinct xs) (distinct xs ++ y ∷ [])
 distinct_more [] y = refl
@@ -52,34 +38,12 @@ distinct_more (x ∷ xs) y = go (is_among xs y) (bytes_eq y x) refl (distinct_mo
     go true false e rest = ap (λ (l : List Bytes). x ∷ filter (λ later. not (bytes_eq later x)) l) rest
     go false true e rest =
         ap (λ (l : List Bytes). x ∷ filter (λ later. not (bytes_eq later x)) l) rest
-        ∙ ap (λ (l : List Bytes). x ∷ l) (filter-last (λ later. not (bytes_eq later x)) (distinct xs) y ∙ ap (λ (c : Bool). filter (λ later. not (bytes_eq later x)) (distinct xs) ++ cond (not c) (y ∷ []) []) e ∙ append-nil _)
+        ∙ ap (λ (l : List Bytes). x ∷ l) (filter_last (λ later. not (bytes_eq later x)) (distinct xs) y ∙ ap (λ (c : Bool). filter (λ later. not (bytes_eq later x)) (distinct xs) ++ cond (not c) (y ∷ []) []) e ∙ append-nil _)
     go false false e rest =
         ap (λ (l : List Bytes). x ∷ filter (λ later. not (bytes_eq later x)) l) rest
-        ∙ ap (λ (l : List Bytes). x ∷ l) (filter-last (λ later. not (bytes_eq later x)) (distinct xs) y ∙ ap (λ (c : Bool). filter (λ later. not (bytes_eq later x)) (distinct xs) ++ cond (not c) (y ∷ []) []) e)
+        ∙ ap (λ (l : List Bytes). x ∷ l) (filter_last (λ later. not (bytes_eq later x)) (distinct xs) y ∙ ap (λ (c : Bool). filter (λ later. not (bytes_eq later x)) (distinct xs) ++ cond (not c) (y ∷ []) []) e)
 
 -- ---- a set of those so far
-
-bytes_turned : (a b : Bytes) → bytes_eq a b ≡ bytes_eq b a
-bytes_turned a b = go (bytes_eq a b) (bytes_eq b a) refl refl
-  where
-    go : (c d : Bool) → bytes_eq a b ≡ c → bytes_eq b a ≡ d → c ≡ d
-    go true true e f = refl
-    go false false e f = refl
-    go true false e f = sym ((bytes_decides b a).1 (sym ((bytes_decides a b).0 e))) ∙ f
-    go false true e f = sym e ∙ (bytes_decides a b).1 (sym ((bytes_decides b a).0 f))
-
-among-last : (xs : List Bytes) (y q : Bytes) → is_among (xs ++ y ∷ []) q ≡ cond (bytes_eq q y) true (is_among xs q)
-among-last [] y q = go (bytes_eq q y)
-  where
-    go : (b : Bool) → b || false ≡ cond b true false
-    go true = refl
-    go false = refl
-among-last (x ∷ xs) y q = ap (λ (b : Bool). bytes_eq q x || b) (among-last xs y q) ∙ go (bytes_eq q x) (bytes_eq q y)
-  where
-    go : (a b : Bool) → a || cond b true (is_among xs q) ≡ cond b true (a || is_among xs q)
-    go true true = refl
-    go true false = refl
-    go false b = refl
 
 -- the test also passes this one
 abbrev pub Adds : (Bor Bytes → Bool) → (Bor Bytes → Bool) → Bytes → Type 0
@@ -91,18 +55,14 @@ Tells has words = (q : Bor Bytes) → has q ≡ is_among words q.now
 
 more_told : (has has' : Bor Bytes → Bool) (words : List Bytes) (word : Bytes) → Tells has words → Adds has has' word → Tells has' (words ++ word ∷ [])
 more_told has has' words word tells adds q =
-    adds q ∙ ap (λ (b : Bool). cond b true (has q)) (is_eq-slice_cmp word q.now ∙ bytes_turned word q.now) ∙ ap (λ (c : Bool). cond (bytes_eq q.now word) true c) (tells q) ∙ sym (among-last words word q.now)
-
-map-last : {A B : Type 0} (f : A → B) (xs : List A) (x : A) → map f (xs ++ x ∷ []) ≡ map f xs ++ f x ∷ []
-map-last f [] x = refl
-map-last {A} {B} f (z ∷ xs) x = ap (λ (l : List B). f z ∷ l) (map-last f xs x)
+    adds q ∙ ap (λ (b : Bool). cond b true (has q)) (is_eq-slice_cmp word q.now ∙ bytes_turned word q.now) ∙ ap (λ (c : Bool). cond (bytes_eq q.now word) true c) (tells q) ∙ sym (among_last words word q.now)
 
 -- the words so far
 abbrev pub so_far : List (Bor Bytes) → ℕ → List Bytes
 so_far specs i = map (λ s. s.now) (take i specs)
 
 so_far-suc : (specs : List (Bor Bytes)) (i : ℕ) (s : Bor Bytes) → i < length specs → so_far specs (i + 1) ≡ so_far specs i ++ (get_or specs i s).now ∷ []
-so_far-suc specs i s within = ap (λ (k : ℕ). so_far specs k) (add-one i) ∙ ap (map (λ (s : Bor Bytes). s.now)) (take-suc specs i s within) ∙ map-last (λ (s : Bor Bytes). s.now) (take i specs) (get_or specs i s)
+so_far-suc specs i s within = ap (λ (k : ℕ). so_far specs k) (add-one i) ∙ ap (map (λ (s : Bor Bytes). s.now)) (take-suc specs i s within) ∙ map-append (λ (s : Bor Bytes). s.now) (take i specs) (get_or specs i s ∷ [])
 
 module _ (paths : List Bytes) (from : Bytes) where
   abbrev pub row_of : Bytes → DepRow
@@ -131,7 +91,7 @@ module _ (paths : List Bytes) (from : Bytes) where
         off false e = refl
 
         all : rows ++ row_of s.now ∷ [] ≡ rows_for paths from (distinct (so_far specs i ++ s.now ∷ []))
-        all = ap (λ (l : List DepRow). l ++ row_of s.now ∷ []) is ∙ sym (map-last row_of (distinct (so_far specs i)) s.now)
+        all = ap (λ (l : List DepRow). l ++ row_of s.now ∷ []) is ∙ sym (map-append row_of (distinct (so_far specs i)) (s.now ∷ []))
             ∙ ap (λ (b : Bool). rows_for paths from (cond b (distinct (so_far specs i)) (distinct (so_far specs i) ++ s.now ∷ []))) (sym (sym (among_is tells) ∙ off (has key) fresh))
             ∙ ap (rows_for paths from) (sym (distinct_more (so_far specs i) s.now))
 

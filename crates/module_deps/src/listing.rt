@@ -37,7 +37,7 @@ fn specifier_of_export(form: &ExportForm) -> Option<&Text>
 }
 
 // The specifiers of items, in order.
-#[tactic(auto, using(crate::proofs::EachOnce::flat_more))]
+#[tactic(auto, using(named_rows::proofs::Lists::flat_more))]
 fn specifiers_in<'a>(alloc: Global, items: &'a [Item]) -> Result<Vec<&'a Text>, NoMemory>
     ensures { IfOk result (λ found. map (λ text. text.now) found.items ≡ specifiers_in (items_view items.now)) }
 {

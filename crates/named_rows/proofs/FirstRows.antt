@@ -11,31 +11,10 @@ use Rattle.std.proofs.lemmas.Map.Text.{is_eq-slice_cmp}
 use Rattle.std.proofs.lemmas.Map.Lookups.{exact_bytes}
 use Rattle.check_values.specs.Rows.{Bytes, Rows, row_at, is_among, first_of_each, put, by_name}
 use Rattle.named_rows.specs.Seen.{seen}
+use Rattle.named_rows.proofs.Lists.{filter_last, among_last, bytes_turned}
 
 abbrev pub names_in : {X : Type 0} → Rows X → List Bytes
 names_in rows = map (λ row. row.0) rows
-
-among-last : (xs : List Bytes) (y q : Bytes) → is_among (xs ++ y ∷ []) q ≡ cond (bytes_eq q y) true (is_among xs q)
-among-last [] y q = go (bytes_eq q y)
-  where
-    go : (b : Bool) → b || false ≡ cond b true false
-    go true = refl
-    go false = refl
-among-last (x ∷ xs) y q = ap (λ (b : Bool). bytes_eq q x || b) (among-last xs y q) ∙ go (bytes_eq q x) (bytes_eq q y)
-  where
-    go : (a b : Bool) → a || cond b true (is_among xs q) ≡ cond b true (a || is_among xs q)
-    go true true = refl
-    go true false = refl
-    go false b = refl
-
-bytes_turned : (a b : Bytes) → bytes_eq a b ≡ bytes_eq b a
-bytes_turned a b = go (bytes_eq a b) (bytes_eq b a) refl refl
-  where
-    go : (c d : Bool) → bytes_eq a b ≡ c → bytes_eq b a ≡ d → c ≡ d
-    go true true e f = refl
-    go false false e f = refl
-    go true false e f = sym ((bytes_decides b a).1 (sym ((bytes_decides a b).0 e))) ∙ f
-    go false true e f = sym e ∙ (bytes_decides a b).1 (sym ((bytes_decides b a).0 f))
 
 greater_apart : (a b : Bytes) → slice_cmp nat_cmp a b ≡ Greater → a ≡ b → ⊥
 greater_apart a b is same = let e : slice_cmp nat_cmp a a ≡ Greater = ap (slice_cmp nat_cmp a) same ∙ is in cc (e, nat_list_cmp_total.antisymm a a)
@@ -45,14 +24,6 @@ abbrev pub Adds : (Bytes → Bool) → (Bytes → Bool) → Bytes → Type 0
 Adds has has' name = (q : Bytes) → has' q ≡ cond (is_eq (slice_cmp nat_cmp name q)) true (has q)
 
 module _ {X : Type 0} where
-  filter-last : (p : Bytes × X → Bool) (xs : Rows X) (y : Bytes × X) → filter p (xs ++ y ∷ []) ≡ filter p xs ++ cond (p y) (y ∷ []) []
-  filter-last p [] y = refl
-  filter-last p (x ∷ xs) y = go (p x) (filter-last p xs y)
-    where
-      go : (b : Bool) → filter p (xs ++ y ∷ []) ≡ filter p xs ++ cond (p y) (y ∷ []) [] → cond b (x ∷ filter p (xs ++ y ∷ [])) (filter p (xs ++ y ∷ [])) ≡ cond b (x ∷ filter p xs) (filter p xs) ++ cond (p y) (y ∷ []) []
-      go true rest = ap (λ (l : Rows X). x ∷ l) rest
-      go false rest = rest
-
   -- one row more
   first_more : (xs : Rows X) (y : Bytes × X) → first_of_each (xs ++ y ∷ []) ≡ cond (is_among (names_in xs) y.0) (first_of_each xs) (first_of_each xs ++ y ∷ [])
   first_more [] y = refl
@@ -64,10 +35,10 @@ module _ {X : Type 0} where
       go true false e rest = ap (λ (l : Rows X). x ∷ filter (λ later. not (bytes_eq later.0 x.0)) l) rest
       go false true e rest =
           ap (λ (l : Rows X). x ∷ filter (λ later. not (bytes_eq later.0 x.0)) l) rest
-          ∙ ap (λ (l : Rows X). x ∷ l) (filter-last (λ later. not (bytes_eq later.0 x.0)) (first_of_each xs) y ∙ ap (λ (c : Bool). filter (λ later. not (bytes_eq later.0 x.0)) (first_of_each xs) ++ cond (not c) (y ∷ []) []) e ∙ append-nil _)
+          ∙ ap (λ (l : Rows X). x ∷ l) (filter_last (λ later. not (bytes_eq later.0 x.0)) (first_of_each xs) y ∙ ap (λ (c : Bool). filter (λ later. not (bytes_eq later.0 x.0)) (first_of_each xs) ++ cond (not c) (y ∷ []) []) e ∙ append-nil _)
       go false false e rest =
           ap (λ (l : Rows X). x ∷ filter (λ later. not (bytes_eq later.0 x.0)) l) rest
-          ∙ ap (λ (l : Rows X). x ∷ l) (filter-last (λ later. not (bytes_eq later.0 x.0)) (first_of_each xs) y ∙ ap (λ (c : Bool). filter (λ later. not (bytes_eq later.0 x.0)) (first_of_each xs) ++ cond (not c) (y ∷ []) []) e)
+          ∙ ap (λ (l : Rows X). x ∷ l) (filter_last (λ later. not (bytes_eq later.0 x.0)) (first_of_each xs) y ∙ ap (λ (c : Bool). filter (λ later. not (bytes_eq later.0 x.0)) (first_of_each xs) ++ cond (not c) (y ∷ []) []) e)
 
   -- the first of those so far, and the set of their names
   abbrev pub AreFirst : (Bytes → Bool) → Rows X → Rows X → Type 0
@@ -80,7 +51,7 @@ module _ {X : Type 0} where
   has_more : (has has' : Bytes → Bool) (rows : Rows X) (y : Bytes × X) → ((q : Bytes) → has q ≡ is_among (names_in rows) q) → Adds has has' y.0 → (q : Bytes) → has' q ≡ is_among (names_in (rows ++ y ∷ [])) q
   has_more has has' rows y told adds q =
       adds q ∙ ap (λ (b : Bool). cond b true (has q)) (is_eq-slice_cmp y.0 q ∙ bytes_turned y.0 q) ∙ ap (λ (b : Bool). cond (bytes_eq q y.0) true b) (told q)
-      ∙ sym (among-last (names_in rows) y.0 q) ∙ ap (λ (l : List Bytes). is_among l q) (sym (names-last rows y))
+      ∙ sym (among_last (names_in rows) y.0 q) ∙ ap (λ (l : List Bytes). is_among l q) (sym (names-last rows y))
 
   taken : (rows : Rows X) (i : ℕ) (row : Bytes × X) → i < length rows → row ≡ get_or rows i row → take (i + 1) rows ≡ take i rows ++ row ∷ []
   taken rows i row within at = ap (λ (k : ℕ). take k rows) (add-one i) ∙ take-suc rows i row within ∙ ap (λ (r : Bytes × X). take i rows ++ r ∷ []) (sym at)

@@ -1,2 +1,3 @@
 pub mod ByName
 pub mod FirstRows
+pub mod Lists

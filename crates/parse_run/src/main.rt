@@ -7,7 +7,6 @@
 #[cfg(test)]
 mod tests;
 
-use case_lines::source_in_line;
 use flow_values::NoMemory;
 use js_lexer::{LexFault, lex};
 use js_parser::read_module;
@@ -50,11 +49,9 @@ fn report(rt: &impl Print, alloc: Global, source: &[u8], spells: bool) -> io::Re
     }
 }
 
-fn report_line(rt: &impl Print, alloc: Global, line: &[u8]) -> io::Result<()> {
-    match source_in_line(alloc, line) {
-        Ok(source) => report(rt, alloc, source.as_slice(), true),
-        Err(NoMemory) => println!(rt; "no memory"),
-    }
+fn report_line(rt: &impl Print, alloc: Global, line: &str) -> io::Result<()> {
+    let source = line.replace(alloc, '⏎', "\n")?;
+    report(rt, alloc, source.as_bytes(), true)
 }
 
 // Whether there is a word on the command line.
@@ -74,7 +71,7 @@ fn main(rt: HostRuntime) -> io::Result<()> {
         }
     } else {
         for line in rt.lines(rt.alloc()) {
-            report_line(&rt, rt.alloc(), line?.as_bytes())?;
+            report_line(&rt, rt.alloc(), line?.as_str())?;
         }
     }
     Ok(())

@@ -48,51 +48,6 @@ fn run(
 }
 
 #[test]
-fn an_empty_folder_is_clean(rt: HostRuntime) -> Result<(), Fail> {
-    let (status, printed) = run(rt.alloc(), &["d"], &[], "")?;
-    assert_eq!(rt; status.number(), 0);
-    let lines = "recheck 1: 0 parsed, 0 checked, 0 errors\n";
-    assert_eq!(rt; printed.as_slice(), lines.as_bytes());
-    Ok(())
-}
-
-#[test]
-fn errors_are_counted_and_shown(rt: HostRuntime) -> Result<(), Fail> {
-    let rows = [("a.js", "export const x: number = \"a\";")];
-    let script = "{\"do\":\"ask\",\"ask\":{\"what\":\"status\"}}\n";
-    let (status, printed) = run(rt.alloc(), &["d"], &rows, script)?;
-    assert_eq!(rt; status.number(), 2);
-    let lines =
-        "recheck 1: 1 parsed, 1 checked, 1 errors\n1 status: 1 errors\n  a.js:1:26 incompatible-type \"a\" number\n";
-    assert_eq!(rt; printed.as_slice(), lines.as_bytes());
-    Ok(())
-}
-
-#[test]
-fn an_edit_is_rechecked(rt: HostRuntime) -> Result<(), Fail> {
-    let script =
-        "{\"do\":\"edit\",\"path\":\"a.js\",\"text\":\"export const n: number = 1;\"}\n\n{\"do\":\"recheck\"}\n{\"do\":\"end\"}\nunread";
-    let (status, printed) = run(rt.alloc(), &["d"], &[], script)?;
-    assert_eq!(rt; status.number(), 0);
-    let lines =
-        "recheck 1: 0 parsed, 0 checked, 0 errors\nrecheck 2: 1 parsed, 1 checked, 0 errors\n";
-    assert_eq!(rt; printed.as_slice(), lines.as_bytes());
-    Ok(())
-}
-
-#[test]
-fn a_bad_line_ends_the_run(rt: HostRuntime) -> Result<(), Fail> {
-    let script =
-        "{\"do\":\"recheck\"}\n{\"do\":\"ask\",\"ask\":{\"what\":\"status\"}}\n{\"do\":\"rechek\"}\n{\"do\":\"recheck\"}\n";
-    let (status, printed) = run(rt.alloc(), &["d"], &[], script)?;
-    assert_eq!(rt; status.number(), 65);
-    let lines =
-        "recheck 1: 0 parsed, 0 checked, 0 errors\nrecheck 2: 0 parsed, 0 checked, 0 errors\n2 status: 0 errors\nbad line 3\n";
-    assert_eq!(rt; printed.as_slice(), lines.as_bytes());
-    Ok(())
-}
-
-#[test]
 fn other_words_get_the_usage_line(rt: HostRuntime) -> Result<(), Fail> {
     let alloc = rt.alloc();
     let cases: [&[&str]; 4] = [&[], &[""], &["-d"], &["a", "b"]];

@@ -1,5 +1,5 @@
 // The bindings of a module's top level, in order.
-#![tactic(auto, using(told_signature::proofs::Listed::seen_more), unfolding(code_tree::specs::View::declaration_view, code_tree::specs::View::function_view))]
+#![tactic(auto, using(named_rows::proofs::Lists::seen_more), unfolding(code_tree::specs::View::declaration_view, code_tree::specs::View::function_view))]
 
 ghost use Rattle.std.specs.Prelude.{◌≡◌, ◌++◌, OnOk, IfOk};
 ghost use Rattle.std.specs.List.{flat_map};
@@ -57,7 +57,7 @@ fn bind_imported<'a>(
     Ok(())
 }
 
-#[tactic(auto, using(told_signature::proofs::Listed::flat_more))]
+#[tactic(auto, using(named_rows::proofs::Lists::flat_more))]
 fn bind_list<'a>(
     is_type: bool,
     specifier: &'a Text,
@@ -158,7 +158,7 @@ fn bind_item<'a>(item: &'a Item, rows: &mut Rows<'a>) -> Result<(), NoMemory>
 }
 
 // Every binding of the top level, in order.
-#[tactic(auto, using(told_signature::proofs::Listed::flat_more))]
+#[tactic(auto, using(named_rows::proofs::Lists::flat_more))]
 pub fn bindings<'a>(alloc: Global, items: &'a [Item]) -> Result<Rows<'a>, NoMemory>
     ensures { IfOk result (λ rows. seen binding_view rows.items ≡ flat_map (λ item. bound_by (item_view item)) items.now) }
 {

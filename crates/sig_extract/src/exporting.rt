@@ -1,5 +1,5 @@
 // The exports of a module, in the order of the source.
-#![tactic(auto, using(told_signature::proofs::Listed::seen_more), unfolding(code_tree::specs::View::declaration_view, code_tree::specs::View::function_view))]
+#![tactic(auto, using(named_rows::proofs::Lists::seen_more), unfolding(code_tree::specs::View::declaration_view, code_tree::specs::View::function_view))]
 
 ghost use Rattle.std.specs.Prelude.{◌≡◌, ◌++◌, false, OnOk, IfOk, unwrap_or};
 ghost use Rattle.std.specs.List.{flat_map};
@@ -42,7 +42,7 @@ fn exported_name(exported: &Exported) -> Result<Text, NoMemory>
 }
 
 // What names in braces say, of this module or of another one.
-#[tactic(auto, using(told_signature::proofs::Listed::flat_more))]
+#[tactic(auto, using(named_rows::proofs::Lists::flat_more))]
 fn tell_names<'a>(
     scope: &Scope<'a>,
     is_type: bool,
@@ -214,7 +214,7 @@ fn tell_item<'a>(
 }
 
 /// What the exports of a module tell, in the order of the source.
-#[tactic(auto, using(told_signature::proofs::Listed::flat_more))]
+#[tactic(auto, using(named_rows::proofs::Lists::flat_more))]
 pub fn exports<'a>(
     alloc: Global,
     scope: &Scope<'a>,

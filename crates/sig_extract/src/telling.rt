@@ -74,7 +74,7 @@ fn as_value<'a>(
 }
 
 /// What each name of the scope tells as a value, in the order of the source.
-#[tactic(auto, using(told_signature::proofs::Listed::mapped_next, told_signature::proofs::Listed::seen_more))]
+#[tactic(auto, using(told_signature::proofs::Listed::mapped_next, named_rows::proofs::Lists::seen_more))]
 pub fn told_by_names<'s, 'a>(
     alloc: Global,
     scope: &'s Scope<'a>,

@@ -4,7 +4,6 @@
 //! `bench/signatures.sh` measures it.
 #![tactic(auto)]
 
-use case_lines::source_in_line;
 use check_values::{Fault, LocalSig, Origin};
 use flow_values::{NoMemory, Text};
 use source_front::{Parse, front};
@@ -87,11 +86,11 @@ fn print_faults(rt: &impl Print, faults: &[Fault]) -> io::Result<()> {
 }
 
 // What a line's module says by itself.
-fn parse_in_line(alloc: Global, line: &[u8]) -> Result<Parse, NoMemory> {
-    front(alloc, source_in_line(alloc, line)?.as_slice())
+fn parse_in_line(alloc: Global, line: &str) -> Result<Parse, NoMemory> {
+    front(alloc, line.replace(alloc, '⏎', "\n")?.as_bytes())
 }
 
-fn report(rt: &impl Print, alloc: Global, line: &[u8]) -> io::Result<()> {
+fn report(rt: &impl Print, alloc: Global, line: &str) -> io::Result<()> {
     match parse_in_line(alloc, line) {
         Ok(parse) => {
             print_signature(rt, alloc, &parse.sig)?;
@@ -102,7 +101,7 @@ fn report(rt: &impl Print, alloc: Global, line: &[u8]) -> io::Result<()> {
     }
 }
 
-fn report_counts(rt: &impl Print, alloc: Global, line: &[u8]) -> io::Result<()> {
+fn report_counts(rt: &impl Print, alloc: Global, line: &str) -> io::Result<()> {
     match parse_in_line(alloc, line) {
         Ok(parse) => println!(rt;
             "{} exports, {} aliases, {} imports, {} faults",
@@ -128,9 +127,9 @@ fn main(rt: HostRuntime) -> io::Result<()> {
     for line in rt.lines(rt.alloc()) {
         let line = line?;
         if counts {
-            report_counts(&rt, rt.alloc(), line.as_bytes())?;
+            report_counts(&rt, rt.alloc(), line.as_str())?;
         } else {
-            report(&rt, rt.alloc(), line.as_bytes())?;
+            report(&rt, rt.alloc(), line.as_str())?;
         }
     }
     Ok(())

@@ -1,4 +1,11 @@
 pub mod Walks
+pub mod LinkWalks
+pub mod Places
+pub mod Firsts
+pub mod Typed
+pub mod Linked
+pub mod Steps
+pub mod Opened
 pub mod Kept
 pub mod Grown
 pub mod Deciding

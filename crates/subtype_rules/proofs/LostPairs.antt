@@ -1,5 +1,5 @@
 -- Pairs that are lost, as their properties tell.
-use Rattle.std.proofs.Common.{◌≡◌, ℕ, zero, suc, ◌<◌, Bool, true, false, List, [], ◌∷◌, ◌++◌, length, get_or, map, Contains, refl, sym, ap, ◌∙◌, arith, subst, inl, inr, append_assoc, if◌then◌else◌, take, ◌+◌, ◌≤◌, ◌&&◌, true≢false}
+use Rattle.std.proofs.Common.{◌≡◌, ℕ, zero, suc, ◌<◌, Bool, true, false, List, [], ◌∷◌, ◌++◌, length, get_or, map, Contains, refl, sym, ap, ◌∙◌, arith, subst, inl, inr, if◌then◌else◌, ◌&&◌, true≢false}
 use Rattle.std.specs.List.{list_all}
 use Rattle.std.proofs.lemmas.List.{append-nil}
 use Rattle.std.proofs.lemmas.List.Elements.{Contains-append_left, Contains-append_right}
@@ -11,13 +11,12 @@ use Rattle.type_values.specs.declared.types.FlowType.TheOpen.{Object, Tuple, Arr
 use Rattle.alias_table.specs.Aliases.{Key}
 use Rattle.type_terms.specs.Optional.{eff}
 use Rattle.subtyping.specs.Rows.{Pair, Level, is_free, does_open, has_no_ways, left_ways, right_ways, part_ways, ways, one_way, objects_fit, all_needs, needs_at, needs, prop_at}
-use Rattle.subtyping.specs.Collected.{IsLost, IsHopeless, KeepsWays, IsRow}
-use Rattle.subtype_rules.specs.Kept.{HasDead, HasLost, above, IsTried}
-use Rattle.subtyping.proofs.Whole.{split, first_or, nothing, here, there}
+use Rattle.subtyping.specs.Collected.{IsLost}
+use Rattle.subtype_rules.specs.Kept.{HasDead, HasLost}
+use Rattle.subtyping.proofs.Whole.{first_or, nothing, here, there}
 use Rattle.subtyping.proofs.Lifted.{no_ways, left_none, right_none, lost_none, lost_by_looks}
 use Rattle.subtyping.proofs.Justified.{below_justified}
 use Rattle.subtyping.proofs.Itself.{map_in, map_out}
-use Rattle.subtype_rules.proofs.Grown.{take_push}
 
 dead_first : (named : Key → FlowType) (p : Pair) (some : List Pair) → has_no_ways (out-FlowType p.0) (out-FlowType p.1) ≡ true → HasDead named (p ∷ some)
 dead_first named p some off = (p, here p some, no_ways named p off)
@@ -90,12 +89,13 @@ each_off f (x ∷ all) on y c = go (f x) refl on (λ rest later. each_off f all 
 pub misses_lost : (a b : FlowType) (all : List FlowType) → out-FlowType b ≡ Union all → does_open (out-FlowType a) ≡ false → is_free (out-FlowType a) (out-FlowType b) ≡ false → list_all (λ y. has_no_ways (out-FlowType a) (out-FlowType y)) all ≡ true → (named : Key → FlowType) → IsLost named (a, b)
 misses_lost a b all b_is opens free off named below =
     let x = out-FlowType a in
-    let only : ways named (a, b) ≡ above a all =
+    let above : List (List Pair) = map (λ y. (a, y) ∷ []) all in
+    let only : ways named (a, b) ≡ above =
     ap (λ (z : Bool). if z then [] ∷ [] else left_ways named x b ++ (right_ways named a (out-FlowType b) ++ part_ways x (out-FlowType b))) free
     ∙ ap (λ (l : List (List Pair)). l ++ (right_ways named a (out-FlowType b) ++ part_ways x (out-FlowType b))) (left_none named x b opens)
     ∙ ap (λ (z : Level). right_ways named a z ++ part_ways x z) b_is
-    ∙ ap (λ (l : List (List Pair)). above a all ++ l) (no_part x all)
-    ∙ append-nil (above a all) in
+    ∙ ap (λ (l : List (List Pair)). above ++ l) (no_part x all)
+    ∙ append-nil above in
     let why = below_justified named a b below in
     let m = map_out (λ (y : FlowType). (a, y) ∷ []) all why.0 (subst (λ (l : List (List Pair)). Contains l why.0) only why.1) in
     lost_by_looks (a, m.0) (each_off (λ y. has_no_ways x (out-FlowType y)) all off m.0 m.1) named (why.2 (a, m.0) (subst (λ (w : List Pair). Contains w (a, m.0)) m.2 (here (a, m.0) [])))
@@ -116,76 +116,3 @@ loses_lost a b all a_is opens free named some below =
       | inl same ↦ some.2 (why.2 (some.0, b) (subst (λ (l : List Pair). Contains l (some.0, b)) same (map_in (λ (x : FlowType). (x, b)) all some.0 some.1)))
       | inr none ↦ nothing why.0 none
     ]
-
--- ---- what is kept of the ways
-
-pub keeps_same : (named : Key → FlowType) (all : List (List Pair)) → KeepsWays named all all
-keeps_same named all = ((λ way c. c), λ way c. inl c)
-
-pub keeps_none : (named : Key → FlowType) (way : List Pair) → IsHopeless named way → KeepsWays named [] (way ∷ [])
-keeps_none named way off = ((λ w c. nothing w c), λ w c. elim (first_or way [] w c) [ inl is ↦ inr (subst (IsHopeless named) is off) | inr rest ↦ nothing w rest ])
-
-pub keeps_append : (named : Key → FlowType) (a b x y : List (List Pair)) → KeepsWays named a x → KeepsWays named b y → KeepsWays named (a ++ b) (x ++ y)
-keeps_append named a b x y f g = (
-  (λ way c. elim (split a b way c) [ inl d ↦ Contains-append_left x y way (f.0 way d) | inr d ↦ Contains-append_right x y way (g.0 way d) ]),
-  λ way c. elim (split x y way c) [
-    | inl d ↦ elim (f.1 way d) [ inl e ↦ inl (Contains-append_left a b way e) | inr off ↦ inr off ]
-    | inr d ↦ elim (g.1 way d) [ inl e ↦ inl (Contains-append_right a b way e) | inr off ↦ inr off ]
-  ],
-)
-
-pub keeps_all : (named : Key → FlowType) (left right part x y z : List (List Pair)) → KeepsWays named left x → KeepsWays named right y → part ≡ z → KeepsWays named ((left ++ right) ++ part) (x ++ (y ++ z))
-keeps_all named left right part x y z f g is =
-    subst (λ (l : List (List Pair)). KeepsWays named l (x ++ (y ++ z))) (sym (append_assoc left right part))
-    (keeps_append named left (right ++ part) x (y ++ z) f (keeps_append named right part y z g (subst (λ (l : List (List Pair)). KeepsWays named part l) is (keeps_same named part))))
-
-pub keeps_needing : (named : Key → FlowType) (a b : FlowType) (some : List (List Pair)) → is_free (out-FlowType a) (out-FlowType b) ≡ false → KeepsWays named some (left_ways named (out-FlowType a) b ++ (right_ways named a (out-FlowType b) ++ part_ways (out-FlowType a) (out-FlowType b))) → KeepsWays named some (ways named (a, b))
-keeps_needing named a b some off keeps = subst (KeepsWays named some) (sym (ap (λ (x : Bool). if x then [] ∷ [] else left_ways named (out-FlowType a) b ++ (right_ways named a (out-FlowType b) ++ part_ways (out-FlowType a) (out-FlowType b))) off)) keeps
-
-pub row_keeps : (named : Key → FlowType) (pairs : List Pair) (row : List (List ℕ)) (some all : List (List Pair)) → KeepsWays named some all → IsRow named pairs row some → IsRow named pairs row all
-row_keeps named pairs row some all k r = (
-  (λ ks c. let old = r.0 ks c in (old.0, k.0 old.0 old.1, old.2)),
-  λ way c. elim (k.1 way c) [ inl d ↦ r.1 way d | inr off ↦ inr off ],
-)
-
--- a member of a union on the left that is lost makes its way hopeless
-pub left_hopeless : (all : List FlowType) (b : FlowType) (i : ℕ) (x : FlowType) → i < length all → x ≡ get_or all i x → ((named : Key → FlowType) → IsLost named (x, b)) → (named : Key → FlowType) → IsHopeless named (map (λ x. (x, b)) all)
-left_hopeless all b i x h e lost named = ((x, b), mapped all i h e, lost named)
-  where
-    mapped : (all : List FlowType) (i : ℕ) → i < length all → x ≡ get_or all i x → Contains {X = Pair} (map (λ x. (x, b)) all) (x, b)
-    mapped [] i h e = absurd (omega (arith, h))
-    mapped (y ∷ all) zero h e = subst (λ (z : FlowType). Contains {X = Pair} ((z, b) ∷ map (λ x. (x, b)) all) (x, b)) e (here (x, b) (map (λ x. (x, b)) all))
-    mapped (y ∷ all) (suc i) h e = there (y, b) (x, b) (map (λ x. (x, b)) all) (mapped all i (omega (arith, h)) e)
-
--- ---- the members of a union on the right, one after another
-
-push_above : (a : FlowType) (xs : List FlowType) (y : FlowType) → above a (xs ++ y ∷ []) ≡ above a xs ++ ((a, y) ∷ []) ∷ []
-push_above a [] y = refl
-push_above a (x ∷ xs) y = ap (λ l. ((a, x) ∷ []) ∷ l) (push_above a xs y)
-
-pub lost_hopeless : (a y : FlowType) → ((named : Key → FlowType) → IsLost named (a, y)) → (named : Key → FlowType) → IsHopeless named ((a, y) ∷ [])
-lost_hopeless a y lost named = ((a, y), here (a, y) [], lost named)
-
-pub above_next : (a : FlowType) (all : List FlowType) (i : ℕ) (y : FlowType) (old new : List (List Pair)) → i < length all → y ≡ get_or all i y → IsTried a y old new → ((named : Key → FlowType) → KeepsWays named old (above a (take i all))) →
-    (named : Key → FlowType) → KeepsWays named new (above a (take (i + 1) all))
-above_next a all i y old new h e tried keeps named =
-    subst (λ (l : List (List Pair)). KeepsWays named new l) (sym (ap (above a) (take_push all i y h e) ∙ push_above a (take i all) y)) (elim tried [
-      | inl is ↦ subst (λ (l : List (List Pair)). KeepsWays named l (above a (take i all) ++ ((a, y) ∷ []) ∷ [])) (sym is)
-          (keeps_append named old (((a, y) ∷ []) ∷ []) (above a (take i all)) (((a, y) ∷ []) ∷ []) (keeps named) (keeps_same named (((a, y) ∷ []) ∷ [])))
-      | inr off ↦ subst (λ (l : List (List Pair)). KeepsWays named l (above a (take i all) ++ ((a, y) ∷ []) ∷ [])) (sym off.0) (
-        (λ way c. Contains-append_left (above a (take i all)) (((a, y) ∷ []) ∷ []) way ((keeps named).0 way c)),
-        λ way c. elim (split (above a (take i all)) (((a, y) ∷ []) ∷ []) way c) [
-          | inl d ↦ (keeps named).1 way d
-          | inr d ↦ elim (first_or ((a, y) ∷ []) [] way d) [ inl is ↦ inr (subst (IsHopeless named) is (off.1 named)) | inr rest ↦ nothing way rest ]
-        ],
-      )
-    ])
-
-pub above_end : (a : FlowType) (all : List FlowType) (i : ℕ) (some : List (List Pair)) → length all ≤ i → ((named : Key → FlowType) → KeepsWays named some (above a (take i all))) → (named : Key → FlowType) → KeepsWays named some (above a all)
-above_end a all i some h keeps named = subst (λ (l : List FlowType). KeepsWays named some (above a l)) (whole all i h) (keeps named)
-  where
-    whole : (xs : List FlowType) (n : ℕ) → length xs ≤ n → take n xs ≡ xs
-    whole [] zero h = refl
-    whole [] (suc n) h = refl
-    whole (x ∷ xs) zero h = absurd (omega (arith, h))
-    whole (x ∷ xs) (suc n) h = ap (λ l. x ∷ l) (whole xs n (omega (arith, h)))

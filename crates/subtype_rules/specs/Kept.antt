@@ -1,10 +1,10 @@
 -- What is left out of the ways, and why.
-use Rattle.std.specs.Prelude.{◌≡◌, ◌⊎◌, ℕ, List, [], ◌∷◌, ◌++◌, map, Contains, Option, Some, None, slice_get}
+use Rattle.std.specs.Prelude.{◌≡◌, ℕ, List, [], map, Contains, Option, Some, None, slice_get}
 use Rattle.type_values.specs.declared.types.FlowType.{FlowType}
 use Rattle.type_values.specs.declared.types.FlowProp.{FlowProp}
 use Rattle.alias_table.specs.Aliases.{Key}
 use Rattle.subtyping.specs.Rows.{Pair, ways}
-use Rattle.subtyping.specs.Collected.{IsLost, IsHopeless}
+use Rattle.subtyping.specs.Collected.{IsLost}
 
 -- a pair among these that no row justifies
 abbrev pub HasDead : (Key → FlowType) → List Pair → Type 0
@@ -13,14 +13,6 @@ HasDead named some = (q : Pair) × Contains some q × (ways named q ≡ [])
 -- a member of these is below that in no closed set
 abbrev pub HasLost : (Key → FlowType) → List FlowType → FlowType → Type 0
 HasLost named all b = (x : FlowType) × Contains all x × IsLost named (x, b)
-
--- the ways by a member of a union on the right
-abbrev pub above : FlowType → List FlowType → List (List Pair)
-above a all = map (λ y. (a, y) ∷ []) all
-
--- one way was put behind the others, or it is hopeless
-abbrev pub IsTried : FlowType → FlowType → List (List Pair) → List (List Pair) → Type 0
-IsTried a y old new = (new ≡ old ++ ((a, y) ∷ []) ∷ []) ⊎ ((new ≡ old) × ((named : Key → FlowType) → IsHopeless named ((a, y) ∷ [])))
 
 -- the keys of properties, in order
 abbrev pub keys_of : List FlowProp → List (List ℕ)

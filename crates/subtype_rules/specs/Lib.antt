@@ -1,3 +1,5 @@
 pub mod Answer
 pub mod Kept
 pub mod Once
+pub mod Terms
+pub mod Firsts

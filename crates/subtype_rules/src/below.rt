@@ -30,8 +30,8 @@ fn decide(alloc: Global, table: &AliasTable, a: &FlowType, b: &FlowType) -> Resu
     if covered {
         return Ok(true);
     }
-    let all = collect(alloc, table, a, b)?;
-    let alive = survivors(alloc, all.rows.as_slice())?;
+    let rows = collect(alloc, table, a, b)?;
+    let alive = survivors(alloc, rows.as_slice())?;
     Ok(is_alive(alive.as_slice(), 0))
 }
 

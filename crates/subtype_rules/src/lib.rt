@@ -6,9 +6,11 @@ mod collecting;
 mod covering;
 mod deleting;
 mod laws;
+mod links;
 mod losing;
 mod props;
 mod rows;
+mod terms;
 
 pub use below::is_subtype;
 pub use laws::below_is_the_relation;

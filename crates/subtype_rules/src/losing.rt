@@ -7,7 +7,7 @@ ghost use Rattle.subtyping.specs.Rows.{has_no_ways, needs, needs_at, prop_at, al
 ghost use Rattle.subtyping.specs.Collected.{IsLost};
 ghost use Rattle.subtype_rules.specs.Kept.{HasDead, HasLost};
 
-use crate::props::Props;
+use crate::props::{FEW, Props};
 use crate::rows::{does_open, has_no_ways, is_free};
 use flow_values::Text;
 use type_values::{FlowProp, FlowType, Variance};
@@ -49,7 +49,11 @@ fn clash_at(ps: &Props, qs: &Props, key: &Text) -> bool
 fn clash(ps: &Props, qs: &Props) -> bool
     ensures { result ≡ true → (named : Key → FlowType) → HasDead named (all_needs ps.now.all.now qs.now.all.now qs.now.all.now) }
 {
+    let quick = ps.is_quick() && qs.is_quick();
     for i in 0..qs.all.len() {
+        if i >= FEW && !quick {
+            return false;
+        }
         let q = &qs.all[i];
         if clash_at(ps, qs, &q.key) {
             return true;

@@ -20,12 +20,13 @@ use Rattle.told_signature.specs.declared.telling.Said.TheVariants as said
 use Rattle.told_signature.specs.Seen.{told_view, named_in, said_view}
 use Rattle.told_signature.specs.Signing.{led_to_by_all}
 use Rattle.told_signature.specs.Leading.{Leads, LeadsOn}
-use Rattle.told_signature.proofs.Listed.{flat-append, seen_next}
+use Rattle.named_rows.proofs.Lists.{flat_last}
+use Rattle.told_signature.proofs.Listed.{seen_next}
 use Rattle.told_signature.proofs.Search.{either}
 
 -- the names to which one row more leads
 one_more : (rows : Rows Told) (row : Bytes × Told) (word : Bytes) → is_among (led_to_by_all (rows ++ row ∷ [])) word ≡ is_among (led_to_by_all rows) word || is_among (led_to row.1) word
-one_more rows row word = ap (λ (l : List Bytes). is_among l word) (flat-append (λ r. led_to r.1) rows row) ∙ list_any-append (bytes_eq word) (led_to_by_all rows) (led_to row.1)
+one_more rows row word = ap (λ (l : List Bytes). is_among l word) (flat_last (λ r. led_to r.1) rows row) ∙ list_any-append (bytes_eq word) (led_to_by_all rows) (led_to row.1)
 
 or_known : (a b : Bool) → (b ≡ true → a ≡ true) → a ≡ a || b
 or_known true b is = refl

@@ -11,7 +11,7 @@ use Rattle.type_values.specs.declared.types.FlowProp.{FlowProp}
 use Rattle.type_values.specs.declared.types.Param.{Param}
 use Rattle.type_names.specs.Names.{Name, all_of, names_in, level_names}
 use Rattle.local_signatures.specs.LocalSignature.{led_to_by_type}
-use Rattle.told_signature.proofs.Listed.{map-append}
+use Rattle.std.proofs.lemmas.List.{map-append}
 
 abbrev second : List Name → List Bytes
 second names = map (λ n. n.1) names

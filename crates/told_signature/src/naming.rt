@@ -1,5 +1,5 @@
 // The names in a type.
-#![tactic(auto, using(crate::proofs::Listed::flat_more, crate::proofs::NamesIn::type_parts))]
+#![tactic(auto, using(named_rows::proofs::Lists::flat_more, crate::proofs::NamesIn::type_parts))]
 
 ghost use Rattle.std.specs.Prelude.{◌≡◌, ◌++◌, OnOk};
 ghost use Rattle.std.specs.List.{flat_map};

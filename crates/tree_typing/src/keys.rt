@@ -6,8 +6,12 @@ use std::alloc::Global;
 use std::collections::BTreeSet;
 use type_values::FlowProp;
 
-// Of the properties of one key the last one, at its own place. They are looked at from the last one on, and the keys so far are
-// kept in order, so that no key is compared with all of them.
+/// Of the properties of one key the last one, at its own place. They are looked at from the last one
+/// on, and the keys so far are kept in order, so that no key is compared with all of them.
+///
+/// # Errors
+///
+/// `NoMemory` where memory is refused.
 pub fn last_of_each(alloc: Global, props: &[FlowProp]) -> Result<List<FlowProp>, NoMemory>
     ensures { IfOk result (λ kept. kept ≡ last_of_each props.now) }
 {

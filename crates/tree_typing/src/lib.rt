@@ -5,5 +5,6 @@ mod keys;
 mod names;
 mod typing;
 
-pub use names::Names;
+pub use keys::last_of_each;
+pub use names::{Names, is_type_name};
 pub use typing::type_of_tree;

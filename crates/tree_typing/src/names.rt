@@ -1,4 +1,5 @@
 ghost use Rattle.std.specs.Prelude.{◌≡◌, List, ℕ, IfOk, unwrap_or};
+ghost use Rattle.std.specs.Option.{is_some};
 ghost use Rattle.check_values.specs.Rows.{row_at};
 ghost use Rattle.tree_types.specs.TreeTypes.{named_types, type_at};
 ghost use Rattle.type_values.specs.declared.types.FlowType.{FlowType};
@@ -50,4 +51,11 @@ pub fn type_of_word<N: Names>(alloc: Global, names: &N, word: &Text) -> Result<F
         Some(own) => Ok(own),
         None => names.type_of_name(alloc, word),
     }
+}
+
+/// Whether a word is a type's own name.
+pub fn is_type_name(word: &[u8]) -> bool
+    ensures { result ≡ is_some (row_at named_types word.now) }
+{
+    base_type(word).is_some()
 }

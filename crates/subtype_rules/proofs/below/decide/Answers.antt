@@ -19,17 +19,12 @@ returns-then-is_lost c = (λ yes. absurd (true≢false (sym yes)), λ below. abs
 pub returns-then-covered : goal.returns-then-covered
 returns-then-covered c = (λ yes. c.in_ok-covered.ensures c.if-covered.true (unfolded c.args.table.now) (table_itself c.args.table.now), λ below. refl)
 
-kept : (c : goal.After-drop-all-3) → IsKept c.in_ok-all.all.rows c.in_ok-alive.alive.items
-kept c = subst (λ rows. IsKept rows c.in_ok-alive.alive.items) c.as_slice.ensures c.in_ok-alive.ensures.kept
-
-gone : (c : goal.After-drop-all-3) → AreRefuted c.in_ok-all.all.rows c.in_ok-alive.alive.items
-gone c = subst (λ rows. AreRefuted rows c.in_ok-alive.alive.items) c.as_slice.ensures c.in_ok-alive.ensures.refuted
-
-first : (c : goal.After-drop-all-3) → at c.in_ok-alive.alive.items 0 ≡ c.is_alive.result
-first c = sym (c.is_alive.ensures ∙ ap (λ l. at l 0) c.as_slice-2.ensures.value)
-
 pub returns : goal.returns
-returns c = (
-  λ yes. sound (unfolded c.args.table.now) c.in_ok-all.all.pairs c.in_ok-all.all.rows c.in_ok-alive.alive.items c.args.a.now c.args.b.now c.in_ok-all.ensures.len c.in_ok-all.ensures.rows (kept c) c.in_ok-all.ensures.first (first c ∙ yes),
-  λ below. sym (first c) ∙ complete (unfolded c.args.table.now) c.in_ok-all.all.pairs c.in_ok-all.all.rows c.in_ok-alive.alive.items c.args.a.now c.args.b.now c.in_ok-all.ensures.len c.in_ok-all.ensures.rows (gone c) c.in_ok-all.ensures.first below,
-)
+returns c =
+    let found = c.in_ok-rows.ensures in
+    let kept : IsKept c.in_ok-rows.rows c.in_ok-alive.alive.items = subst (λ rows. IsKept rows c.in_ok-alive.alive.items) c.as_slice.ensures c.in_ok-alive.ensures.kept in
+    let gone : AreRefuted c.in_ok-rows.rows c.in_ok-alive.alive.items = subst (λ rows. AreRefuted rows c.in_ok-alive.alive.items) c.as_slice.ensures c.in_ok-alive.ensures.refuted in
+    let first : at c.in_ok-alive.alive.items 0 ≡ c.is_alive.result = sym (c.is_alive.ensures ∙ ap (λ l. at l 0) c.as_slice-2.ensures.value) in (
+      λ yes. sound (unfolded c.args.table.now) found.0 c.in_ok-rows.rows c.in_ok-alive.alive.items c.args.a.now c.args.b.now found.2 found.3 kept found.1 (first ∙ yes),
+      λ below. sym first ∙ complete (unfolded c.args.table.now) found.0 c.in_ok-rows.rows c.in_ok-alive.alive.items c.args.a.now c.args.b.now found.2 found.3 gone found.1 below,
+    )

@@ -1,0 +1,4 @@
+pub mod FaultKeys
+pub mod NameRows
+pub mod NoteSteps
+pub mod Spans

@@ -1,0 +1,186 @@
+-- Sets that have all keys of a kind of fact, kept by the calls of maps and sets.
+use Rattle.std.proofs.Common.{◌≡◌, ◌<◌, ◌↔◌, ℕ, Bool, true, false, List, [], ◌∷◌, length, Option, Some, None, Result, Ok, Err, OnOk, OnErr, Ordering, refl, sym, ap, ◌∙◌, subst, cond, arith}
+use Rattle.std.specs.List.{list_any}
+use Rattle.std.specs.Map.{lookup}
+use Rattle.std.specs.Option.{is_some, IsSome, IfSome, IfNone}
+use Rattle.std.specs.Result.{is_err}
+use Rattle.std.specs.Ordering.{nat_cmp, is_eq}
+use Rattle.std.specs.BTreeMap.{BTreeMap, get, is_at, Updates}
+use Rattle.std.specs.BTreeSet.{BTreeSet, contains}
+use Rattle.std.specs.BTreeSet as sets
+use Rattle.fact_trail.specs.declared.fact.Fact.{Fact}
+use Rattle.fact_trail.specs.Slots.{Key, Turned, key_cmp, turned_cmp, turn, is_number, is_key, is_rough_at}
+use Rattle.fact_trail.proofs.Same.{same_number, same_key, turned_alike}
+
+-- the same keys
+pub same_numbers : (s n : BTreeSet ℕ) → n.keys ≡ s.keys → (b : ℕ) → contains nat_cmp n b ≡ contains nat_cmp s b
+same_numbers s n same b = ap (list_any (is_at (nat_cmp b))) same
+
+pub same_keys : (s n : BTreeSet Key) → n.keys ≡ s.keys → (k : Key) → contains key_cmp n k ≡ contains key_cmp s k
+same_keys s n same k = ap (list_any (is_at (key_cmp k))) same
+
+-- ---- the set of rough facts
+
+-- a fact is set
+pub number_set : (r r' : BTreeMap ℕ Fact) (s s' : BTreeSet ℕ) (b : ℕ) (fact : Fact) (rough : Bool) → rough ≡ fact.rough → Updates nat_cmp r r' b (Some fact) →
+    ((c : ℕ) → is_eq (nat_cmp b c) ≡ false → contains nat_cmp s' c ≡ contains nat_cmp s c) → (rough ≡ true → contains nat_cmp s' b ≡ true) →
+    ((c : ℕ) → is_rough_at (get nat_cmp r c) ≡ true → contains nat_cmp s c ≡ true) → (c : ℕ) → is_rough_at (get nat_cmp r' c) ≡ true → contains nat_cmp s' c ≡ true
+number_set r r' s s' b fact rough tells updates others marked kept c is = at (is_eq (nat_cmp b c)) refl
+  where
+    at : (d : Bool) → is_eq (nat_cmp b c) ≡ d → contains nat_cmp s' c ≡ true
+    at true same =
+        let equal : b ≡ c = same_number b c same in
+        sym (ap (contains nat_cmp s') equal) ∙ marked (tells ∙ sym (ap is_rough_at (sym (ap (get nat_cmp r') equal) ∙ updates.1)) ∙ is)
+    at false other = others c other ∙ kept c (sym (ap is_rough_at (updates.2 c other)) ∙ is)
+
+-- it is refused, since there is none
+pub number_refused : (r r' : BTreeMap ℕ Fact) (s s' : BTreeSet ℕ) (b : ℕ) → get nat_cmp r b ≡ None → r'.entries ≡ r.entries →
+    ((c : ℕ) → is_eq (nat_cmp b c) ≡ false → contains nat_cmp s' c ≡ contains nat_cmp s c) → ((c : ℕ) → is_rough_at (get nat_cmp r c) ≡ true → contains nat_cmp s c ≡ true) →
+    (c : ℕ) → is_rough_at (get nat_cmp r' c) ≡ true → contains nat_cmp s' c ≡ true
+number_refused r r' s s' b none same others kept c is = at (is_eq (nat_cmp b c)) refl
+  where
+    stays : get nat_cmp r' c ≡ get nat_cmp r c
+    stays = ap (λ es. lookup (is_at (nat_cmp c)) es) same
+
+    at : (d : Bool) → is_eq (nat_cmp b c) ≡ d → contains nat_cmp s' c ≡ true
+    at true equal = absurd (let clash : true ≡ false = sym is ∙ ap is_rough_at (stays ∙ sym (ap (get nat_cmp r) (same_number b c equal)) ∙ none) in cc)
+    at false other = others c other ∙ kept c (sym (ap is_rough_at stays) ∙ is)
+
+-- it is dropped
+pub number_unset : (r r' : BTreeMap ℕ Fact) (s s' : BTreeSet ℕ) (b : ℕ) → Updates nat_cmp r r' b None → sets.Updates nat_cmp s s' b false →
+    ((c : ℕ) → is_rough_at (get nat_cmp r c) ≡ true → contains nat_cmp s c ≡ true) → (c : ℕ) → is_rough_at (get nat_cmp r' c) ≡ true → contains nat_cmp s' c ≡ true
+number_unset r r' s s' b updates taken kept c is = at (is_eq (nat_cmp b c)) refl
+  where
+    at : (d : Bool) → is_eq (nat_cmp b c) ≡ d → contains nat_cmp s' c ≡ true
+    at true same = absurd (let clash : true ≡ false = sym is ∙ ap is_rough_at (sym (ap (get nat_cmp r') (same_number b c same)) ∙ updates.1) in cc)
+    at false other = taken.2 c other ∙ kept c (sym (ap is_rough_at (updates.2 c other)) ∙ is)
+
+-- a fact is set
+pub key_set : (r r' : BTreeMap Key Fact) (s s' : BTreeSet Key) (b : Key) (fact : Fact) (rough : Bool) → rough ≡ fact.rough → Updates key_cmp r r' b (Some fact) →
+    ((c : Key) → is_eq (key_cmp b c) ≡ false → contains key_cmp s' c ≡ contains key_cmp s c) → (rough ≡ true → contains key_cmp s' b ≡ true) →
+    ((c : Key) → is_rough_at (get key_cmp r c) ≡ true → contains key_cmp s c ≡ true) → (c : Key) → is_rough_at (get key_cmp r' c) ≡ true → contains key_cmp s' c ≡ true
+key_set r r' s s' b fact rough tells updates others marked kept c is = at (is_eq (key_cmp b c)) refl
+  where
+    at : (d : Bool) → is_eq (key_cmp b c) ≡ d → contains key_cmp s' c ≡ true
+    at true same =
+        let equal : b ≡ c = same_key b c same in
+        sym (ap (contains key_cmp s') equal) ∙ marked (tells ∙ sym (ap is_rough_at (sym (ap (get key_cmp r') equal) ∙ updates.1)) ∙ is)
+    at false other = others c other ∙ kept c (sym (ap is_rough_at (updates.2 c other)) ∙ is)
+
+-- it is refused, since there is none
+pub key_refused : (r r' : BTreeMap Key Fact) (s s' : BTreeSet Key) (b : Key) → get key_cmp r b ≡ None → r'.entries ≡ r.entries →
+    ((c : Key) → is_eq (key_cmp b c) ≡ false → contains key_cmp s' c ≡ contains key_cmp s c) → ((c : Key) → is_rough_at (get key_cmp r c) ≡ true → contains key_cmp s c ≡ true) →
+    (c : Key) → is_rough_at (get key_cmp r' c) ≡ true → contains key_cmp s' c ≡ true
+key_refused r r' s s' b none same others kept c is = at (is_eq (key_cmp b c)) refl
+  where
+    stays : get key_cmp r' c ≡ get key_cmp r c
+    stays = ap (λ es. lookup (is_at (key_cmp c)) es) same
+
+    at : (d : Bool) → is_eq (key_cmp b c) ≡ d → contains key_cmp s' c ≡ true
+    at true equal = absurd (let clash : true ≡ false = sym is ∙ ap is_rough_at (stays ∙ sym (ap (get key_cmp r) (same_key b c equal)) ∙ none) in cc)
+    at false other = others c other ∙ kept c (sym (ap is_rough_at stays) ∙ is)
+
+-- it is dropped
+pub key_unset : (r r' : BTreeMap Key Fact) (s s' : BTreeSet Key) (b : Key) → Updates key_cmp r r' b None → sets.Updates key_cmp s s' b false →
+    ((c : Key) → is_rough_at (get key_cmp r c) ≡ true → contains key_cmp s c ≡ true) → (c : Key) → is_rough_at (get key_cmp r' c) ≡ true → contains key_cmp s' c ≡ true
+key_unset r r' s s' b updates taken kept c is = at (is_eq (key_cmp b c)) refl
+  where
+    at : (d : Bool) → is_eq (key_cmp b c) ≡ d → contains key_cmp s' c ≡ true
+    at true same = absurd (let clash : true ≡ false = sym is ∙ ap is_rough_at (sym (ap (get key_cmp r') (same_key b c same)) ∙ updates.1) in cc)
+    at false other = taken.2 c other ∙ kept c (sym (ap is_rough_at (updates.2 c other)) ∙ is)
+
+-- ---- the set of turned keys
+
+-- a fact is set
+pub turned_set : (r r' : BTreeMap Key Fact) (s s' : BTreeSet Turned) (b : Key) (t : Turned) (fact : Fact) → t ≡ turn b → Updates key_cmp r r' b (Some fact) → sets.Updates turned_cmp s s' t true →
+    ((c : Key) → is_some (get key_cmp r c) ≡ true → contains turned_cmp s (turn c) ≡ true) → (c : Key) → is_some (get key_cmp r' c) ≡ true → contains turned_cmp s' (turn c) ≡ true
+turned_set r r' s s' b t fact turned updates added kept c is = at (is_key b c) refl
+  where
+    at : (d : Bool) → is_key b c ≡ d → contains turned_cmp s' (turn c) ≡ true
+    at true same = sym (ap (λ k. contains turned_cmp s' (turn k)) (same_key b c same)) ∙ ap (contains turned_cmp s') (sym turned) ∙ added.1
+    at false other = added.2 (turn c) (ap (λ u. is_eq (turned_cmp u (turn c))) turned ∙ turned_alike b c ∙ other) ∙ kept c (sym (ap is_some (updates.2 c other)) ∙ is)
+
+-- facts that stay, and a key more
+pub turned_more : (r r' : BTreeMap Key Fact) (s s' : BTreeSet Turned) (b : Key) (t : Turned) → t ≡ turn b → r'.entries ≡ r.entries → sets.Updates turned_cmp s s' t true →
+    ((c : Key) → is_some (get key_cmp r c) ≡ true → contains turned_cmp s (turn c) ≡ true) → (c : Key) → is_some (get key_cmp r' c) ≡ true → contains turned_cmp s' (turn c) ≡ true
+turned_more r r' s s' b t turned same added kept c is = at (is_key b c) refl
+  where
+    at : (d : Bool) → is_key b c ≡ d → contains turned_cmp s' (turn c) ≡ true
+    at true equal = sym (ap (λ k. contains turned_cmp s' (turn k)) (same_key b c equal)) ∙ ap (contains turned_cmp s') (sym turned) ∙ added.1
+    at false other = added.2 (turn c) (ap (λ u. is_eq (turned_cmp u (turn c))) turned ∙ turned_alike b c ∙ other) ∙ kept c (sym (ap is_some (ap (λ es. lookup (is_at (key_cmp c)) es) same)) ∙ is)
+
+-- it is dropped
+pub turned_unset : (r r' : BTreeMap Key Fact) (s s' : BTreeSet Turned) (b : Key) (t : Turned) → t ≡ turn b → Updates key_cmp r r' b None → sets.Updates turned_cmp s s' t false →
+    ((c : Key) → is_some (get key_cmp r c) ≡ true → contains turned_cmp s (turn c) ≡ true) → (c : Key) → is_some (get key_cmp r' c) ≡ true → contains turned_cmp s' (turn c) ≡ true
+turned_unset r r' s s' b t turned updates taken kept c is = at (is_key b c) refl
+  where
+    at : (d : Bool) → is_key b c ≡ d → contains turned_cmp s' (turn c) ≡ true
+    at true same = absurd (let clash : true ≡ false = sym is ∙ ap is_some (sym (ap (get key_cmp r') (same_key b c same)) ∙ updates.1) in cc)
+    at false other = taken.2 (turn c) (ap (λ u. is_eq (turned_cmp u (turn c))) turned ∙ turned_alike b c ∙ other) ∙ kept c (sym (ap is_some (updates.2 c other)) ∙ is)
+
+-- ---- where there is no fact
+
+pub number_none : (r : BTreeMap ℕ Fact) (s : BTreeSet ℕ) → r.entries ≡ [] → (c : ℕ) → is_rough_at (get nat_cmp r c) ≡ true → contains nat_cmp s c ≡ true
+number_none r s empty c is = absurd (let clash : true ≡ false = sym is ∙ ap (λ es. is_rough_at (lookup (is_at (nat_cmp c)) es)) empty in cc)
+
+pub key_none : (r : BTreeMap Key Fact) (s : BTreeSet Key) → r.entries ≡ [] → (c : Key) → is_rough_at (get key_cmp r c) ≡ true → contains key_cmp s c ≡ true
+key_none r s empty c is = absurd (let clash : true ≡ false = sym is ∙ ap (λ es. is_rough_at (lookup (is_at (key_cmp c)) es)) empty in cc)
+
+pub turned_none : (r : BTreeMap Key Fact) (s : BTreeSet Turned) → r.entries ≡ [] → (c : Key) → is_some (get key_cmp r c) ≡ true → contains turned_cmp s (turn c) ≡ true
+turned_none r s empty c is = absurd (let clash : true ≡ false = sym is ∙ ap (λ es. is_some (lookup (is_at (key_cmp c)) es)) empty in cc)
+
+-- ---- calls that may fail
+
+pub ok_of : {T E : Type 0} (r : Result T E) (P : Type 0) → is_err r ≡ false → OnOk r P → P
+ok_of (Ok x) P test is = is
+ok_of (Err x) P test is = cc
+
+pub err_of : {T E : Type 0} (r : Result T E) (P : Type 0) → is_err r ≡ true → OnErr r P → P
+err_of (Ok x) P test is = cc
+err_of (Err x) P test is = is
+
+-- a fact is set, or refused
+pub turned_after : {T E : Type 0} (result : Result T E) (r r' : BTreeMap Key Fact) (s s' : BTreeSet Turned) (b : Key) (t : Turned) (fact : Fact) → t ≡ turn b →
+    OnOk result (Updates key_cmp r r' b (Some fact)) → OnErr result (r'.entries ≡ r.entries) → sets.Updates turned_cmp s s' t true →
+    ((c : Key) → is_some (get key_cmp r c) ≡ true → contains turned_cmp s (turn c) ≡ true) → (c : Key) → is_some (get key_cmp r' c) ≡ true → contains turned_cmp s' (turn c) ≡ true
+turned_after (Ok x) r r' s s' b t fact turned updates same added kept = turned_set r r' s s' b t fact turned updates added kept
+turned_after (Err x) r r' s s' b t fact turned updates same added kept = turned_more r r' s s' b t turned same added kept
+
+pub rough_after : {T E : Type 0} (result : Result T E) (r r' : BTreeMap Key Fact) (s s' : BTreeSet Key) (b : Key) (fact : Fact) (rough : Bool) → rough ≡ fact.rough →
+    OnOk result (Updates key_cmp r r' b (Some fact)) → OnErr result (get key_cmp r b ≡ None) → OnErr result (r'.entries ≡ r.entries) →
+    ((c : Key) → is_eq (key_cmp b c) ≡ false → contains key_cmp s' c ≡ contains key_cmp s c) → (rough ≡ true → contains key_cmp s' b ≡ true) →
+    ((c : Key) → is_rough_at (get key_cmp r c) ≡ true → contains key_cmp s c ≡ true) → (c : Key) → is_rough_at (get key_cmp r' c) ≡ true → contains key_cmp s' c ≡ true
+rough_after (Ok x) r r' s s' b fact rough tells updates none same others marked kept = key_set r r' s s' b fact rough tells updates others marked kept
+rough_after (Err x) r r' s s' b fact rough tells updates none same others marked kept = key_refused r r' s s' b none same others kept
+
+-- ---- a row less
+
+pub turned_less : (o : Option (Key × Fact)) (r r' : BTreeMap Key Fact) (s : BTreeSet Turned) → IfSome o (λ p. Updates key_cmp r r' p.0 None) → IfNone o (r'.entries ≡ r.entries) →
+    ((c : Key) → is_some (get key_cmp r c) ≡ true → contains turned_cmp s (turn c) ≡ true) → (c : Key) → is_some (get key_cmp r' c) ≡ true → contains turned_cmp s (turn c) ≡ true
+turned_less None r r' s updates same kept c is = kept c (sym (ap (λ es. is_some (lookup (is_at (key_cmp c)) es)) same) ∙ is)
+turned_less (Some p) r r' s updates same kept c is = kept c (still (is_at (key_cmp p.0) c) (get key_cmp r c) (sym (ap is_some (updates.0 c)) ∙ is))
+  where
+    still : (b : Bool) (o : Option Fact) → is_some (cond b None o) ≡ true → is_some o ≡ true
+    still true o is = cc
+    still false o is = is
+
+pub rough_less : (o : Option (Key × Fact)) (r r' : BTreeMap Key Fact) (s : BTreeSet Key) → IfSome o (λ p. Updates key_cmp r r' p.0 None) → IfNone o (r'.entries ≡ r.entries) →
+    ((c : Key) → is_rough_at (get key_cmp r c) ≡ true → contains key_cmp s c ≡ true) → (c : Key) → is_rough_at (get key_cmp r' c) ≡ true → contains key_cmp s c ≡ true
+rough_less None r r' s updates same kept c is = kept c (sym (ap (λ es. is_rough_at (lookup (is_at (key_cmp c)) es)) same) ∙ is)
+rough_less (Some p) r r' s updates same kept c is = kept c (still (is_at (key_cmp p.0) c) (get key_cmp r c) (sym (ap is_rough_at (updates.0 c)) ∙ is))
+  where
+    still : (b : Bool) (o : Option Fact) → is_rough_at (cond b None o) ≡ true → is_rough_at o ≡ true
+    still true o is = cc
+    still false o is = is
+
+-- there was none
+pub empty_less : (o : Option (Key × Fact)) (r : BTreeMap Key Fact) → (IsSome o ↔ (0 < length r.entries)) → IfNone o ((c : Key) → get key_cmp r c ≡ None)
+empty_less (Some p) r variant = tt
+empty_less None r variant = λ c. ap (lookup (is_at (key_cmp c))) (at r.entries refl)
+  where
+    wrong : false ≡ true → ⊥
+    wrong both = cc
+
+    at : (es : List (Key × Fact)) → r.entries ≡ es → r.entries ≡ []
+    at [] is = is
+    at (e ∷ es) is = absurd (wrong (variant.1 (subst (λ (l : List (Key × Fact)). 0 < length l) (sym is) (omega arith))))

@@ -1,0 +1,6 @@
+pub mod Plain
+pub mod Same
+pub mod Firsts
+pub mod Kept
+pub mod Dropped
+pub mod Changes

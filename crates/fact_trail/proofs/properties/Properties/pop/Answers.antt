@@ -1,0 +1,5 @@
+use Rattle.fact_trail.proofs.Kept.{empty_less}
+use Rattle.fact_trail.proofs.properties.Properties.pop.Goals as goal
+
+pub returns-clause-none : goal.returns-clause-none
+returns-clause-none c = empty_less c.pop_first.result c.args.self.now.rows c.pop_first.ensures.variant

@@ -1,0 +1,25 @@
+//! Where facts stand.
+
+/// A property of a variable: the number of the property's name, and the variable. Properties of one
+/// name stand together.
+#[derive(Debug, Clone, Copy, PartialEq, Eq, PartialOrd, Ord)]
+pub struct Key {
+    pub name: usize,
+    pub binding: u32,
+}
+
+/// The same key, where properties of one variable stand together.
+#[derive(Debug, Clone, Copy, PartialEq, Eq, PartialOrd, Ord)]
+pub(crate) struct Turned {
+    pub binding: u32,
+    pub name: usize,
+}
+
+/// What has a fact.
+#[derive(Debug, Clone, Copy, PartialEq, Eq)]
+pub enum Slot {
+    /// A variable.
+    Variable(u32),
+    /// A property of a variable.
+    Property(Key),
+}
