@@ -4,6 +4,7 @@
 #   2 read-only arrays one in the other                             3 two cycles of aliases that differ at the end
 #   4 two cycles of aliases that are alike                          5 as 0, with one literal that the other lacks
 #   6 objects of many properties, below wider ones                  7 two cycles of coprime lengths, each with each
+#   8 as 6, with keys that fall                                     9 arrays that may be written, one in the other
 # Each line: shape, size, the answer, the microseconds of the question alone, how many times those of the line
 # before of its shape they are, and where the number of pairs is known, it and the microseconds a pair.
 cd "$(dirname "$0")/../crates/subtype_bench" || exit 1
@@ -41,3 +42,5 @@ grow 1 50 100 200 400
 for shape in 2 3 4; do grow "$shape" 1000 2000 4000; done
 grow 6 250 500 1000 2000
 grow 7 79 158 316
+grow 8 250 500 1000 2000
+grow 9 1000 2000 4000

@@ -21,6 +21,7 @@ from real_folders import BAD, CLEAN, ERRORS, FLOWD, GOOD, MOST_BYTES, SCRIPT_FAU
 
 BAD_LINE, LIMIT, NO_MEMORY = 65, 69, 70
 LONGEST_LINE = 4_194_304
+CLIENT = os.path.join(os.path.dirname(os.path.dirname(os.path.abspath(__file__))), "examples", "client.py")
 CASES = real_folders.CASES = []
 
 
@@ -175,6 +176,17 @@ def an_editor_writes_a_line_and_reads_the_answer(root):
         shown = b'  a.js:1:26 incompatible-type "a" number\n' if version % 2 else b""
         talk.expect(b"%d status: %d errors\n" % (version, version % 2) + shown)
     talk.end(ERRORS)
+
+
+@case
+def the_example_of_a_client_prints_what_changed(root):
+    write(f"{root}/a.js", BAD)
+    saved = f"{root}/saved.txt"
+    write(saved, GOOD)
+    ran = subprocess.run([CLIENT, FLOWD, root, "a.js", saved], stdout=subprocess.PIPE, timeout=60)
+    text = done(1, 1, 1) + done(2, 1) + b'- a.js:1:26 incompatible-type "a" number\n'
+    if (ran.returncode, ran.stdout) != (CLEAN, text):
+        raise AssertionError(f"it printed {ran.stdout} and ended with {ran.returncode}")
 
 
 @case

@@ -1,10 +1,8 @@
 -- Faults and the set of their keys.
-use Rattle.std.proofs.Common.{◌≡◌, ℕ, Bool, true, false, ◌||◌, List, [], ◌∷◌, ◌++◌, Option, Some, None, cond, refl, sym, ap, ◌∙◌, subst}
+use Rattle.std.proofs.Common.{◌≡◌, ℕ, Bool, true, false, ◌||◌, List, [], ◌∷◌, ◌++◌, cond, refl, sym, ap, ◌∙◌, subst}
 use Rattle.std.specs.BTreeSet.{BTreeSet, contains}
 use Rattle.std.specs.Cmp.Lexicographic.{slice_cmp}
 use Rattle.std.specs.List.{list_any}
-use Rattle.std.specs.Option.{MatchOption}
-use Rattle.std.proofs.lemmas.List.{same_from_push}
 use Rattle.std.specs.Ordering.{is_eq, nat_cmp, ordering_then}
 use Rattle.std.specs.declared.cmp.Ordering.{Ordering}
 use Rattle.std.specs.declared.cmp.Ordering.TheVariants.{Less, Equal, Greater}
@@ -80,15 +78,6 @@ with_new faults f e = go (list_any (is_same_fault f) faults) e
 -- no faults, and no keys
 pub no_keys : (keys : BTreeSet Key) → keys.keys ≡ [] → AreKeys keys []
 no_keys keys none_yet = record { told = λ q. ap (λ (l : List Key). list_any (λ k. is_eq (key_cmp q k)) l) none_yet }
-
--- the last one goes again
-pub popped : (before grown after : List Fault) (f : Fault) (last : Option Fault) → grown ≡ before ++ f ∷ [] → MatchOption last ((grown ≡ []) × (after ≡ [])) (λ l. grown ≡ after ++ l ∷ []) → after ≡ before
-popped before grown after f None is h = absurd (some before (sym is ∙ h.0))
-  where
-    some : (l : List Fault) → l ++ f ∷ [] ≡ [] → ⊥
-    some [] h = cc
-    some (x ∷ l) h = cc
-popped before grown after f (Some last) is h = sym (same_from_push before after f last (sym is ∙ h)).0
 
 -- the keys stay as they are
 pub same_keys : (keys keys' : BTreeSet Key) (faults faults' : List Fault) → AreKeys keys faults → keys'.keys ≡ keys.keys → faults' ≡ faults → AreKeys keys' faults'

@@ -1,14 +1,18 @@
 -- What the world and the notes of the code stand for.
-use Rattle.std.specs.Prelude.{ℕ, Bool, true, false, ◌&&◌, List, Option, Some, None}
+use Rattle.std.specs.Prelude.{ℕ, Bool, true, false, ◌&&◌, List, Option, Some, None, map}
 use Rattle.std.specs.Option.{option_map}
+use Rattle.std.specs.Borrow.{Bor}
 use Rattle.std.specs.BTreeMap.{get}
 use Rattle.std.specs.Cmp.Lexicographic.{slice_cmp}
 use Rattle.std.specs.Ordering.{nat_cmp}
 use Rattle.check_values.specs.declared.codes.Code.{Code}
 use Rattle.check_values.specs.declared.codes.Code.TheVariants.{CannotResolveName}
+use Rattle.type_values.specs.declared.types.FlowType.{FlowType, out-FlowType}
+use Rattle.alias_table.specs.Members.{seen}
 use Rattle.alias_members.specs.MembersIn.{members_in}
 use Rattle.subtype_rules.specs.Answer.{below}
 use Rattle.flow_values.specs.declared.span.Span.{Span}
+use Rattle.flow_facts.specs.Cells.{Level}
 use Rattle.typing.specs.States as typing
 use Rattle.typing.specs.States.{covers, is_shorter}
 use Rattle.check_world.specs.declared.names.TypeMeaning.{TypeMeaning}
@@ -55,6 +59,10 @@ world_view w = record {
   spans = w.spans.now;
   watch = w.watch;
 }
+
+-- the outermost levels of members
+abbrev pub levels_seen : List (Bor FlowType) → List Level
+levels_seen members = map (λ m. out-FlowType m) (seen members)
 
 -- an expression that was read
 abbrev pub seen_view : Seen → typing.Seen

@@ -1,5 +1,5 @@
 //! Faults, and what is seen of the place that is watched.
-ghost use Rattle.std.specs.Prelude.{◌≡◌, suc, [], Some, None, false, OnOk, OnErr, IfOk};
+ghost use Rattle.std.specs.Prelude.{◌≡◌, ℕ, suc, [], Some, None, false, take, OnOk, OnErr, IfOk};
 ghost use Rattle.std.specs.Option.{option_copied, option_map};
 ghost use Rattle.typing.specs.States.{with_fault, name_fault, add_fault, add_faults, asked, asked_want, noted, fault_at, is_shorter};
 ghost use Rattle.check_world.specs.Keys.{plain, fault_key, AreKeys};
@@ -31,7 +31,7 @@ fn key_of(fault: &Fault) -> Result<Key, NoMemory>
 }
 
 // Adds a fault to those that stand, where it is not among them, and its key to theirs.
-#[tactic(auto, using(crate::proofs::FaultKeys::same_keys, crate::proofs::FaultKeys::popped))]
+#[tactic(auto, using(crate::proofs::FaultKeys::same_keys, crate::proofs::Pushed::popped))]
 fn put(faults: &mut List<Fault>, keys: &mut BTreeSet<Key>, fault: Fault) -> Result<(), NoMemory>
     requires { AreKeys keys.old faults.old }
     ensures ok { OnOk result (faults.new ≡ with_fault faults.old fault) }
@@ -126,9 +126,10 @@ impl Notes {
     ///
     /// # Errors
     ///
-    /// `NoMemory` where memory is refused.
+    /// `NoMemory` where memory is refused. The first ones of the faults, up to some number, are then added.
     pub fn add_faults(&mut self, faults: List<Fault>) -> Result<(), NoMemory>
-        ensures { OnOk result (notes_view self.new ≡ add_faults faults (notes_view self.old)) }
+        ensures ok { OnOk result (notes_view self.new ≡ add_faults faults (notes_view self.old)) }
+        ensures err { OnErr result ((count : ℕ) × (notes_view self.new ≡ add_faults (take count faults) (notes_view self.old))) }
     {
         for fault in faults.into_vec() {
             self.add_fault(fault)?;

@@ -3,13 +3,13 @@ use Rattle.std.proofs.Common.{◌≡◌, refl, ◌∙◌, ap, ℕ, nat_eq, nat_l
 use Rattle.std.proofs.lemmas.Bool.Decides.{nat_tests}
 use Rattle.js_token.specs.declared.token.TokenKind.{TokenKind}
 use Rattle.js_grammar.specs.Code as g
-use Rattle.js_grammar.specs.Code.{Ex, ex, ExForm, Level, rank, operand_rank, form_rank, ex_rank, Prefix, no_prefix, more_prefix, no_arm, no_operand, Arms, Function, Operands}
+use Rattle.js_grammar.specs.Code.{Ex, ex, ExForm, Level, rank, operand_rank, form_rank, ex_rank, no_arm, no_operand, Arms, Function, Operands}
 use Rattle.code_law.specs.Frames as m
 use Rattle.code_law.specs.Frames.{Stack, Step, fault, go, want, start_ex}
 use Rattle.code_law.specs.Ladder.{Joint, close, ask, ask_test, join, begin, open_chain}
-use Rattle.code_law.specs.Expressions.{may_arrow, marked}
+use Rattle.code_law.specs.Expressions.{may_arrow}
 use Rattle.code_state.specs.Forms.{operator_frame_view, tail_view, body_frame_view}
-use Rattle.code_state.specs.Stack.{nearest_of, is_prefix, is_last}
+use Rattle.code_state.specs.Stack.{nearest_of, is_last}
 use Rattle.code_state.specs.declared.frames.OperatorFrame.{OperatorFrame}
 use Rattle.code_state.specs.declared.frames.OperatorFrame.TheVariants as operator
 use Rattle.code_state.specs.declared.frames.TailFrame.{TailFrame}
@@ -88,30 +88,6 @@ join-outer i (m.in_function q1 s1 n1 g1 ∷ k) e p w h = refl
 join-outer i (m.in_block s1 ss1 ∷ k) e p w h = refl
 join-outer i (m.in_item a1 w1 is1 ∷ k) e p w h = refl
 join-outer i (m.in_default a1 is1 ∷ k) e p w h = refl
-
-pub marked-outer : (i : ℕ) (x : Prefix) (k : Stack) → is_prefix (nearest_of k) ≡ false → marked i x k ≡ m.in_prefix i (more_prefix no_prefix i x) ∷ k
-marked-outer i x [] h = refl
-marked-outer i x (m.in_prefix s1 ps1 ∷ k) h = absurd (let z : true ≡ false = h in cc)
-marked-outer i x (m.in_chain s1 p1 f1 os1 d1 o1 ∷ k) h = refl
-marked-outer i x (m.in_last s1 hs1 ∷ k) h = refl
-marked-outer i x (m.in_branch s1 hs1 e1 ∷ k) h = refl
-marked-outer i x (m.in_parens s1 ∷ k) h = refl
-marked-outer i x (m.in_row r1 es1 ∷ k) h = refl
-marked-outer i x (m.in_index e1 ls1 s1 ∷ k) h = refl
-marked-outer i x (m.in_field s1 fs1 y1 ∷ k) h = refl
-marked-outer i x (m.in_arrow g1 ∷ k) h = refl
-marked-outer i x (m.in_body g1 ∷ k) h = refl
-marked-outer i x (m.in_simple s1 v1 ∷ k) h = refl
-marked-outer i x (m.in_declaration s1 w1 n1 t1 ∷ k) h = refl
-marked-outer i x (m.in_if_test s1 bs1 a1 ∷ k) h = refl
-marked-outer i x (m.in_loop_test s1 ∷ k) h = refl
-marked-outer i x (m.in_if s1 bs1 a1 e1 ∷ k) h = refl
-marked-outer i x (m.in_else s1 bs1 ∷ k) h = refl
-marked-outer i x (m.in_loop s1 e1 ∷ k) h = refl
-marked-outer i x (m.in_function q1 s1 n1 g1 ∷ k) h = refl
-marked-outer i x (m.in_block s1 ss1 ∷ k) h = refl
-marked-outer i x (m.in_item a1 w1 is1 ∷ k) h = refl
-marked-outer i x (m.in_default a1 is1 ∷ k) h = refl
 
 -- a chain of another level, or none, begins a new one where it binds enough
 abbrev pub new_chain : ℕ → Stack → Ex → Level → Joint → Step
@@ -198,5 +174,3 @@ pub ruleset asks = (ask-operator, ask-outer, ask-arms)
 pub ruleset joins = (join-outer, join-passed)
 
 pub ruleset stayings = (join-inside, join-none)
-
-pub ruleset marks = (marked-outer)

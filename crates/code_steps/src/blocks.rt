@@ -8,12 +8,10 @@ ghost use Rattle.code_state.specs.Stack.{stack_view};
 ghost use Rattle.code_state.specs.Turns.{turn_view, Gives};
 ghost use Rattle.code_words.specs.Words.{statement_word_view};
 
-use crate::arrows::open_block;
 use crate::bodies::give_block;
 use crate::simples::end_simple;
 use crate::statements::push_statement;
-use crate::values::begin_inside;
-use crate::words::{begin_body, begin_simple, block_word, simple_word};
+use code_heads::{begin_body, begin_inside, begin_simple, block_word, open_block, simple_word};
 use code_state::{
     BodyFrame, Declared, Frame, Mode, OpenBlock, OpenIf, Stack, StatementMode, Top, Turn,
     ValueFrame, ValueMode, Verb, Waiting,

@@ -15,8 +15,8 @@ ghost use Rattle.code_state.specs.Turns.{turn_view, Gives};
 ghost use Rattle.code_steps.specs.Ended.{ended};
 
 use crate::items::give_declaration;
-use crate::lists::{add_link, after_element, after_field, primary};
 use crate::simples::end_value;
+use code_heads::{add_link, after_element, after_field, primary};
 use code_state::{
     BodyFrame, Bottom, Declared, Frame, InnerFrame, Linked, Mode, OpenChain, OpenFields, OpenIf,
     OperatorFrame, Row, Stack, StatementMode, TailFrame, Turn, ValueFrame, ValueMode,

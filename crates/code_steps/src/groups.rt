@@ -14,8 +14,7 @@ ghost use Rattle.code_state.specs.Stack.{stack_view};
 ghost use Rattle.code_state.specs.Turns.{turn_view, Gives};
 
 use crate::links::after_links;
-use crate::lists::{after_field, close_fields};
-use crate::values::begin_inside;
+use code_heads::{after_field, begin_inside, close_fields};
 use code_state::{
     Frame, GroupMode, HeadMode, InnerFrame, Linked, Mode, NamedParameter, OpenFields,
     OpenParameters, Owner, ParenWord, Stack, Turn, ValueMode, Waiting,
@@ -27,7 +26,7 @@ use std::alloc::Global;
 use type_tree::{Key, KeyForm};
 
 /// Whether there are properties.
-#[tactic(auto, using(crate::proofs::Empties::empties))]
+#[tactic(auto, using(code_heads::proofs::Empties::empties))]
 fn has_fields(fields: &List<Field>) -> bool
     ensures { result ≡ any_fields (fields_view fields.now) }
 {

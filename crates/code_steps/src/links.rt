@@ -9,9 +9,8 @@ ghost use Rattle.code_state.specs.Forms.{row_view, frame_view};
 ghost use Rattle.code_state.specs.Stack.{stack_view};
 ghost use Rattle.code_state.specs.Turns.{turn_view, Gives};
 
-use crate::lists::{add_link, close_row};
 use crate::settle::settle;
-use crate::values::begin_inside;
+use code_heads::{add_link, begin_inside, close_row};
 use code_state::{Frame, InnerFrame, Linked, Mode, Row, Stack, Turn, ValueMode};
 use code_tree::{Expr, ExprForm, Link, LinkForm};
 use flow_values::{Boxed, List, NoMemory};
@@ -19,7 +18,7 @@ use js_token::{Punct, TokenKind};
 use std::alloc::Global;
 
 /// An expression with the links behind it, up to a place.
-#[tactic(auto, using(crate::proofs::Empties::links_whole, crate::proofs::Empties::linked_none))]
+#[tactic(auto, using(code_heads::proofs::Empties::links_whole, code_heads::proofs::Empties::linked_none))]
 fn whole_links(alloc: Global, at: usize, linked: Linked) -> Result<Expr, NoMemory>
     ensures { IfOk result (λ e. expr_view e ≡ linked_to at (expr_view linked.base) (links_view linked.links)) }
 {
@@ -76,7 +75,7 @@ pub fn after_dot(at: usize, linked: Linked, dot: usize, token: &TokenKind) -> Re
 }
 
 /// Whether there are expressions.
-#[tactic(auto, using(crate::proofs::Empties::empties))]
+#[tactic(auto, using(code_heads::proofs::Empties::empties))]
 fn has_exprs(exprs: &List<Expr>) -> bool
     ensures { result ≡ any_exs (exprs_view exprs.now) }
 {

@@ -119,7 +119,7 @@ fn names_property(link: &Link) -> bool
 }
 
 /// Whether the last of these links is a property.
-#[tactic(auto, using(crate::proofs::Empties::last_links))]
+#[tactic(auto, using(code_heads::proofs::Empties::last_links))]
 fn is_property(links: &[Link]) -> bool
     ensures { result ≡ ends_property (links_view links.now) }
 {

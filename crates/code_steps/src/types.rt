@@ -9,10 +9,9 @@ ghost use Rattle.code_state.specs.Forms.{waiting_view, owner_view};
 ghost use Rattle.code_state.specs.Stack.{stack_view};
 ghost use Rattle.code_state.specs.Turns.{turn_view};
 
-use crate::arrows::open_body;
 use crate::close::end_chain;
-use crate::parameters::add_parameter;
 use crate::settle::settle;
+use code_heads::{add_parameter, open_body};
 use code_state::{
     Declared, Frame, Mode, OpenChain, OpenParameters, Owner, Stack, Turn, ValueFrame, ValueMode,
     Waiting,

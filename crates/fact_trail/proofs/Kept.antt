@@ -13,81 +13,61 @@ use Rattle.fact_trail.specs.Slots.{Key, Turned, key_cmp, turned_cmp, turn, is_nu
 use Rattle.fact_trail.proofs.Same.{same_number, same_key, turned_alike}
 
 -- the same keys
-pub same_numbers : (s n : BTreeSet ℕ) → n.keys ≡ s.keys → (b : ℕ) → contains nat_cmp n b ≡ contains nat_cmp s b
-same_numbers s n same b = ap (list_any (is_at (nat_cmp b))) same
-
-pub same_keys : (s n : BTreeSet Key) → n.keys ≡ s.keys → (k : Key) → contains key_cmp n k ≡ contains key_cmp s k
-same_keys s n same k = ap (list_any (is_at (key_cmp k))) same
+pub same_set : {K : Type 0} (cmp : K → K → Ordering) (s n : BTreeSet K) → n.keys ≡ s.keys → (k : K) → contains cmp n k ≡ contains cmp s k
+same_set cmp s n same k = ap (list_any (is_at (cmp k))) same
 
 -- ---- the set of rough facts
 
--- a fact is set
-pub number_set : (r r' : BTreeMap ℕ Fact) (s s' : BTreeSet ℕ) (b : ℕ) (fact : Fact) (rough : Bool) → rough ≡ fact.rough → Updates nat_cmp r r' b (Some fact) →
-    ((c : ℕ) → is_eq (nat_cmp b c) ≡ false → contains nat_cmp s' c ≡ contains nat_cmp s c) → (rough ≡ true → contains nat_cmp s' b ≡ true) →
-    ((c : ℕ) → is_rough_at (get nat_cmp r c) ≡ true → contains nat_cmp s c ≡ true) → (c : ℕ) → is_rough_at (get nat_cmp r' c) ≡ true → contains nat_cmp s' c ≡ true
-number_set r r' s s' b fact rough tells updates others marked kept c is = at (is_eq (nat_cmp b c)) refl
-  where
-    at : (d : Bool) → is_eq (nat_cmp b c) ≡ d → contains nat_cmp s' c ≡ true
-    at true same =
-        let equal : b ≡ c = same_number b c same in
-        sym (ap (contains nat_cmp s') equal) ∙ marked (tells ∙ sym (ap is_rough_at (sym (ap (get nat_cmp r') equal) ∙ updates.1)) ∙ is)
-    at false other = others c other ∙ kept c (sym (ap is_rough_at (updates.2 c other)) ∙ is)
+-- the keys of rough facts are all in the set
+abbrev HasRough : {K : Type 0} (cmp : K → K → Ordering) → BTreeMap K Fact → BTreeSet K → Type 0
+HasRough {K} cmp r s = (c : K) → is_rough_at (get cmp r c) ≡ true → contains cmp s c ≡ true
 
--- it is refused, since there is none
-pub number_refused : (r r' : BTreeMap ℕ Fact) (s s' : BTreeSet ℕ) (b : ℕ) → get nat_cmp r b ≡ None → r'.entries ≡ r.entries →
-    ((c : ℕ) → is_eq (nat_cmp b c) ≡ false → contains nat_cmp s' c ≡ contains nat_cmp s c) → ((c : ℕ) → is_rough_at (get nat_cmp r c) ≡ true → contains nat_cmp s c ≡ true) →
-    (c : ℕ) → is_rough_at (get nat_cmp r' c) ≡ true → contains nat_cmp s' c ≡ true
-number_refused r r' s s' b none same others kept c is = at (is_eq (nat_cmp b c)) refl
-  where
-    stays : get nat_cmp r' c ≡ get nat_cmp r c
-    stays = ap (λ es. lookup (is_at (nat_cmp c)) es) same
+-- the other keys are in the set as before
+abbrev KeepsOthers : {K : Type 0} (cmp : K → K → Ordering) → K → BTreeSet K → BTreeSet K → Type 0
+KeepsOthers {K} cmp b s s' = (c : K) → is_eq (cmp b c) ≡ false → contains cmp s' c ≡ contains cmp s c
 
-    at : (d : Bool) → is_eq (nat_cmp b c) ≡ d → contains nat_cmp s' c ≡ true
-    at true equal = absurd (let clash : true ≡ false = sym is ∙ ap is_rough_at (stays ∙ sym (ap (get nat_cmp r) (same_number b c equal)) ∙ none) in cc)
-    at false other = others c other ∙ kept c (sym (ap is_rough_at stays) ∙ is)
+module _ {K : Type 0} (cmp : K → K → Ordering) (same_as : (a b : K) → is_eq (cmp a b) ≡ true → a ≡ b) where
+  -- a fact is set
+  fact_set : (r r' : BTreeMap K Fact) (s s' : BTreeSet K) (b : K) (fact : Fact) (rough : Bool) → rough ≡ fact.rough → Updates cmp r r' b (Some fact) → KeepsOthers cmp b s s' → (rough ≡ true → contains cmp s' b ≡ true) → HasRough cmp r s → HasRough cmp r' s'
+  fact_set r r' s s' b fact rough tells updates others marked kept c is = at (is_eq (cmp b c)) refl
+    where
+      at : (d : Bool) → is_eq (cmp b c) ≡ d → contains cmp s' c ≡ true
+      at true same =
+          let equal : b ≡ c = same_as b c same in
+          sym (ap (contains cmp s') equal) ∙ marked (tells ∙ sym (ap is_rough_at (sym (ap (get cmp r') equal) ∙ updates.1)) ∙ is)
+      at false other = others c other ∙ kept c (sym (ap is_rough_at (updates.2 c other)) ∙ is)
 
--- it is dropped
-pub number_unset : (r r' : BTreeMap ℕ Fact) (s s' : BTreeSet ℕ) (b : ℕ) → Updates nat_cmp r r' b None → sets.Updates nat_cmp s s' b false →
-    ((c : ℕ) → is_rough_at (get nat_cmp r c) ≡ true → contains nat_cmp s c ≡ true) → (c : ℕ) → is_rough_at (get nat_cmp r' c) ≡ true → contains nat_cmp s' c ≡ true
-number_unset r r' s s' b updates taken kept c is = at (is_eq (nat_cmp b c)) refl
-  where
-    at : (d : Bool) → is_eq (nat_cmp b c) ≡ d → contains nat_cmp s' c ≡ true
-    at true same = absurd (let clash : true ≡ false = sym is ∙ ap is_rough_at (sym (ap (get nat_cmp r') (same_number b c same)) ∙ updates.1) in cc)
-    at false other = taken.2 c other ∙ kept c (sym (ap is_rough_at (updates.2 c other)) ∙ is)
+  -- it is refused, since there is none
+  fact_refused : (r r' : BTreeMap K Fact) (s s' : BTreeSet K) (b : K) → get cmp r b ≡ None → r'.entries ≡ r.entries → KeepsOthers cmp b s s' → HasRough cmp r s → HasRough cmp r' s'
+  fact_refused r r' s s' b none same others kept c is = at (is_eq (cmp b c)) refl
+    where
+      stays : get cmp r' c ≡ get cmp r c
+      stays = ap (λ es. lookup (is_at (cmp c)) es) same
 
--- a fact is set
-pub key_set : (r r' : BTreeMap Key Fact) (s s' : BTreeSet Key) (b : Key) (fact : Fact) (rough : Bool) → rough ≡ fact.rough → Updates key_cmp r r' b (Some fact) →
-    ((c : Key) → is_eq (key_cmp b c) ≡ false → contains key_cmp s' c ≡ contains key_cmp s c) → (rough ≡ true → contains key_cmp s' b ≡ true) →
-    ((c : Key) → is_rough_at (get key_cmp r c) ≡ true → contains key_cmp s c ≡ true) → (c : Key) → is_rough_at (get key_cmp r' c) ≡ true → contains key_cmp s' c ≡ true
-key_set r r' s s' b fact rough tells updates others marked kept c is = at (is_eq (key_cmp b c)) refl
-  where
-    at : (d : Bool) → is_eq (key_cmp b c) ≡ d → contains key_cmp s' c ≡ true
-    at true same =
-        let equal : b ≡ c = same_key b c same in
-        sym (ap (contains key_cmp s') equal) ∙ marked (tells ∙ sym (ap is_rough_at (sym (ap (get key_cmp r') equal) ∙ updates.1)) ∙ is)
-    at false other = others c other ∙ kept c (sym (ap is_rough_at (updates.2 c other)) ∙ is)
+      at : (d : Bool) → is_eq (cmp b c) ≡ d → contains cmp s' c ≡ true
+      at true equal = absurd (let clash : true ≡ false = sym is ∙ ap is_rough_at (stays ∙ sym (ap (get cmp r) (same_as b c equal)) ∙ none) in cc)
+      at false other = others c other ∙ kept c (sym (ap is_rough_at stays) ∙ is)
 
--- it is refused, since there is none
-pub key_refused : (r r' : BTreeMap Key Fact) (s s' : BTreeSet Key) (b : Key) → get key_cmp r b ≡ None → r'.entries ≡ r.entries →
-    ((c : Key) → is_eq (key_cmp b c) ≡ false → contains key_cmp s' c ≡ contains key_cmp s c) → ((c : Key) → is_rough_at (get key_cmp r c) ≡ true → contains key_cmp s c ≡ true) →
-    (c : Key) → is_rough_at (get key_cmp r' c) ≡ true → contains key_cmp s' c ≡ true
-key_refused r r' s s' b none same others kept c is = at (is_eq (key_cmp b c)) refl
-  where
-    stays : get key_cmp r' c ≡ get key_cmp r c
-    stays = ap (λ es. lookup (is_at (key_cmp c)) es) same
+  -- it is dropped
+  fact_unset : (r r' : BTreeMap K Fact) (s s' : BTreeSet K) (b : K) → Updates cmp r r' b None → sets.Updates cmp s s' b false → HasRough cmp r s → HasRough cmp r' s'
+  fact_unset r r' s s' b updates taken kept c is = at (is_eq (cmp b c)) refl
+    where
+      at : (d : Bool) → is_eq (cmp b c) ≡ d → contains cmp s' c ≡ true
+      at true same = absurd (let clash : true ≡ false = sym is ∙ ap is_rough_at (sym (ap (get cmp r') (same_as b c same)) ∙ updates.1) in cc)
+      at false other = taken.2 c other ∙ kept c (sym (ap is_rough_at (updates.2 c other)) ∙ is)
 
-    at : (d : Bool) → is_eq (key_cmp b c) ≡ d → contains key_cmp s' c ≡ true
-    at true equal = absurd (let clash : true ≡ false = sym is ∙ ap is_rough_at (stays ∙ sym (ap (get key_cmp r) (same_key b c equal)) ∙ none) in cc)
-    at false other = others c other ∙ kept c (sym (ap is_rough_at stays) ∙ is)
+pub number_set : (r r' : BTreeMap ℕ Fact) (s s' : BTreeSet ℕ) (b : ℕ) (fact : Fact) (rough : Bool) → rough ≡ fact.rough → Updates nat_cmp r r' b (Some fact) → KeepsOthers nat_cmp b s s' → (rough ≡ true → contains nat_cmp s' b ≡ true) →
+    HasRough nat_cmp r s → HasRough nat_cmp r' s'
+number_set = fact_set nat_cmp same_number
 
--- it is dropped
-pub key_unset : (r r' : BTreeMap Key Fact) (s s' : BTreeSet Key) (b : Key) → Updates key_cmp r r' b None → sets.Updates key_cmp s s' b false →
-    ((c : Key) → is_rough_at (get key_cmp r c) ≡ true → contains key_cmp s c ≡ true) → (c : Key) → is_rough_at (get key_cmp r' c) ≡ true → contains key_cmp s' c ≡ true
-key_unset r r' s s' b updates taken kept c is = at (is_eq (key_cmp b c)) refl
-  where
-    at : (d : Bool) → is_eq (key_cmp b c) ≡ d → contains key_cmp s' c ≡ true
-    at true same = absurd (let clash : true ≡ false = sym is ∙ ap is_rough_at (sym (ap (get key_cmp r') (same_key b c same)) ∙ updates.1) in cc)
-    at false other = taken.2 c other ∙ kept c (sym (ap is_rough_at (updates.2 c other)) ∙ is)
+pub number_refused : (r r' : BTreeMap ℕ Fact) (s s' : BTreeSet ℕ) (b : ℕ) → get nat_cmp r b ≡ None → r'.entries ≡ r.entries → KeepsOthers nat_cmp b s s' → HasRough nat_cmp r s → HasRough nat_cmp r' s'
+number_refused = fact_refused nat_cmp same_number
+
+pub number_unset : (r r' : BTreeMap ℕ Fact) (s s' : BTreeSet ℕ) (b : ℕ) → Updates nat_cmp r r' b None → sets.Updates nat_cmp s s' b false → HasRough nat_cmp r s → HasRough nat_cmp r' s'
+number_unset = fact_unset nat_cmp same_number
+
+pub key_unset : (r r' : BTreeMap Key Fact) (s s' : BTreeSet Key) (b : Key) → Updates key_cmp r r' b None → sets.Updates key_cmp s s' b false → HasRough key_cmp r s → HasRough key_cmp r' s'
+key_unset = fact_unset key_cmp same_key
 
 -- ---- the set of turned keys
 
@@ -120,11 +100,8 @@ turned_unset r r' s s' b t turned updates taken kept c is = at (is_key b c) refl
 
 -- ---- where there is no fact
 
-pub number_none : (r : BTreeMap ℕ Fact) (s : BTreeSet ℕ) → r.entries ≡ [] → (c : ℕ) → is_rough_at (get nat_cmp r c) ≡ true → contains nat_cmp s c ≡ true
-number_none r s empty c is = absurd (let clash : true ≡ false = sym is ∙ ap (λ es. is_rough_at (lookup (is_at (nat_cmp c)) es)) empty in cc)
-
-pub key_none : (r : BTreeMap Key Fact) (s : BTreeSet Key) → r.entries ≡ [] → (c : Key) → is_rough_at (get key_cmp r c) ≡ true → contains key_cmp s c ≡ true
-key_none r s empty c is = absurd (let clash : true ≡ false = sym is ∙ ap (λ es. is_rough_at (lookup (is_at (key_cmp c)) es)) empty in cc)
+pub rough_none : {K : Type 0} (cmp : K → K → Ordering) (r : BTreeMap K Fact) (s : BTreeSet K) → r.entries ≡ [] → (c : K) → is_rough_at (get cmp r c) ≡ true → contains cmp s c ≡ true
+rough_none cmp r s empty c is = absurd (let clash : true ≡ false = sym is ∙ ap (λ es. is_rough_at (lookup (is_at (cmp c)) es)) empty in cc)
 
 pub turned_none : (r : BTreeMap Key Fact) (s : BTreeSet Turned) → r.entries ≡ [] → (c : Key) → is_some (get key_cmp r c) ≡ true → contains turned_cmp s (turn c) ≡ true
 turned_none r s empty c is = absurd (let clash : true ≡ false = sym is ∙ ap (λ es. is_some (lookup (is_at (key_cmp c)) es)) empty in cc)
@@ -150,8 +127,8 @@ pub rough_after : {T E : Type 0} (result : Result T E) (r r' : BTreeMap Key Fact
     OnOk result (Updates key_cmp r r' b (Some fact)) → OnErr result (get key_cmp r b ≡ None) → OnErr result (r'.entries ≡ r.entries) →
     ((c : Key) → is_eq (key_cmp b c) ≡ false → contains key_cmp s' c ≡ contains key_cmp s c) → (rough ≡ true → contains key_cmp s' b ≡ true) →
     ((c : Key) → is_rough_at (get key_cmp r c) ≡ true → contains key_cmp s c ≡ true) → (c : Key) → is_rough_at (get key_cmp r' c) ≡ true → contains key_cmp s' c ≡ true
-rough_after (Ok x) r r' s s' b fact rough tells updates none same others marked kept = key_set r r' s s' b fact rough tells updates others marked kept
-rough_after (Err x) r r' s s' b fact rough tells updates none same others marked kept = key_refused r r' s s' b none same others kept
+rough_after (Ok x) r r' s s' b fact rough tells updates none same others marked kept = fact_set key_cmp same_key r r' s s' b fact rough tells updates others marked kept
+rough_after (Err x) r r' s s' b fact rough tells updates none same others marked kept = fact_refused key_cmp same_key r r' s s' b none same others kept
 
 -- ---- a row less
 

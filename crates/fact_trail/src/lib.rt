@@ -3,6 +3,7 @@
 #![tactic(auto)]
 
 mod fact;
+mod marks;
 mod properties;
 mod slot;
 mod trail;

@@ -5,9 +5,9 @@ ghost use Rattle.std.specs.BTreeMap.{btree_map_len, get};
 ghost use Rattle.std.specs.BTreeSet.{contains, btree_set_len};
 ghost use Rattle.fact_trail.specs.Slots.{Key, is_key, key_cmp, turned_cmp, turn, at_key, is_rough_at};
 
+use crate::marks::mark;
 use crate::slot::Turned;
 use crate::{Fact, Key};
-use flow_values::NoMemory;
 use std::alloc::Global;
 use std::collections::{BTreeMap, BTreeSet};
 use std::ops::Bound;
@@ -33,25 +33,10 @@ fn turn(key: Key) -> Turned
     }
 }
 
-// Puts a key into a set, or takes it out.
-#[tactic(auto, using(crate::proofs::Kept::same_keys))]
-fn mark(set: &mut BTreeSet<Key>, key: Key, yes: bool) -> Result<(), NoMemory>
-    ensures others { (k : Key) → is_key key k ≡ false → contains key_cmp set.new k ≡ contains key_cmp set.old k }
-    ensures here { OnOk result (yes ≡ true → contains key_cmp set.new key ≡ true) }
-    ensures err { OnErr result ((k : Key) → contains key_cmp set.new k ≡ contains key_cmp set.old k) }
-{
-    if yes {
-        set.insert(key)?;
-        return Ok(());
-    }
-    set.remove(&key);
-    Ok(())
-}
-
 impl Properties {
     ghost use Rattle.fact_trail.specs.Rows.{properties_of};
 
-    #[tactic(auto, using(crate::proofs::Kept::turned_none, crate::proofs::Kept::key_none))]
+    #[tactic(auto, using(crate::proofs::Kept::turned_none, crate::proofs::Kept::rough_none))]
     pub(crate) fn new(alloc: Global) -> Properties
         ensures facts { (k : Key) → properties_of result k ≡ None }
         ensures len { btree_map_len result.rows ≡ 0 }

@@ -7,25 +7,10 @@ ghost use Rattle.std.specs.BTreeSet.{contains};
 ghost use Rattle.fact_trail.specs.Slots.{is_number, at_number, is_rough_at};
 
 use crate::Fact;
-use flow_values::NoMemory;
+use crate::marks::mark;
 use std::alloc::Global;
 use std::collections::{BTreeMap, BTreeSet};
 use std::ops::Bound;
-
-// Puts a number into a set, or takes it out.
-#[tactic(auto, using(crate::proofs::Kept::same_numbers))]
-fn mark(set: &mut BTreeSet<u32>, number: u32, yes: bool) -> Result<(), NoMemory>
-    ensures others { (b : ℕ) → is_number number b ≡ false → contains nat_cmp set.new b ≡ contains nat_cmp set.old b }
-    ensures here { OnOk result (yes ≡ true → contains nat_cmp set.new number ≡ true) }
-    ensures err { OnErr result ((b : ℕ) → contains nat_cmp set.new b ≡ contains nat_cmp set.old b) }
-{
-    if yes {
-        set.insert(number)?;
-        return Ok(());
-    }
-    set.remove(&number);
-    Ok(())
-}
 
 /// The facts on variables.
 #[derive(Drop)]
@@ -39,7 +24,7 @@ pub struct Variables {
 impl Variables {
     ghost use Rattle.fact_trail.specs.Rows.{variables_of};
 
-    #[tactic(auto, using(crate::proofs::Kept::number_none))]
+    #[tactic(auto, using(crate::proofs::Kept::rough_none))]
     pub(crate) fn new(alloc: Global) -> Variables
         ensures facts { (b : ℕ) → variables_of result b ≡ None }
         ensures len { btree_map_len result.rows ≡ 0 }

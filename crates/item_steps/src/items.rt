@@ -16,11 +16,12 @@ ghost use Rattle.code_words.specs.Words.{statement_word_view};
 use crate::exports::{after_export_from, after_export_type, are_local};
 use crate::imports::import_token;
 use crate::names::{begin_exported, names_token};
+use code_heads::{begin_simple, begin_value, simple_word};
 use code_state::{
     AliasHead, Bottom, Ending, ExportMode, Frame, FunctionKind, HeadMode, ImportMode, ItemMode,
     Linked, Mode, Stack, StatementMode, Turn, ValueFrame, Verb, Wrap,
 };
-use code_steps::{after_links, begin_simple, begin_value, simple_word};
+use code_steps::after_links;
 use code_tree::{Expr, ExprForm};
 use code_words::{StatementWord, may_alias, statement_word};
 use flow_values::{List, NoMemory, Text};

@@ -148,17 +148,3 @@ fn mark_piece(text: &[char]) -> Option<Piece>
         None => None,
     }
 }
-
-#[cfg(test)]
-mod tests {
-    use super::*;
-
-    #[test]
-    fn a_piece_is_read(rt: HostRuntime) -> Result<(), NoMemory> {
-        let text = ['/', '*', '*', '/', 'x'];
-        let comment = Piece { kind: None, len: 4 };
-        assert!(rt; read_piece(rt.alloc(), &text)? == Some(comment));
-        assert!(rt; read_piece(rt.alloc(), &['#'])?.is_none());
-        Ok(())
-    }
-}

@@ -50,7 +50,7 @@ fn member_of(
     };
     Ok(MergeMember {
         path: path.share()?,
-        sig: Shared::new(alloc, parse.sig)?,
+        sig: parse.sig,
         deps: Shared::new(alloc, deps)?,
     })
 }

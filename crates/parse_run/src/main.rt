@@ -4,9 +4,6 @@
 //! `bench/parse.sh` measures it.
 #![tactic(auto)]
 
-#[cfg(test)]
-mod tests;
-
 use flow_values::NoMemory;
 use js_lexer::{LexFault, lex};
 use js_parser::read_module;

@@ -27,16 +27,3 @@ fn refuses_other_forms(rt: HostRuntime) -> Result<(), Fail> {
     assert!(rt; check1(alloc, b"")?.faults.is_empty());
     Ok(())
 }
-
-#[test]
-fn a_long_literal_is_cut(rt: HostRuntime) -> Result<(), Fail> {
-    let alloc = rt.alloc();
-    let source =
-        "export const x: number = \"aaaaaaaaaaaaaaaaaaaaaaaaaaaaaaaaaaaaaaaaaaaaaaaaaaaaaaaaaaaaaaaaaaaaaaaaaaaaaaa\";\n";
-    let shown =
-        "\"aaaaaaaaaaaaaaaaaaaaaaaaaaaaaaaaaaaaaaaaaaaaaaaaaaaaaaaaaaaaaaaaaaaaaaaaaaaa... number";
-    let errs = check1(alloc, source.as_bytes())?;
-    let fault = errs.faults.get(0).ok_or("a fault")?;
-    assert_eq!(rt; fault.details.as_bytes(), shown.as_bytes());
-    Ok(())
-}

@@ -1,5 +1,5 @@
-//! Sources of the first form, lines of a script, rechecks and whole runs over ends in memory, some of which fail. They stand apart
-//! from the crates that they test, which are so proved once.
+//! Sources of the first form and lines of a script, read and printed. They stand apart from the crates that they test, which
+//! are so proved once; whole runs stand in tests/scripts.py and tests/real_folders.py.
 #![tactic(auto)]
 
 #[cfg(test)]
@@ -10,7 +10,3 @@ mod errors;
 mod printing;
 #[cfg(test)]
 mod reading;
-#[cfg(test)]
-mod rechecks;
-#[cfg(test)]
-mod runs;

@@ -365,9 +365,12 @@ impl Scope {
     ///
     /// # Errors
     ///
-    /// `NoMemory` where memory is refused.
+    /// `NoMemory` where memory is refused. Some of the names with the number may have the type then, and
+    /// nothing else has changed; `leave` takes that back too.
     pub fn declare(&mut self, number: u32, ty: &FlowType) -> Result<(), NoMemory>
         ensures scope { OnOk result (scope_view self.new ≡ declares_type number ty.now (scope_view self.old)) }
+        ensures depth { self.new.depth ≡ self.old.depth }
+        ensures wanted { self.new.result ≡ self.old.result }
         ensures heights { KeepsHeights self.old self.new }
     {
         let mut next = self.place_of_number(number);

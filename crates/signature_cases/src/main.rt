@@ -93,7 +93,7 @@ fn parse_in_line(alloc: Global, line: &str) -> Result<Parse, NoMemory> {
 fn report(rt: &impl Print, alloc: Global, line: &str) -> io::Result<()> {
     match parse_in_line(alloc, line) {
         Ok(parse) => {
-            print_signature(rt, alloc, &parse.sig)?;
+            print_signature(rt, alloc, parse.sig.get())?;
             print_faults(rt, parse.faults.as_slice())?;
             println!(rt;)
         }
@@ -105,9 +105,9 @@ fn report_counts(rt: &impl Print, alloc: Global, line: &str) -> io::Result<()> {
     match parse_in_line(alloc, line) {
         Ok(parse) => println!(rt;
             "{} exports, {} aliases, {} imports, {} faults",
-            parse.sig.exports.len(),
-            parse.sig.aliases.len(),
-            parse.sig.imports.len(),
+            parse.sig.get().exports.len(),
+            parse.sig.get().aliases.len(),
+            parse.sig.get().imports.len(),
             parse.faults.len()
         ),
         Err(NoMemory) => println!(rt; "no memory"),

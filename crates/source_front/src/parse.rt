@@ -1,6 +1,6 @@
 // What is kept of a source.
 use check_values::{Fault, LocalSig};
-use flow_values::{List, Span};
+use flow_values::{List, Shared, Span};
 use js_tree::Module;
 
 /// Why a source has no tree, and the byte at which that stands.
@@ -27,6 +27,6 @@ pub enum ParseTree {
 #[derive(Drop)]
 pub struct Parse {
     pub tree: ParseTree,
-    pub sig: LocalSig,
+    pub sig: Shared<LocalSig>,
     pub faults: List<Fault>,
 }

@@ -5,7 +5,7 @@ ghost use Rattle.js_tree.specs.View.{module_view};
 ghost use Rattle.source_front.specs.Front.{HasTree, HasFault, IsParse, token_start};
 
 use crate::parse::{Parse, ParseTree, SourceFault};
-use flow_values::{List, NoMemory, Span};
+use flow_values::{List, NoMemory, Shared, Span};
 use js_lexer::{LexFault, lex};
 use js_parser::read_module;
 use js_token::Token;
@@ -37,14 +37,14 @@ fn token_start(text: &[u8], tokens: &[Token], token: usize) -> u32
 }
 
 // What a source without a tree says.
-fn broken(alloc: Global, fault: SourceFault) -> Parse
-    ensures { (text : List ℕ) → HasFault text fault → IsParse text result }
+fn broken(alloc: Global, fault: SourceFault) -> Result<Parse, NoMemory>
+    ensures { IfOk result (λ parse. (text : List ℕ) → HasFault text fault → IsParse text parse) }
 {
-    Parse {
+    Ok(Parse {
         tree: ParseTree::Broken(fault),
-        sig: broken_signature(alloc),
+        sig: Shared::new(alloc, broken_signature(alloc))?,
         faults: List::new(alloc),
-    }
+    })
 }
 
 // What a source with a tree says.
@@ -53,7 +53,11 @@ fn whole(alloc: Global, module: Module, spans: List<Span>) -> Result<Parse, NoMe
 {
     let (sig, faults) = extract(alloc, &module, spans.as_slice())?;
     let tree = ParseTree::Tree { module, spans };
-    Ok(Parse { tree, sig, faults })
+    Ok(Parse {
+        tree,
+        sig: Shared::new(alloc, sig)?,
+        faults,
+    })
 }
 
 // What a source of these tokens says.
@@ -65,7 +69,7 @@ fn read(alloc: Global, text: &[u8], tokens: &[Token]) -> Result<Parse, NoMemory>
         Ok(module) => whole(alloc, module, spans_of(alloc, tokens)?),
         Err(ParseFault::At { token }) => {
             let at = token_start(text, tokens, token);
-            Ok(broken(alloc, SourceFault::Parse { at }))
+            broken(alloc, SourceFault::Parse { at })
         }
         Err(ParseFault::NoMemory) => Err(NoMemory),
     }
@@ -81,11 +85,9 @@ pub fn front(alloc: Global, text: &[u8]) -> Result<Parse, NoMemory>
 {
     match lex(alloc, text) {
         Ok(tokens) => read(alloc, text, tokens.as_slice()),
-        Err(LexFault::NotUtf8) => Ok(broken(alloc, SourceFault::NotUtf8)),
-        Err(LexFault::BadToken { at }) => Ok(broken(alloc, SourceFault::BadToken { at })),
-        Err(LexFault::SourceTooLong { len }) => {
-            Ok(broken(alloc, SourceFault::SourceTooLong { len }))
-        }
+        Err(LexFault::NotUtf8) => broken(alloc, SourceFault::NotUtf8),
+        Err(LexFault::BadToken { at }) => broken(alloc, SourceFault::BadToken { at }),
+        Err(LexFault::SourceTooLong { len }) => broken(alloc, SourceFault::SourceTooLong { len }),
         Err(LexFault::NoMemory) => Err(NoMemory),
     }
 }

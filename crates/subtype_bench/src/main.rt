@@ -62,8 +62,8 @@ fn literals(alloc: Global, first: u64, count: u64, back: bool) -> Result<FlowTyp
     Ok(FlowType::Union(Shared::new(alloc, all)?))
 }
 
-// an object of so many properties, with keys of one length that rise
-fn wide_object(alloc: Global, count: u64, wide: bool) -> Result<FlowType, NoMemory> {
+// an object of so many properties, with keys of one length that rise or fall
+fn wide_object(alloc: Global, count: u64, falling: bool, wide: bool) -> Result<FlowType, NoMemory> {
     let mut props = List::new(alloc);
     for i in 0..count {
         let value = if wide {
@@ -71,7 +71,8 @@ fn wide_object(alloc: Global, count: u64, wide: bool) -> Result<FlowType, NoMemo
         } else {
             FlowType::NumLit(name(alloc, "", 1)?)
         };
-        let key = name(alloc, "p", i.saturating_add(1_000_000))?;
+        let n = if falling { count - i } else { i };
+        let key = name(alloc, "p", n.saturating_add(1_000_000))?;
         props.push(prop(alloc, key.as_bytes(), value)?)?;
     }
     Ok(FlowType::Object {
@@ -101,6 +102,15 @@ fn arrays(alloc: Global, count: u64, wide: bool) -> Result<FlowType, NoMemory> {
     };
     for _i in 0..count {
         ty = FlowType::ReadArray(Shared::new(alloc, ty)?);
+    }
+    Ok(ty)
+}
+
+// arrays that may be written, so that each asks for both directions
+fn written_arrays(alloc: Global, count: u64) -> Result<FlowType, NoMemory> {
+    let mut ty = FlowType::Number;
+    for _i in 0..count {
+        ty = FlowType::Array(Shared::new(alloc, ty)?);
     }
     Ok(ty)
 }
@@ -139,31 +149,26 @@ fn rows(alloc: Global, shape: u64, count: u64) -> Result<Rows, NoMemory> {
     Ok(rows)
 }
 
-fn pair(alloc: Global, shape: u64, count: u64) -> Result<(FlowType, FlowType), NoMemory> {
-    Ok(match shape {
-        0 => (
-            literals(alloc, 0, count, false)?,
-            literals(alloc, 0, count, true)?,
-        ),
-        1 => (objects(alloc, count, false)?, objects(alloc, count, true)?),
-        2 => (arrays(alloc, count, false)?, arrays(alloc, count, true)?),
-        5 => (
-            literals(alloc, 0, count, false)?,
-            literals(alloc, 1, count, true)?,
-        ),
-        6 => (
-            wide_object(alloc, count, false)?,
-            wide_object(alloc, count, true)?,
-        ),
-        _ => (named(alloc, "A", 0)?, named(alloc, "B", 0)?),
-    })
+// The first or the second type of a shape and size.
+fn side(alloc: Global, shape: u64, count: u64, second: bool) -> Result<FlowType, NoMemory> {
+    match shape {
+        0 => literals(alloc, 0, count, second),
+        1 => objects(alloc, count, second),
+        2 => arrays(alloc, count, second),
+        5 => literals(alloc, u64::from(second), count, second),
+        6 => wide_object(alloc, count, false, second),
+        8 => wide_object(alloc, count, true, second),
+        9 => written_arrays(alloc, count),
+        _ => named(alloc, if second { "B" } else { "A" }, 0),
+    }
 }
 
 // Asks the question of a shape and size, and answers with the microseconds that it took.
 fn ask<R: Clock>(rt: &R, alloc: Global, shape: u64, count: u64) -> Result<(bool, u128), NoMemory> {
     let rows = rows(alloc, shape, count)?;
     let table = AliasTable::build(alloc, rows.as_slice())?;
-    let (a, b) = pair(alloc, shape, count)?;
+    let a = side(alloc, shape, count, false)?;
+    let b = side(alloc, shape, count, true)?;
     let start = Instant::now(rt).ok();
     let yes = is_subtype(alloc, &table, &a, &b)?;
     let micros = match start {

@@ -9,8 +9,6 @@ mod chains;
 #[cfg(test)]
 mod graphs;
 #[cfg(test)]
-mod members;
-#[cfg(test)]
 mod sharing;
 #[cfg(test)]
 mod terms;

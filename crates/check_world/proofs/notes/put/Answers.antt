@@ -1,7 +1,8 @@
 use Rattle.std.proofs.Common.{◌≡◌, true, false, Ok, Err, Result, sym, ◌∙◌, subst}
 use Rattle.std.specs.Result.{is_err, OnOk, OnErr}
 use Rattle.check_world.specs.Keys.{AreKeys}
-use Rattle.check_world.proofs.FaultKeys.{has_key, more_keys, same_keys, popped, with_old, with_new}
+use Rattle.check_world.proofs.FaultKeys.{has_key, more_keys, same_keys, with_old, with_new}
+use Rattle.check_world.proofs.Pushed.{popped}
 use Rattle.check_world.proofs.notes.put.Goals as goal
 
 from_err : {T E P : Type 0} (r : Result T E) → true ≡ is_err r → OnErr r P → P

@@ -1,0 +1,6 @@
+//! Who does the work of a check, and how much of it was done.
+#![tactic(auto)]
+
+mod analyst;
+
+pub use analyst::Analyst;

@@ -1,0 +1,45 @@
+-- What a job checks.
+use Rattle.std.specs.Prelude.{ℕ, ◌≡◌}
+use Rattle.check_values.specs.declared.codes.Code.{Code}
+use Rattle.check_values.specs.declared.codes.Code.TheVariants.{NotUtf8, BadToken, SourceTooLong, Parse}
+use Rattle.js_tree.specs.View.{module_view}
+use Rattle.local_signatures.specs.Faults.{signature_faults}
+use Rattle.source_front.specs.declared.parse.ParseTree.{ParseTree}
+use Rattle.source_front.specs.declared.parse.ParseTree.TheVariants as tree
+use Rattle.source_front.specs.declared.parse.SourceFault.{SourceFault}
+use Rattle.source_front.specs.declared.parse.SourceFault.TheVariants as fault
+use Rattle.errors_by_reach.specs.Law.{Source, whole, broken}
+use Rattle.check_job.specs.declared.job.CheckJob.{CheckJob}
+
+-- the code of a source's fault, and its byte place
+abbrev pub fault_code : SourceFault → Code
+fault_code fault.NotUtf8 = NotUtf8
+fault_code (fault.BadToken at) = BadToken
+fault_code (fault.SourceTooLong len) = SourceTooLong
+fault_code (fault.Parse at) = Parse
+
+abbrev pub fault_place : SourceFault → ℕ
+fault_place (fault.BadToken at) = at
+fault_place (fault.Parse at) = at
+fault_place other = 0
+
+-- a source, by what was parsed
+abbrev pub source_in : ParseTree → Source
+source_in (tree.Tree m spans) = whole (module_view m) spans
+source_in (tree.Broken f) = broken (fault_code f) (fault_place f)
+
+abbrev pub source_of : CheckJob → Source
+source_of job = source_in job.parse.tree
+
+-- the source has a tree
+abbrev pub IsWhole : Source → Type 0
+IsWhole (whole m spans) = Unit {0}
+IsWhole (broken code place) = ⊥
+
+-- the faults that were told with the tree are those of its signature
+abbrev pub HasFaults : CheckJob → Source → Type 0
+HasFaults job (whole m spans) = job.parse.faults ≡ signature_faults m spans
+HasFaults job (broken code place) = Unit {0}
+
+abbrev pub IsFronted : CheckJob → Type 0
+IsFronted job = HasFaults job (source_of job)

@@ -1,0 +1,6 @@
+//! What a module is checked by.
+#![tactic(auto)]
+
+mod job;
+
+pub use job::CheckJob;

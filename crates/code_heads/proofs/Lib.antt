@@ -1,0 +1,3 @@
+pub mod Empties
+pub mod Marks
+pub mod NameEnds

@@ -1,0 +1,6 @@
+pub mod Over
+pub mod Moving
+pub mod Listing
+pub mod Making
+pub mod Meeting
+pub mod Between

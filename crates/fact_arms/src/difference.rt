@@ -1,0 +1,197 @@
+//! What facts became since an earlier moment.
+ghost use Rattle.std.specs.Prelude.{◌≡◌, ◌||◌, false, None, Some, OnOk, IfOk, if◌then◌else◌};
+ghost use Rattle.std.specs.Option.{option_copied};
+ghost use Rattle.fact_trail.specs.declared.slot.Slot.TheVariants.{Variable, Property};
+ghost use Rattle.fact_trail.specs.declared.slot.Slot.{Slot};
+ghost use Rattle.fact_trail.specs.Slots.{Map, at_slot, is_slot};
+ghost use Rattle.fact_trail.specs.Moments.{before, with_properties};
+
+use fact_trail::{Change, Fact, Key, Properties, Slot};
+use flow_values::NoMemory;
+use std::alloc::Global;
+use std::collections::BTreeMap;
+
+/// What facts became since an earlier moment: what some slots have, and whether the other properties
+/// have no fact.
+#[derive(Drop)]
+pub struct Difference {
+    pub(crate) alloc: Global,
+    pub(crate) no_properties: bool,
+    pub(crate) variables: BTreeMap<u32, Option<Fact>>,
+    pub(crate) properties: BTreeMap<Key, Option<Fact>>,
+}
+
+// Whether one of two holds.
+pub(crate) fn either(a: bool, b: bool) -> bool
+    ensures { result ≡ (a || b) }
+{
+    a || b
+}
+
+impl Difference {
+    ghost use Rattle.fact_arms.specs.Differences.{over, said_of, is_said, is_gone, with_variables, with_keys, before_last};
+
+    // Nothing is said.
+    #[tactic(auto, using(crate::proofs::Over::nothing_said))]
+    pub(crate) fn new(alloc: Global, no_properties: bool) -> Difference
+        ensures said { (s : Slot) → said_of result s ≡ None }
+        ensures gone { result.no_properties ≡ no_properties }
+    {
+        Difference {
+            alloc,
+            no_properties,
+            variables: BTreeMap::new(alloc),
+            properties: BTreeMap::new(alloc),
+        }
+    }
+
+    // What is said of a slot.
+    pub(crate) fn said(&self, slot: Slot) -> Option<&Option<Fact>>
+        ensures { option_copied result ≡ said_of self.now slot }
+    {
+        match slot {
+            Slot::Variable(binding) => self.variables.get(&binding),
+            Slot::Property(key) => self.properties.get(&key),
+        }
+    }
+
+    // Says what a slot has.
+    pub(crate) fn say(&mut self, slot: Slot, fact: Option<Fact>) -> Result<(), NoMemory>
+        ensures said { OnOk result ((s : Slot) → said_of self.new s ≡ (if is_slot slot s then Some fact else said_of self.old s)) }
+        ensures gone { self.new.no_properties ≡ self.old.no_properties }
+    {
+        match slot {
+            Slot::Variable(binding) => self.say_variable(binding, fact),
+            Slot::Property(key) => self.say_property(key, fact),
+        }
+    }
+
+    // Says what a variable has.
+    #[tactic(auto, using(crate::proofs::Over::says_variable))]
+    fn say_variable(&mut self, binding: u32, fact: Option<Fact>) -> Result<(), NoMemory>
+        ensures said { OnOk result ((s : Slot) → said_of self.new s ≡ (if is_slot (Variable binding) s then Some fact else said_of self.old s)) }
+        ensures gone { self.new.no_properties ≡ self.old.no_properties }
+    {
+        self.variables.insert(binding, fact)?;
+        Ok(())
+    }
+
+    // Says what a property has.
+    #[tactic(auto, using(crate::proofs::Over::says_property))]
+    fn say_property(&mut self, key: Key, fact: Option<Fact>) -> Result<(), NoMemory>
+        ensures said { OnOk result ((s : Slot) → said_of self.new s ≡ (if is_slot (Property key) s then Some fact else said_of self.old s)) }
+        ensures gone { self.new.no_properties ≡ self.old.no_properties }
+    {
+        self.properties.insert(key, fact)?;
+        Ok(())
+    }
+
+    // Whether it makes no difference what a slot had before.
+    fn settles(&self, slot: Slot) -> bool
+        ensures { result ≡ (is_said self.now slot || is_gone self.now slot) }
+    {
+        self.said(slot).is_some() || self.drops(slot)
+    }
+
+    // Whether a slot is a property, where all of them have no fact.
+    pub(crate) fn drops(&self, slot: Slot) -> bool
+        ensures { result ≡ is_gone self.now slot }
+    {
+        match slot {
+            Slot::Variable(_) => false,
+            Slot::Property(_) => self.no_properties,
+        }
+    }
+
+    // Puts a change of a slot before what is said.
+    #[tactic(auto, using(crate::proofs::Over::added_settled, crate::proofs::Over::added_said))]
+    pub(crate) fn add(&mut self, slot: Slot, fact: Option<Fact>) -> Result<(), NoMemory>
+        ensures made { OnOk result ((m : Map) → over self.new m ≡ over self.old (at_slot slot fact m)) }
+        ensures gone { self.new.no_properties ≡ self.old.no_properties }
+    {
+        if self.settles(slot) {
+            return Ok(());
+        }
+        self.say(slot, fact)
+    }
+
+    // Puts a change of all properties before what is said.
+    fn add_properties(&mut self, properties: Properties) -> Result<(), NoMemory>
+        ensures { OnOk result ((m : Map) → over self.new m ≡ over self.old (with_properties properties m)) }
+    {
+        if self.no_properties {
+            return Ok(());
+        }
+        let mut properties = properties;
+        while let Some((key, fact)) = properties.pop() {
+            self.add(Slot::Property(key), Some(fact))?;
+        }
+        self.no_properties = true;
+        Ok(())
+    }
+
+    // Puts what variables have before what is said.
+    fn add_variables(&mut self, rows: BTreeMap<u32, Option<Fact>>) -> Result<(), NoMemory>
+        ensures made { OnOk result ((m : Map) → over self.new m ≡ over self.old (with_variables rows m)) }
+        ensures gone { self.new.no_properties ≡ self.old.no_properties }
+    {
+        let mut rows = rows;
+        while let Some((binding, fact)) = rows.pop_first() {
+            self.add(Slot::Variable(binding), fact)?;
+        }
+        Ok(())
+    }
+
+    // Puts what properties have before what is said.
+    fn add_keys(&mut self, rows: BTreeMap<Key, Option<Fact>>) -> Result<(), NoMemory>
+        ensures made { OnOk result ((m : Map) → over self.new m ≡ over self.old (with_keys rows m)) }
+        ensures gone { self.new.no_properties ≡ self.old.no_properties }
+    {
+        let mut rows = rows;
+        while let Some((key, fact)) = rows.pop_first() {
+            self.add(Slot::Property(key), fact)?;
+        }
+        Ok(())
+    }
+
+    // Puts a change before what is said.
+    fn add_change(&mut self, change: Change) -> Result<(), NoMemory>
+        ensures { OnOk result ((m : Map) → over self.new m ≡ over self.old (before change m)) }
+    {
+        match change {
+            Change::At(slot, fact) => self.add(slot, fact),
+            Change::Properties(properties) => self.add_properties(properties),
+        }
+    }
+
+    // Puts a change, if there is one, before what is said.
+    pub(crate) fn add_last(&mut self, change: Option<Change>) -> Result<(), NoMemory>
+        ensures { OnOk result ((m : Map) → over self.new m ≡ over self.old (before_last change m)) }
+    {
+        match change {
+            Some(change) => self.add_change(change),
+            None => Ok(()),
+        }
+    }
+
+    /// This difference behind another one: what it makes of the facts to which the other one leads.
+    ///
+    /// # Errors
+    ///
+    /// `NoMemory` where memory is refused.
+    pub fn behind(self, first: Difference) -> Result<Difference, NoMemory>
+        ensures { IfOk result (λ both. (m : Map) → over both m ≡ over self (over first m)) }
+    {
+        let mut both = self;
+        let Difference {
+            alloc: _,
+            no_properties,
+            variables,
+            properties,
+        } = first;
+        both.add_variables(variables)?;
+        both.add_keys(properties)?;
+        both.no_properties = either(both.no_properties, no_properties);
+        Ok(both)
+    }
+}

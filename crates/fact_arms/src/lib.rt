@@ -1,0 +1,11 @@
+//! What facts became since an earlier moment, kept apart from them: taken off a trail, made again on
+//! it, and joined slot by slot.
+#![tactic(auto)]
+
+mod difference;
+mod joining;
+mod slots;
+mod trails;
+
+pub use difference::Difference;
+pub use joining::meet;

@@ -1,0 +1,3 @@
+pub mod PathsIn
+pub mod Rows
+pub mod ReachedPaths

@@ -1,0 +1,3 @@
+pub mod Accepting
+pub mod Keys
+pub mod View

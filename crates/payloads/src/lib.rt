@@ -1,0 +1,8 @@
+//! What the heap of modules holds: a root, which names the modules, and four results of each.
+#![tactic(auto)]
+
+mod entities;
+mod payload;
+
+pub use entities::{deps_entity, errors_entity, parse_entity, signature_entity};
+pub use payload::Payload;

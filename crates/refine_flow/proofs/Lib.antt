@@ -1,0 +1,14 @@
+pub mod Found
+pub mod Growing
+pub mod Places
+pub mod Types
+pub mod Gone
+pub mod Losing
+pub mod MarkLemmas
+pub mod Dropping
+pub mod Turning
+pub mod Listing
+pub mod Reaching
+pub mod Assigning
+pub mod Lengthening
+pub mod Copying

@@ -1,0 +1,21 @@
+use Rattle.std.proofs.Common.{◌≡◌, ℕ, List, true, false, Some}
+use Rattle.std.specs.List.{list_any}
+use Rattle.std.specs.Option.{is_some}
+use Rattle.std.specs.Ordering.{nat_cmp}
+use Rattle.std.specs.BTreeMap.{is_at}
+use Rattle.fact_trail.specs.declared.slot.Slot.TheVariants.{Variable, Property}
+use Rattle.fact_trail.specs.declared.slot.Key.{Key}
+use Rattle.fact_trail.specs.Slots.{key_cmp}
+use Rattle.fact_trail.specs.Moments.{map_of}
+use Rattle.flow_facts.specs.Known.{variable_place, property_place}
+use Rattle.refine_flow.specs.Numbers.{name_of}
+use Rattle.refine_flow.specs.Whole.{is_listed, AddsTrue}
+use Rattle.refine_flow.specs.Standing.{shown}
+use Rattle.refine_flow.proofs.facts.Facts.add_variables.Given as goal
+
+-- what has a fact is listed, or among what is left
+abbrev pub invariant-loop-binding : goal.invariant-loop-binding
+invariant-loop-binding l = record {
+  adds : AddsTrue (shown l.self) l.fn.rows.items l.rows.items;
+  left : (b : ℕ) → is_some (map_of l.self.trail (Variable b)) ≡ true → is_listed l.rows.items (variable_place b) ≡ false → list_any (is_at (nat_cmp b)) l.binding-iterator ≡ true;
+}

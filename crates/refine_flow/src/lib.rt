@@ -1,0 +1,16 @@
+//! What is known of the types at places while code is read: facts, which tests narrow, assignments
+//! set and calls drop, and marks to which they go back.
+//!
+//! Two ways that meet again, as the arms of an `if`, are read so: `mark`; assume the test and read the
+//! first one; `turn`, which hands out what it made as an arm; assume the opposite and read the other
+//! one; `join_arm`, with the arm; `spend`. `resume` goes on from a mark with an arm that was handed
+//! out.
+#![tactic(auto)]
+
+mod among;
+mod facts;
+mod marks;
+mod names;
+mod whole;
+
+pub use facts::{Arm, Facts, Mark};
