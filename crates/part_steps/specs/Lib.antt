@@ -1,0 +1,4 @@
+pub mod Operators
+pub mod Members
+pub mod Goals
+pub mod View
