@@ -23,15 +23,27 @@ use Rattle.type_reads.specs.Keys.{HasAll}
 one_more : {X : Type 0} (xs : List X) (i : ℕ) (x : X) → i < length xs → x ≡ get_or xs i x → take (i + 1) xs ≡ take i xs ++ x ∷ []
 one_more {X} xs i x within at = take_more xs i x within ∙ ap (λ (y : X). take i xs ++ y ∷ []) (sym at)
 
+-- ---- any list that grows at its end
+
+module _ {X V L : Type 0} (from : L → List V → L) (more : L → V → L) (view : X → V) (nil : (acc : L) → from acc [] ≡ acc) (cons : (acc : L) (v : V) (vs : List V) → from acc (v ∷ vs) ≡ from (more acc v) vs) where
+  last_one : (acc : L) (xs : List X) (x : X) → from acc (map view (xs ++ x ∷ [])) ≡ more (from acc (map view xs)) (view x)
+  last_one acc [] x = cons acc (view x) [] ∙ nil (more acc (view x)) ∙ ap (λ (l : L). more l (view x)) (sym (nil acc))
+  last_one acc (y ∷ xs) x = cons acc (view y) (map view (xs ++ x ∷ [])) ∙ last_one (more acc (view y)) xs x ∙ ap (λ (l : L). more l (view x)) (sym (cons acc (view y) (map view xs)))
+
+  grown : (none : L) (xs : List X) (i : ℕ) (x : X) → i < length xs → x ≡ get_or xs i x → from none (map view (take (i + 1) xs)) ≡ more (from none (map view (take i xs))) (view x)
+  grown none xs i x within at = ap (λ (l : List X). from none (map view l)) (one_more xs i x within at) ∙ last_one none (take i xs) x
+
+  -- one element more is read
+  read_next : (read : L → Notes → Notes) (step : V → Notes → Notes) → ((l : L) (v : V) (n : Notes) → read (more l v) n ≡ step v (read l n)) → (none : L) (xs : List X) (i : ℕ) (x : X) (first before after : Notes) → i < length xs → x ≡ get_or xs i x →
+      after ≡ step (view x) before → before ≡ read (from none (map view (take i xs))) first → after ≡ read (from none (map view (take (i + 1) xs))) first
+  read_next read step reads none xs i x first before after within at made so_far =
+      made ∙ ap (step (view x)) so_far ∙ sym (reads (from none (map view (take i xs))) (view x) first) ∙ ap (λ (l : L). read l first) (sym (grown none xs i x within at))
+
+-- all were read
+read_all : {X L : Type 0} (listed : List X → L) (read : L → Notes → Notes) (xs : List X) (i : ℕ) (first after : Notes) → length xs ≤ i → after ≡ read (listed (take i xs)) first → after ≡ read (listed xs) first
+read_all {X} listed read xs i first after long is = is ∙ ap (λ (l : List X). read (listed l) first) (take_all i xs long)
+
 -- ---- members of a union
-
-pres_last : (acc : Pres) (ps : List PreTree) (p : PreTree) → pres_from acc (map pre_view (ps ++ p ∷ [])) ≡ more_pre (pres_from acc (map pre_view ps)) (pre_view p)
-pres_last acc [] p = refl
-pres_last acc (q ∷ ps) p = pres_last (more_pre acc (pre_view q)) ps p
-
-pres_more : (xs : List PreTree) (i : ℕ) (x : PreTree) → i < length xs → x ≡ get_or xs i x → pres_view (take (i + 1) xs) ≡ more_pre (pres_view (take i xs)) (pre_view x)
-unfolding pres_view
-pres_more xs i x within at = ap (λ (l : List PreTree). pres_from no_pre (map pre_view l)) (one_more xs i x within at) ∙ pres_last no_pre (take i xs) x
 
 pub members_none : (w : World) (xs : List PreTree) (n : Notes) → n ≡ members_read w (pres_view (take 0 xs)) n
 unfolding pres_view
@@ -39,20 +51,13 @@ members_none w xs n = refl
 
 pub members_next : (w : World) (xs : List PreTree) (i : ℕ) (x : PreTree) (first before after : Notes) → i < length xs → x ≡ get_or xs i x → after ≡ member_read w (pre_view x) before →
     before ≡ members_read w (pres_view (take i xs)) first → after ≡ members_read w (pres_view (take (i + 1) xs)) first
-members_next w xs i x first before after within at made so_far = made ∙ ap (member_read w (pre_view x)) so_far ∙ ap (λ (ps : Pres). members_read w ps first) (sym (pres_more xs i x within at))
+unfolding pres_view
+members_next w = read_next pres_from more_pre pre_view (λ acc. refl) (λ acc p ps. refl) (members_read w) (member_read w) (λ ps p n. refl) no_pre
 
 pub members_all : (w : World) (xs : List PreTree) (i : ℕ) (first after : Notes) → length xs ≤ i → after ≡ members_read w (pres_view (take i xs)) first → after ≡ members_read w (pres_view xs) first
-members_all w xs i first after long is = is ∙ ap (λ (l : List PreTree). members_read w (pres_view l) first) (take_all i xs long)
+members_all w = read_all pres_view (members_read w)
 
 -- ---- elements of a tuple
-
-types_last : (acc : Types) (ts : List TypeTree) (t : TypeTree) → types_from acc (map type_view (ts ++ t ∷ [])) ≡ more_type (types_from acc (map type_view ts)) (type_view t)
-types_last acc [] t = refl
-types_last acc (u ∷ ts) t = types_last (more_type acc (type_view u)) ts t
-
-types_more : (xs : List TypeTree) (i : ℕ) (x : TypeTree) → i < length xs → x ≡ get_or xs i x → types_view (take (i + 1) xs) ≡ more_type (types_view (take i xs)) (type_view x)
-unfolding types_view
-types_more xs i x within at = ap (λ (l : List TypeTree). types_from no_type (map type_view l)) (one_more xs i x within at) ∙ types_last no_type (take i xs) x
 
 pub types_none : (w : World) (xs : List TypeTree) (n : Notes) → n ≡ types_read w (types_view (take 0 xs)) n
 unfolding types_view
@@ -60,20 +65,13 @@ types_none w xs n = refl
 
 pub types_next : (w : World) (xs : List TypeTree) (i : ℕ) (x : TypeTree) (first before after : Notes) → i < length xs → x ≡ get_or xs i x → after ≡ type_read w (type_view x) before →
     before ≡ types_read w (types_view (take i xs)) first → after ≡ types_read w (types_view (take (i + 1) xs)) first
-types_next w xs i x first before after within at made so_far = made ∙ ap (type_read w (type_view x)) so_far ∙ ap (λ (ts : Types). types_read w ts first) (sym (types_more xs i x within at))
+unfolding types_view
+types_next w = read_next types_from more_type type_view (λ acc. refl) (λ acc t ts. refl) (types_read w) (type_read w) (λ ts t n. refl) no_type
 
 pub types_all : (w : World) (xs : List TypeTree) (i : ℕ) (first after : Notes) → length xs ≤ i → after ≡ types_read w (types_view (take i xs)) first → after ≡ types_read w (types_view xs) first
-types_all w xs i first after long is = is ∙ ap (λ (l : List TypeTree). types_read w (types_view l) first) (take_all i xs long)
+types_all w = read_all types_view (types_read w)
 
 -- ---- parameters
-
-params_last : (acc : Params) (ps : List ParamTree) (p : ParamTree) → params_from acc (map param_view (ps ++ p ∷ [])) ≡ more_param (params_from acc (map param_view ps)) (param_view p)
-params_last acc [] p = refl
-params_last acc (q ∷ ps) p = params_last (more_param acc (param_view q)) ps p
-
-params_more : (xs : List ParamTree) (i : ℕ) (x : ParamTree) → i < length xs → x ≡ get_or xs i x → params_view (take (i + 1) xs) ≡ more_param (params_view (take i xs)) (param_view x)
-unfolding params_view
-params_more xs i x within at = ap (λ (l : List ParamTree). params_from no_param (map param_view l)) (one_more xs i x within at) ∙ params_last no_param (take i xs) x
 
 pub params_none : (w : World) (xs : List ParamTree) (n : Notes) → n ≡ params_read w (params_view (take 0 xs)) n
 unfolding params_view
@@ -81,20 +79,17 @@ params_none w xs n = refl
 
 pub params_next : (w : World) (xs : List ParamTree) (i : ℕ) (x : ParamTree) (first before after : Notes) → i < length xs → x ≡ get_or xs i x → after ≡ param_read w (param_view x) before →
     before ≡ params_read w (params_view (take i xs)) first → after ≡ params_read w (params_view (take (i + 1) xs)) first
-params_next w xs i x first before after within at made so_far = made ∙ ap (param_read w (param_view x)) so_far ∙ ap (λ (ps : Params). params_read w ps first) (sym (params_more xs i x within at))
+unfolding params_view
+params_next w = read_next params_from more_param param_view (λ acc. refl) (λ acc p ps. refl) (params_read w) (param_read w) (λ ps p n. refl) no_param
 
 pub params_all : (w : World) (xs : List ParamTree) (i : ℕ) (first after : Notes) → length xs ≤ i → after ≡ params_read w (params_view (take i xs)) first → after ≡ params_read w (params_view xs) first
-params_all w xs i first after long is = is ∙ ap (λ (l : List ParamTree). params_read w (params_view l) first) (take_all i xs long)
+params_all w = read_all params_view (params_read w)
 
 -- ---- properties of an object
 
-props_last : (acc : Props) (ps : List PropTree) (p : PropTree) → props_from acc (map prop_view (ps ++ p ∷ [])) ≡ more_prop (props_from acc (map prop_view ps)) (prop_view p)
-props_last acc [] p = refl
-props_last acc (q ∷ ps) p = props_last (more_prop acc (prop_view q)) ps p
-
 props_more : (xs : List PropTree) (i : ℕ) (x : PropTree) → i < length xs → x ≡ get_or xs i x → props_view (take (i + 1) xs) ≡ more_prop (props_view (take i xs)) (prop_view x)
 unfolding props_view
-props_more xs i x within at = ap (λ (l : List PropTree). props_from no_prop (map prop_view l)) (one_more xs i x within at) ∙ props_last no_prop (take i xs) x
+props_more = grown props_from more_prop prop_view (λ acc. refl) (λ acc p ps. refl) no_prop
 
 pub keys_none : (keys : BTreeSet Bytes) (xs : List PropTree) → keys.keys ≡ [] → HasAll keys (keys_of_props (props_view (take 0 xs)))
 unfolding props_view
@@ -111,7 +106,7 @@ props_next w xs i x first before after within at made so_far =
     made ∙ ap (prop_read w (keys_of_props (props_view (take i xs))) (prop_view x)) so_far ∙ ap (λ (ps : Props). props_read w ps first) (sym (props_more xs i x within at))
 
 pub props_all : (w : World) (xs : List PropTree) (i : ℕ) (first after : Notes) → length xs ≤ i → after ≡ props_read w (props_view (take i xs)) first → after ≡ props_read w (props_view xs) first
-props_all w xs i first after long is = is ∙ ap (λ (l : List PropTree). props_read w (props_view l) first) (take_all i xs long)
+props_all w = read_all props_view (props_read w)
 
 pub keys_next : (keys : BTreeSet Bytes) (xs : List PropTree) (i : ℕ) (x : PropTree) → i < length xs → x ≡ get_or xs i x →
     HasAll keys (keys_of_props (props_view (take i xs)) ++ key_of_prop (prop_view x) ∷ []) → HasAll keys (keys_of_props (props_view (take (i + 1) xs)))

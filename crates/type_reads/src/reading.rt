@@ -25,7 +25,7 @@ use type_tree::{
 ///
 /// # Errors
 ///
-/// `NoMemory` where memory is refused.
+/// `NoMemory` where memory is refused. Some of the faults may be noted then.
 #[cycle(reading)]
 pub fn read_type(world: &World<'_>, tree: &TypeTree, notes: &mut Notes) -> Result<(), NoMemory>
     ensures { OnOk result (notes_view notes.new ≡ type_read (world_view world.now) (type_view tree.now) (notes_view notes.old)) }
@@ -37,7 +37,7 @@ pub fn read_type(world: &World<'_>, tree: &TypeTree, notes: &mut Notes) -> Resul
 ///
 /// # Errors
 ///
-/// `NoMemory` where memory is refused.
+/// `NoMemory` where memory is refused. Some of the faults may be noted then.
 pub fn read_annotation(
     world: &World<'_>,
     annotation: &Option<TypeTree>,
