@@ -1,5 +1,5 @@
 -- Changes that are taken back down to a moment, and made again.
-use Rattle.std.proofs.Common.{◌≡◌, ◌≤◌, ◌<◌, ◌+◌, ℕ, Bool, true, false, Option, Some, None, length, refl, sym, ap, ◌∙◌, if◌then◌else◌, arith}
+use Rattle.std.proofs.Common.{◌≡◌, ◌≤◌, ℕ, Bool, true, false, Option, Some, None, length, refl, sym, ap, ◌∙◌, if◌then◌else◌, arith}
 use Rattle.fact_trail.specs.declared.fact.Fact.{Fact}
 use Rattle.fact_trail.specs.declared.trail.Trail.{Trail}
 use Rattle.fact_trail.specs.declared.slot.Slot.{Slot}
@@ -7,7 +7,6 @@ use Rattle.fact_trail.specs.Slots.{Map}
 use Rattle.fact_trail.specs.Moments.{map_of, map_at, KeepsMoments, IsNew}
 use Rattle.fact_arms.specs.declared.difference.Difference.{Difference}
 use Rattle.fact_arms.specs.Differences.{said_else, said_of, is_gone, over, type_of, SameTypes, Leaves, GoesBack, Goes}
-use Rattle.fact_arms.proofs.Moving.{over_none}
 
 -- a difference makes the same types of the same types
 pub over_types : (d : Difference) (m n : Map) → SameTypes m n → SameTypes (over d m) (over d n)

@@ -1,8 +1,7 @@
 -- Changes that are taken off a trail.
-use Rattle.std.proofs.Common.{◌≡◌, ◌≤◌, ◌<◌, ◌+◌, ℕ, Bool, true, false, List, [], drop, Option, Some, None, MatchOption, length, Result, Ok, Err, OnOk, refl, sym, ap, ◌∙◌, if◌then◌else◌, arith}
+use Rattle.std.proofs.Common.{◌≡◌, ◌≤◌, ◌<◌, ◌+◌, ℕ, Bool, true, false, [], drop, Option, Some, None, MatchOption, length, Result, Ok, Err, OnOk, refl, sym, ap, ◌∙◌, if◌then◌else◌, arith}
 use Rattle.std.specs.Prelude.{⊤}
 use Rattle.std.specs.Option.{is_some}
-use Rattle.fact_trail.specs.declared.fact.Fact.{Fact}
 use Rattle.fact_trail.specs.declared.trail.Trail.{Trail}
 use Rattle.fact_trail.specs.declared.trail.Change.{Change}
 use Rattle.fact_trail.specs.declared.slot.Slot.TheVariants.{Variable, Property}

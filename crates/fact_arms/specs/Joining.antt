@@ -1,11 +1,8 @@
 -- Joining what two differences make of facts.
-use Rattle.std.specs.Prelude.{◌≡◌, ◌||◌, Bool, List, Option, Some, None, if◌then◌else◌, ◌&&◌}
+use Rattle.std.specs.Prelude.{Option, if◌then◌else◌}
 use Rattle.type_values.specs.declared.types.FlowType.{FlowType}
-use Rattle.type_terms.specs.Join.{join_of}
-use Rattle.fact_trail.specs.declared.trail.Trail.{Trail}
 use Rattle.fact_trail.specs.declared.slot.Slot.{Slot}
-use Rattle.fact_trail.specs.Slots.{Map, is_slot, is_rough_at}
-use Rattle.fact_trail.specs.Moments.{map_of}
+use Rattle.fact_trail.specs.Slots.{Map, is_slot}
 use Rattle.flow_facts.specs.Known.{both}
 use Rattle.fact_arms.specs.declared.difference.Difference.{Difference}
 use Rattle.fact_arms.specs.Differences.{over, type_of, said_of, said_else}

@@ -1,9 +1,7 @@
 -- Joins of many facts, in whatever order.
-use Rattle.std.proofs.Common.{◌≡◌, List, [], ◌∷◌, Option, Some, None, refl, sym, ap, ◌∙◌}
+use Rattle.std.proofs.Common.{◌≡◌, List, [], ◌∷◌, Option, Some, None, refl, ap, ◌∙◌}
 use Rattle.type_values.specs.declared.types.FlowType.{FlowType}
-use Rattle.type_terms.specs.Join.{join_of}
-use Rattle.flow_facts.specs.declared.place.Place.{Place}
-use Rattle.flow_facts.specs.Known.{Known, Map, both, joined}
+use Rattle.flow_facts.specs.Known.{Known, both, joined}
 use Rattle.fact_ways.specs.Ways.{all_joined}
 use Rattle.type_joins.proofs.Joins.{join_twice}
 

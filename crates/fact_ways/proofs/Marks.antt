@@ -1,9 +1,9 @@
 -- Marks that stay, from ways to ways.
-use Rattle.std.proofs.Common.{◌≡◌, ◌≤◌, ◌<◌, ◌+◌, Option, Some, None, refl, sym, ap, ◌∙◌, subst, arith}
+use Rattle.std.proofs.Common.{◌≡◌, ◌<◌, ◌+◌, Option, Some, None, refl, sym, ap, ◌∙◌, subst, arith}
 use Rattle.refine_flow.specs.declared.facts.Facts.{Facts}
 use Rattle.refine_flow.specs.declared.facts.Mark.{Mark}
 use Rattle.refine_flow.specs.declared.facts.Arm.{Arm}
-use Rattle.refine_flow.specs.Standing.{known, known_over, open_marks, depth_of, IsOf, IsLast, IsUpTo, IsArmOf, KeepsMark, KeepsMarks, KeepsMarksUpTo, SpendsMark, SpendsInner, OpensMark}
+use Rattle.refine_flow.specs.Standing.{known_over, open_marks, depth_of, IsOf, IsLast, IsUpTo, IsArmOf, KeepsMark, KeepsMarks, KeepsMarksUpTo, SpendsMark, SpendsInner, OpensMark}
 use Rattle.fact_ways.specs.declared.fork.Fork.{Fork}
 use Rattle.fact_ways.specs.Ways.{Fits, IsBefore, Goes, Leads, StandsBefore}
 

@@ -1,5 +1,5 @@
 -- Ways in one another, while the inner ones change.
-use Rattle.std.proofs.Common.{◌≡◌, ◌+◌, List, [], ◌∷◌, ◌++◌, reverse, Option, Some, None, refl, ◌∙◌, ap, arith}
+use Rattle.std.proofs.Common.{◌≡◌, List, [], ◌∷◌, ◌++◌, reverse, Option, Some, None, refl, ◌∙◌, ap, arith}
 use Rattle.std.proofs.lemmas.List.{reverse-append}
 use Rattle.refine_flow.specs.declared.facts.Facts.{Facts}
 use Rattle.flow_facts.specs.Known.{joined}

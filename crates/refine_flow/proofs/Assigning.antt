@@ -1,23 +1,22 @@
 -- Narrowing and assigning a place, and entering loops and functions.
-use Rattle.std.proofs.Common.{◌≡◌, ◌==◌, ◌||◌, ◌&&◌, ◌⊎◌, not, ℕ, Bool, true, false, List, Option, Some, None, Result, Ok, Err, OnErr, unwrap_or, refl, sym, ap, ◌∙◌, inl, inr, if◌then◌else◌}
+use Rattle.std.proofs.Common.{◌≡◌, ◌||◌, ◌&&◌, not, ℕ, Bool, true, false, List, Option, Some, None, Result, Ok, Err, OnErr, unwrap_or, refl, sym, ap, ◌∙◌, if◌then◌else◌}
 use Rattle.std.specs.List.{list_any}
 use Rattle.std.specs.Option.{option_map}
 use Rattle.std.proofs.lemmas.Bool.{eq-eqb}
 use Rattle.std.specs.Cmp.Lexicographic.{bytes_decides}
 use Rattle.type_values.specs.declared.types.FlowType.{FlowType}
-use Rattle.fact_trail.specs.declared.trail.Trail.{Trail}
 use Rattle.fact_trail.specs.Moments.{Drops}
 use Rattle.flow_facts.specs.declared.place.Place.{Place}
 use Rattle.flow_facts.specs.declared.place.Killed.{Killed}
 use Rattle.flow_facts.specs.declared.test.Test.{Test}
 use Rattle.flow_facts.specs.Cells.{is_text}
 use Rattle.flow_facts.specs.Narrowing.{narrowed}
-use Rattle.flow_facts.specs.Known.{Map, Known, no_facts, live, type_at, at_place, is_place, without, without_properties, is_property, is_of, is_named, is_some_text, overwrites, narrowed_at, fact_of_value, assigned, is_kept, entered_loop, entered_function}
+use Rattle.flow_facts.specs.Known.{Map, Known, live, type_at, at_place, is_place, without, without_properties, is_property, is_of, is_named, is_some_text, overwrites, narrowed_at, fact_of_value, assigned, entered_loop, entered_function}
 use Rattle.refine_flow.specs.declared.facts.Facts.{Facts}
-use Rattle.refine_flow.specs.Standing.{shown, known, slot_of, is_lost, with_told, Changes, KeepsMarks}
+use Rattle.refine_flow.specs.Standing.{shown, known, is_lost, with_told, Changes}
 use Rattle.refine_flow.proofs.Places.{same_place}
 use Rattle.refine_flow.proofs.Gone.{without_three, lost_alike}
-use Rattle.refine_flow.proofs.MarkLemmas.{changed_twice, changed_as, known_changed, keeps_twice}
+use Rattle.refine_flow.proofs.MarkLemmas.{changed_twice, changed_as, known_changed}
 use Rattle.refine_flow.proofs.Dropping.{dropped_slots, settled_facts}
 
 -- facts that are live

@@ -8,7 +8,7 @@ use Rattle.fact_trail.specs.declared.trail.Trail.{Trail}
 use Rattle.fact_trail.specs.declared.slot.Slot.{Slot}
 use Rattle.fact_trail.specs.Slots.{Map as Slots, at_slot, is_slot, without as without_slots}
 use Rattle.fact_trail.specs.Slots as slots
-use Rattle.fact_trail.specs.Moments.{map_of, map_at, KeepsMoments, IsNew, Adds, Drops}
+use Rattle.fact_trail.specs.Moments.{map_of, map_at, IsNew, Adds, Drops}
 use Rattle.type_values.specs.declared.types.FlowType.{FlowType}
 use Rattle.fact_trail.proofs.Changes.{none_now, drops_none, fresh_at_first}
 use Rattle.fact_trail.proofs.Same.{same_slot}
@@ -18,7 +18,7 @@ use Rattle.refine_flow.specs.declared.names.Names.{Names}
 use Rattle.refine_flow.specs.Numbers.{GrowsNames, IsBeyond}
 use Rattle.refine_flow.proofs.Types.{types_at, types_without, types_grown}
 use Rattle.refine_flow.specs.declared.facts.Facts.{Facts}
-use Rattle.refine_flow.specs.Standing.{slot_of, type_in, types_by, shown, known, IsOf, KeepsMark, KeepsMarks, Changes}
+use Rattle.refine_flow.specs.Standing.{slot_of, type_in, types_by, shown, known, KeepsMarks, Changes}
 use Rattle.refine_flow.proofs.Gone.{without_both, properties_alike}
 use Rattle.refine_flow.proofs.Places.{same_place}
 use Rattle.refine_flow.proofs.MarkLemmas.{grows_itself, keeps_itself, keeps_marks, changed_twice, changed_as, known_changed, keeps_twice, nothing_changed}

@@ -3,7 +3,7 @@ use Rattle.std.proofs.Common.{◌≡◌, ◌==◌, ◌||◌, ◌&&◌, not, ℕ,
 use Rattle.std.proofs.lemmas.Bool.{eqb-true, eq-eqb}
 use Rattle.std.proofs.lemmas.Bool.Decides.{nat_tests}
 use Rattle.std.specs.Cmp.Lexicographic.{bytes_decides}
-use Rattle.std.specs.Option.{is_some, option_map}
+use Rattle.std.specs.Option.{is_some}
 use Rattle.fact_trail.specs.declared.slot.Slot.TheVariants.{Variable, Property}
 use Rattle.fact_trail.specs.declared.slot.Slot.{Slot}
 use Rattle.fact_trail.specs.Slots.{is_number}
@@ -13,7 +13,7 @@ use Rattle.flow_facts.specs.Cells.{is_text}
 use Rattle.flow_facts.specs.Known.{Map, without, is_property, is_named, is_some_text, is_of}
 use Rattle.refine_flow.specs.declared.names.Names.{Names}
 use Rattle.refine_flow.specs.Numbers.{number_of}
-use Rattle.refine_flow.specs.Standing.{slot_of, slot_by, slot_named, is_lost}
+use Rattle.refine_flow.specs.Standing.{slot_of, slot_by, is_lost}
 use Rattle.refine_flow.proofs.Growing.{some_same, names_apart}
 use Rattle.refine_flow.proofs.Places.{named_slot}
 

@@ -1,5 +1,5 @@
 -- Making an arm over the last mark one over the mark before it.
-use Rattle.std.proofs.Common.{◌≡◌, ◌≤◌, ◌<◌, ◌+◌, ℕ, Bool, true, false, Option, Some, None, length, refl, sym, ap, ◌∙◌, subst, if◌then◌else◌, arith}
+use Rattle.std.proofs.Common.{◌≡◌, ◌≤◌, ◌+◌, Some, None, length, refl, sym, ap, ◌∙◌, if◌then◌else◌, arith}
 use Rattle.fact_trail.specs.declared.trail.Trail.{Trail}
 use Rattle.fact_trail.specs.declared.slot.Slot.{Slot}
 use Rattle.fact_trail.specs.Slots.{Map as Slots}
@@ -12,7 +12,7 @@ use Rattle.refine_flow.specs.declared.facts.Facts.{Facts}
 use Rattle.refine_flow.specs.declared.facts.Mark.{Mark}
 use Rattle.refine_flow.specs.declared.facts.Arm.{Arm}
 use Rattle.refine_flow.specs.Numbers.{IsBeyond}
-use Rattle.refine_flow.specs.Standing.{types_by, known, known_over, depth_of, IsOf, IsUpTo, IsArmOf, SpendsInner}
+use Rattle.refine_flow.specs.Standing.{types_by, known, known_over, IsArmOf, SpendsInner}
 use Rattle.refine_flow.proofs.Dropping.{same_names}
 use Rattle.refine_flow.proofs.Turning.{same_mark, types_same}
 

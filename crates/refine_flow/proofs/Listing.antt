@@ -10,7 +10,7 @@ use Rattle.fact_trail.specs.declared.fact.Fact.{Fact}
 use Rattle.fact_trail.specs.declared.slot.Slot.TheVariants.{Variable, Property}
 use Rattle.fact_trail.specs.declared.slot.Slot.{Slot}
 use Rattle.fact_trail.specs.declared.slot.Key.{Key}
-use Rattle.fact_trail.specs.Slots.{Map as Slots, key_cmp, is_number, is_key}
+use Rattle.fact_trail.specs.Slots.{key_cmp, is_number, is_key}
 use Rattle.fact_trail.proofs.Same.{same_number, same_key}
 use Rattle.fact_trail.specs.Moments.{map_of}
 use Rattle.flow_facts.specs.declared.place.Place.{Place}
@@ -20,7 +20,7 @@ use Rattle.refine_flow.specs.declared.facts.Facts.{Facts}
 use Rattle.refine_flow.specs.declared.whole.Row.{Row}
 use Rattle.refine_flow.specs.Numbers.{number_of, name_of}
 use Rattle.refine_flow.specs.Whole.{told, met, is_listed, AreTrue, AddsTrue}
-use Rattle.refine_flow.specs.Standing.{slot_of, slot_by, slot_named, type_in, types_by, shown}
+use Rattle.refine_flow.specs.Standing.{slot_of, slot_by, slot_named, type_in, shown}
 use Rattle.refine_flow.proofs.Places.{same_place, place_itself}
 
 true_end : (m : Map) (rows : List Row) (row : Row) → AreTrue m rows → m row.place ≡ Some row.ty → AreTrue m (rows ++ row ∷ [])

@@ -1,7 +1,6 @@
 -- Going over the variables that have facts, in order.
-use Rattle.std.proofs.Common.{◌≡◌, ◌==◌, ◌<◌, ◌≤◌, ◌-◌, ◌+◌, ◌⊎◌, ◌&&◌, not, ℕ, Bool, true, false, Option, Some, None, MatchOption, refl, sym, ap, ◌∙◌, inl, inr, if◌then◌else◌, subst, arith}
+use Rattle.std.proofs.Common.{◌≡◌, ◌<◌, ◌≤◌, ◌-◌, ◌⊎◌, ◌&&◌, not, ℕ, Bool, true, false, Option, Some, None, MatchOption, refl, sym, ap, ◌∙◌, inl, inr, if◌then◌else◌, subst, arith}
 use Rattle.std.proofs.lemmas.Bool.{cases_lt}
-use Rattle.std.proofs.lemmas.Bool.Decides.{nat_tests}
 use Rattle.fact_trail.specs.declared.fact.Fact.{Fact}
 use Rattle.fact_trail.specs.declared.trail.Trail.{Trail}
 use Rattle.fact_trail.specs.declared.slot.Slot.TheVariants.{Variable, Property}

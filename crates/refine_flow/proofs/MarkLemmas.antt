@@ -1,18 +1,16 @@
 -- What changes of the trail do to the facts at marks.
-use Rattle.std.proofs.Common.{◌≡◌, ◌≤◌, ◌<◌, ◌+◌, ◌⊎◌, ℕ, Bool, true, false, List, Option, Some, None, length, refl, sym, ap, ◌∙◌, subst, inl, inr, if◌then◌else◌, arith}
-use Rattle.fact_trail.specs.declared.slot.Slot.TheVariants.{Variable, Property}
-use Rattle.fact_trail.specs.declared.slot.Slot.{Slot}
-use Rattle.fact_trail.specs.Moments.{map_of, map_at, KeepsMoments}
+use Rattle.std.proofs.Common.{◌≡◌, ◌≤◌, ◌⊎◌, ℕ, Bool, true, false, List, Some, None, length, refl, sym, ap, ◌∙◌, inl, inr, if◌then◌else◌, arith}
+use Rattle.fact_trail.specs.Moments.{map_at, KeepsMoments}
 use Rattle.fact_trail.proofs.Changes.{absent}
 use Rattle.fact_arms.specs.Differences.{over}
 use Rattle.fact_arms.proofs.Moving.{over_none}
-use Rattle.flow_facts.specs.Known.{Map, Known, live}
+use Rattle.flow_facts.specs.Known.{Map, live}
 use Rattle.refine_flow.specs.declared.names.Names.{Names}
 use Rattle.refine_flow.specs.declared.facts.Facts.{Facts}
 use Rattle.refine_flow.specs.declared.facts.Mark.{Mark}
 use Rattle.refine_flow.specs.declared.facts.Arm.{Arm}
-use Rattle.refine_flow.specs.Numbers.{number_of, names_len, GrowsNames, IsBeyond}
-use Rattle.refine_flow.specs.Standing.{types_by, shown, known, known_at, known_over, IsOf, IsArmOf, KeepsArm, KeepsMark, KeepsMarks, Changes}
+use Rattle.refine_flow.specs.Numbers.{number_of, names_len, GrowsNames}
+use Rattle.refine_flow.specs.Standing.{types_by, shown, known, known_over, IsArmOf, KeepsMark, KeepsMarks, Changes}
 use Rattle.refine_flow.proofs.Growing.{beyond_before}
 use Rattle.refine_flow.proofs.Types.{types_grown}
 

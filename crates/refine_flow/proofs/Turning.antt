@@ -1,17 +1,15 @@
 -- Going back to a mark, on from it, and joining what arms made of the facts at it.
 use Rattle.std.proofs.Common.{◌≡◌, ◌≤◌, ◌<◌, ◌+◌, ℕ, Bool, true, false, Option, Some, None, Result, Ok, Err, OnOk, length, refl, sym, ap, ◌∙◌, subst, if◌then◌else◌, arith}
-use Rattle.type_values.specs.declared.types.FlowType.{FlowType}
 use Rattle.fact_trail.specs.declared.fact.Fact.{Fact}
 use Rattle.fact_trail.specs.declared.trail.Trail.{Trail}
 use Rattle.fact_trail.specs.declared.slot.Slot.{Slot}
 use Rattle.fact_trail.specs.Slots.{Map as Slots}
-use Rattle.fact_trail.specs.Moments.{map_of, map_at, KeepsMoments, IsNew}
+use Rattle.fact_trail.specs.Moments.{map_of, map_at, IsNew}
 use Rattle.fact_trail.proofs.Changes.{map_at_end, none_now}
 use Rattle.fact_arms.specs.declared.difference.Difference.{Difference}
-use Rattle.fact_arms.specs.Differences.{said_else, said_of, over, type_of, SameTypes, Leaves, GoesBack, Goes}
+use Rattle.fact_arms.specs.Differences.{over, type_of, SameTypes, Leaves, GoesBack, Goes}
 use Rattle.fact_arms.specs.Joining.{joined_type}
 use Rattle.fact_arms.proofs.Moving.{over_none}
-use Rattle.flow_facts.specs.declared.place.Place.{Place}
 use Rattle.flow_facts.specs.Known.{Map, Known, both, joined}
 use Rattle.refine_flow.specs.declared.names.Names.{Names}
 use Rattle.refine_flow.specs.declared.facts.Facts.{Facts}

@@ -1,13 +1,12 @@
 -- What changes of slots' facts make of the types of places.
-use Rattle.std.proofs.Common.{◌≡◌, ◌≤◌, ◌<◌, ◌⊎◌, ℕ, Bool, true, false, List, Option, Some, None, unwrap_or, refl, sym, ap, ◌∙◌, inl, inr, if◌then◌else◌, arith}
+use Rattle.std.proofs.Common.{◌≡◌, ◌≤◌, ◌⊎◌, ℕ, Bool, true, false, List, Option, Some, None, unwrap_or, refl, sym, ap, ◌∙◌, inl, inr, if◌then◌else◌}
 use Rattle.std.specs.Option.{option_map}
 use Rattle.type_values.specs.declared.types.FlowType.{FlowType}
 use Rattle.fact_trail.specs.declared.fact.Fact.{Fact}
-use Rattle.fact_trail.specs.declared.slot.Slot.TheVariants.{Variable, Property}
 use Rattle.fact_trail.specs.declared.slot.Slot.{Slot}
 use Rattle.fact_trail.specs.Slots.{Map as Slots, at_slot, is_slot, without as without_slots}
 use Rattle.flow_facts.specs.declared.place.Place.{Place}
-use Rattle.flow_facts.specs.Known.{Map, no_facts, at_place, is_place, without}
+use Rattle.flow_facts.specs.Known.{no_facts, at_place, is_place, without}
 use Rattle.refine_flow.specs.declared.names.Names.{Names}
 use Rattle.refine_flow.specs.Numbers.{number_of, names_len, GrowsNames, IsBeyond}
 use Rattle.fact_arms.specs.Differences.{type_of}

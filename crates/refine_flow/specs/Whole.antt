@@ -1,5 +1,5 @@
 -- All facts as rows, and facts that are set row by row.
-use Rattle.std.specs.Prelude.{ℕ, ◌≡◌, Bool, true, List, [], ◌∷◌, Option, Some, None}
+use Rattle.std.specs.Prelude.{◌≡◌, Bool, true, List, [], ◌∷◌, Some}
 use Rattle.std.specs.List.{list_any}
 use Rattle.flow_facts.specs.declared.place.Place.{Place}
 use Rattle.flow_facts.specs.Known.{Map, at_place, is_place, both}

@@ -47,18 +47,21 @@ next_within number rows front back at is split =
 
 -- ---- whether one has no facts
 
-abbrev pub IsLooked : ℕ → List Row → Option ℕ → Type 0
+unfoldable pub IsLooked : ℕ → List Row → Option ℕ → Type 0
 IsLooked number rows next =
     (front : List Row) × (back : List Row) × (rows ≡ front ++ back) × (next ≡ last_at (has_number number) front) × (list_any (is_sought number) rows ≡ list_any (is_sought number) front)
 
 pub looked_first : (number : ℕ) (rows : List Row) (next : Option ℕ) → next ≡ last_at (has_number number) rows → IsLooked number rows next
+unfolding IsLooked
 looked_first number rows next is = (rows, [], sym (append-nil rows), is, refl)
 
 pub looked_within : (number : ℕ) (rows : List Row) (next : Option ℕ) (at : ℕ) → next ≡ Some at → IsLooked number rows next → at < length rows
+unfolding IsLooked
 looked_within number rows next at is (front, back, split, found, same) = next_within number rows front back at (sym is ∙ found) split
 
 looked_step : (number : ℕ) (rows : List Row) (next : Option ℕ) (at : ℕ) (row : Row) → next ≡ Some at → row ≡ get_or rows at row → IsLooked number rows next → AreLinked is_numbered_like (λ (r : Row). r.outer_number) rows →
     (ahead : List Row) × (behind : List Row) × (rows ≡ ahead ++ behind) × (row.outer_number ≡ last_at (has_number number) ahead) × (list_any (is_sought number) rows ≡ (is_shared_row row || list_any (is_sought number) ahead)) × (length ahead ≡ at)
+unfolding IsLooked
 looked_step number rows next at row is read (front, back, split, found, same) linked =
     let (ahead, behind, (cut, long, number_is, none)) = next_row number rows front back at row (sym is ∙ found) split read in (
       ahead,
@@ -72,12 +75,14 @@ looked_step number rows next at row is read (front, back, split, found, same) li
     passes : row.binding.number ≡ number → has_number number row ≡ true
     passes e = eq-eqb row.binding.number number e
 
-pub looked_on : (number : ℕ) (rows : List Row) (next : Option ℕ) (at : ℕ) (row : Row) → next ≡ Some at → row ≡ get_or rows at row → AreLinked is_numbered_like (λ (r : Row). r.outer_number) rows → IsLooked number rows next → is_shared_row row ≡ false → IsLooked number rows row.outer_number
-looked_on number rows next at row is read linked looked other =
+pub looked_on : (number : ℕ) (rows : List Row) (next : Option ℕ) (at : ℕ) (row : Row) → next ≡ Some at → row ≡ get_or rows at row → AreLinked is_numbered_like (λ (r : Row). r.outer_number) rows → IsLooked number rows next → (shared : Bool) → shared ≡ is_shared_kind (kind_view row.binding.kind) → shared ≡ false → IsLooked number rows row.outer_number
+unfolding IsLooked
+looked_on number rows next at row is read linked looked shared told other =
     let (ahead, behind, split, found, same, long) = looked_step number rows next at row is read looked linked in
-    (ahead, behind, split, found, same ∙ ap (λ (b : Bool). b || list_any (is_sought number) ahead) other)
+    (ahead, behind, split, found, same ∙ ap (λ (b : Bool). b || list_any (is_sought number) ahead) (sym told ∙ other))
 
 pub looked_falls : (number : ℕ) (rows : List Row) (next : Option ℕ) (at : ℕ) (row : Row) → next ≡ Some at → row ≡ get_or rows at row → AreLinked is_numbered_like (λ (r : Row). r.outer_number) rows → IsLooked number rows next → after_place row.outer_number < after_place next
+unfolding IsLooked
 looked_falls number rows next at row is read linked looked =
     let (ahead, behind, split, found, same, long) = looked_step number rows next at row is read looked linked in
     subst (λ (o : Option ℕ). after_place row.outer_number < after_place o) (sym is) (subst (λ (o : Option ℕ). after_place o < suc at) (sym found) (omega (arith, place_within (has_number number) ahead)))
@@ -86,13 +91,15 @@ looked_falls number rows next at row is read linked looked =
 pub shared_seen : (rows : List Row) (number : ℕ) → list_any (λ (b : typing.Binding). (b.number == number) && is_shared_kind b.kind) (names_view rows) ≡ list_any (is_sought number) rows
 shared_seen rows number = any_seen (λ (b : typing.Binding). (b.number == number) && is_shared_kind b.kind) rows
 
-pub looked_yes : (number : ℕ) (rows : List Row) (next : Option ℕ) (at : ℕ) (row : Row) → next ≡ Some at → row ≡ get_or rows at row → AreLinked is_numbered_like (λ (r : Row). r.outer_number) rows → IsLooked number rows next → is_shared_row row ≡ true →
+pub looked_yes : (number : ℕ) (rows : List Row) (next : Option ℕ) (at : ℕ) (row : Row) → next ≡ Some at → row ≡ get_or rows at row → AreLinked is_numbered_like (λ (r : Row). r.outer_number) rows → IsLooked number rows next → (shared : Bool) → shared ≡ is_shared_kind (kind_view row.binding.kind) → shared ≡ true →
     true ≡ list_any (λ (b : typing.Binding). (b.number == number) && is_shared_kind b.kind) (names_view rows)
-looked_yes number rows next at row is read linked looked shared =
+unfolding IsLooked
+looked_yes number rows next at row is read linked looked shared told met =
     let (ahead, behind, split, found, same, long) = looked_step number rows next at row is read looked linked in
-    sym (shared_seen rows number ∙ same ∙ ap (λ (b : Bool). b || list_any (is_sought number) ahead) shared)
+    sym (shared_seen rows number ∙ same ∙ ap (λ (b : Bool). b || list_any (is_sought number) ahead) (sym told ∙ met))
 
 pub looked_no : (number : ℕ) (rows : List Row) (next : Option ℕ) → next ≡ None → IsLooked number rows next → false ≡ list_any (λ (b : typing.Binding). (b.number == number) && is_shared_kind b.kind) (names_view rows)
+unfolding IsLooked
 looked_no number rows next is (front, back, split, found, same) = sym (shared_seen rows number ∙ same ∙ any_of_none (has_number number) is_shared_row front (sym found ∙ is))
 
 -- ---- a declaration that was read

@@ -162,6 +162,7 @@ impl Scope {
     }
 
     /// Whether a name is bound since a height.
+    #[tactic(auto, using(crate::proofs::Meanings::since_some, crate::proofs::Meanings::since_none))]
     pub fn binds_since(&self, height: Height, name: &Text) -> bool
         ensures { result ≡ binds (names_since height self.now) name.now }
     {
@@ -332,6 +333,7 @@ impl Scope {
     }
 
     /// Whether a name with this number has no facts, as it is assigned in an inner function.
+    #[tactic(auto, using(crate::proofs::Walks::looked_first, crate::proofs::Walks::looked_yes, crate::proofs::Walks::looked_on, crate::proofs::Walks::looked_falls, crate::proofs::Walks::looked_no))]
     pub fn is_shared(&self, number: u32) -> bool
         ensures { result ≡ is_shared (scope_view self.now) number }
     {

@@ -1,4 +1,3 @@
-use Rattle.std.proofs.Common.{arith}
 use Rattle.fact_trail.specs.Moments.{map_of}
 use Rattle.fact_arms.proofs.Between.{types_again, moments_again, within_again, between_them, new_again}
 use Rattle.fact_arms.proofs.difference.Difference.between.Goals as goal

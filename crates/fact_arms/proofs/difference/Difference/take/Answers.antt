@@ -1,4 +1,4 @@
-use Rattle.std.proofs.Common.{◌∙◌, refl, ap, sym, arith}
+use Rattle.std.proofs.Common.{◌∙◌, arith}
 use Rattle.fact_trail.specs.Moments.{map_of}
 use Rattle.fact_arms.proofs.Moving.{over_nothing, leaves_nothing, goes_itself, goes_then, back_at}
 use Rattle.fact_arms.proofs.difference.Difference.take.Goals as goal

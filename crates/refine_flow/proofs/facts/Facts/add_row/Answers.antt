@@ -1,6 +1,5 @@
-use Rattle.std.proofs.Common.{◌≡◌, true, Some, refl, sym, ap, ◌∙◌}
-use Rattle.std.specs.Option.{is_some, option_copied}
-use Rattle.fact_trail.specs.Moments.{map_of}
+use Rattle.std.proofs.Common.{Some, sym, ap, ◌∙◌}
+use Rattle.std.specs.Option.{option_copied}
 use Rattle.refine_flow.specs.Standing.{shown}
 use Rattle.refine_flow.proofs.Listing.{adds_row, adds_itself, listed_row, shown_at}
 use Rattle.refine_flow.proofs.facts.Facts.add_row.Goals as goal

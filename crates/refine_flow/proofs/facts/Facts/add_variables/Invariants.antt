@@ -1,14 +1,11 @@
-use Rattle.std.proofs.Common.{◌≡◌, ℕ, List, true, false, Some}
+use Rattle.std.proofs.Common.{◌≡◌, ℕ, true, false}
 use Rattle.std.specs.List.{list_any}
 use Rattle.std.specs.Option.{is_some}
 use Rattle.std.specs.Ordering.{nat_cmp}
 use Rattle.std.specs.BTreeMap.{is_at}
-use Rattle.fact_trail.specs.declared.slot.Slot.TheVariants.{Variable, Property}
-use Rattle.fact_trail.specs.declared.slot.Key.{Key}
-use Rattle.fact_trail.specs.Slots.{key_cmp}
+use Rattle.fact_trail.specs.declared.slot.Slot.TheVariants.{Variable}
 use Rattle.fact_trail.specs.Moments.{map_of}
-use Rattle.flow_facts.specs.Known.{variable_place, property_place}
-use Rattle.refine_flow.specs.Numbers.{name_of}
+use Rattle.flow_facts.specs.Known.{variable_place}
 use Rattle.refine_flow.specs.Whole.{is_listed, AddsTrue}
 use Rattle.refine_flow.specs.Standing.{shown}
 use Rattle.refine_flow.proofs.facts.Facts.add_variables.Given as goal

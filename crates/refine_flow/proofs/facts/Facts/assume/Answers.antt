@@ -1,7 +1,7 @@
 use Rattle.std.proofs.Common.{Some}
 use Rattle.alias_members.specs.MembersIn.{members_in}
 use Rattle.flow_facts.specs.Known.{at_place}
-use Rattle.refine_flow.proofs.Assigning.{assumed, known_same}
+use Rattle.refine_flow.proofs.Assigning.{assumed}
 use Rattle.refine_flow.proofs.Dropping.{settled_marks}
 use Rattle.refine_flow.proofs.facts.Facts.assume.Goals as goal
 

@@ -1,4 +1,4 @@
-use Rattle.std.proofs.Common.{◌==◌, refl}
+use Rattle.std.proofs.Common.{◌==◌}
 use Rattle.std.specs.List.{list_any}
 use Rattle.refine_flow.proofs.Assigning.{dead_left_out, others_left_out}
 use Rattle.refine_flow.proofs.facts.Facts.keep_variables.Goals as goal

@@ -1,6 +1,5 @@
 use Rattle.std.proofs.Common.{refl, arith}
 use Rattle.refine_flow.proofs.Turning.{opened}
-use Rattle.refine_flow.proofs.MarkLemmas.{keeps_itself}
 use Rattle.refine_flow.proofs.facts.Facts.mark.Goals as goal
 
 pub returns-clause-mark : goal.returns-clause-mark

@@ -1,5 +1,5 @@
 use Rattle.std.proofs.Common.{◌≡◌, length}
-use Rattle.refine_flow.specs.Whole.{told, met}
+use Rattle.refine_flow.specs.Whole.{met}
 use Rattle.refine_flow.specs.Standing.{shown, KeepsMarks}
 use Rattle.refine_flow.proofs.facts.Facts.meet.Given as goal
 
