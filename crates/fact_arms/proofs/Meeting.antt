@@ -17,8 +17,8 @@ use Rattle.fact_arms.proofs.Over.{gone_same}
 use Rattle.fact_arms.proofs.Making.{last_listed}
 
 -- a join is its own join with itself
-pub settled_as : (ty : FlowType) (all : List FlowType) → ty ≡ join_of all → join_of (ty ∷ ty ∷ []) ≡ ty
-settled_as ty all is = (λ i. join_of (is i ∷ is i ∷ [])) ∙ settled all ∙ sym is
+pub settled_as : (ty first second : FlowType) → ty ≡ join_of (first ∷ second ∷ []) → join_of (ty ∷ ty ∷ []) ≡ ty
+settled_as ty first second is = (λ i. join_of (is i ∷ is i ∷ [])) ∙ settled (first ∷ second ∷ []) ∙ sym is
 
 -- what is not listed is not
 not_yes : (b listed : Bool) → (b ≡ true → listed ≡ true) → listed ≡ false → b ≡ false

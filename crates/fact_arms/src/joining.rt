@@ -1,9 +1,10 @@
 //! Joining what two differences make of facts.
-ghost use Rattle.std.specs.Prelude.{◌≡◌, true, None, IfOk, if◌then◌else◌};
+ghost use Rattle.std.specs.Prelude.{◌≡◌, ◌∷◌, [], true, None, IfOk, if◌then◌else◌};
 ghost use Rattle.std.specs.Option.{option_copied};
 ghost use Rattle.fact_trail.specs.declared.slot.Slot.{Slot};
 ghost use Rattle.fact_trail.specs.Slots.{Map, is_rough_at};
 ghost use Rattle.fact_trail.specs.Moments.{map_of};
+ghost use Rattle.type_terms.specs.Join.{join_of};
 ghost use Rattle.flow_facts.specs.Known.{both};
 ghost use Rattle.fact_arms.specs.Differences.{over, type_of, is_said, is_gone, is_listed};
 ghost use Rattle.fact_arms.specs.Joining.{joined_type};
@@ -14,7 +15,22 @@ use crate::slots::{add_rough, add_said};
 use fact_trail::{Fact, Slot, Trail};
 use flow_values::{List, NoMemory};
 use std::alloc::Global;
+use type_joins::join_settled;
 use type_terms::join;
+use type_values::FlowType;
+
+// The join of the types of two facts.
+fn join_of_types(alloc: Global, first: &Fact, second: &Fact) -> Result<FlowType, NoMemory>
+    ensures { IfOk result (λ ty. ty ≡ join_of (first.now.ty ∷ second.now.ty ∷ [])) }
+{
+    if !first.is_rough() && !second.is_rough() {
+        return join_settled(alloc, first.ty(), second.ty());
+    }
+    let mut all = List::new(alloc);
+    all.push(first.ty().share()?)?;
+    all.push(second.ty().share()?)?;
+    join(alloc, all.as_slice())
+}
 
 // The join of two facts, and none where one of them lacks.
 #[tactic(auto, using(crate::proofs::Meeting::settled_as))]
@@ -28,10 +44,7 @@ fn join_of_facts(
     let (Some(first), Some(second)) = (first, second) else {
         return Ok(None);
     };
-    let mut all = List::new(alloc);
-    all.push(first.ty().share()?)?;
-    all.push(second.ty().share()?)?;
-    let ty = join(alloc, all.as_slice())?;
+    let ty = join_of_types(alloc, first, second)?;
     Ok(Some(Fact::settled(ty)))
 }
 

@@ -1,5 +1,5 @@
 -- Joins of types, of which some are joined first.
-use Rattle.std.proofs.Common.{◌≡◌, Bool, true, false, ◌||◌, List, [], ◌∷◌, ◌++◌, map, Option, unwrap_or, if◌then◌else◌, refl, sym, ap, ◌∙◌, subst, append_assoc}
+use Rattle.std.proofs.Common.{◌≡◌, Bool, true, false, ◌||◌, List, [], ◌∷◌, ◌++◌, if◌then◌else◌, refl, sym, ap, ◌∙◌, append_assoc}
 use Rattle.std.specs.List.{flat_map, list_any}
 use Rattle.std.proofs.lemmas.Cmp.{on_total, nat_list_cmp_total, eq_by_cmp_equiv}
 use Rattle.std.proofs.lemmas.List.{append-nil}
@@ -7,13 +7,7 @@ use Rattle.std.proofs.lemmas.List.Folds.{list_any-append}
 use Rattle.type_values.specs.Order.{is_same, word}
 use Rattle.type_values.specs.declared.types.FlowType.{FlowType, map-FlowType, out-roll-FlowType}
 use Rattle.type_values.specs.declared.types.FlowType as made
-use Rattle.type_values.specs.declared.types.FlowType.TheOpen.{FlowType-F, Any, Empty, Union}
-use Rattle.type_values.specs.declared.types.FlowType.TheViews.{roll-FlowType, rolls-Any, rolls-Empty, rolls-Union}
-use Rattle.type_values.specs.declared.types.FlowType.TheFolds.{para-roll-FlowType, ind-FlowType}
-use Rattle.type_values.specs.declared.types.FlowProp.{FlowProp}
-use Rattle.type_values.specs.declared.types.Param.{Param}
-use Rattle.type_terms.specs.Join.{level_parts, parts, level_is_any, is_any, firsts, one_of, joined_parts, join_of}
-use Rattle.type_terms.proofs.Parts.{parts_union, parts_empty}
+use Rattle.type_terms.specs.Join.{parts, is_any, firsts, one_of, joined_parts, join_of}
 use Rattle.type_terms.proofs.Settled.{Each, all_each, firsts_each, firsts_none, firsts_append, firsts_twice, true_or, or_true, parts_one_of, parts_any, any_is}
 
 -- ---- the parts of a type are their own parts
