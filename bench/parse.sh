@@ -1,6 +1,7 @@
 #!/usr/bin/env bash
 # Lexing and reading of modules: megabytes a second and the peak of memory, on declarations and on dense code, each from 64 KiB
-# to a megabyte, beside TypeScript's own parser; and chains of 100,000 operators, which take time in proportion.
+# to a megabyte, beside TypeScript's own parser; and chains of 100,000 operators, which take time in proportion. Both read ten times
+# before their ten measured rounds, and measure by a clock of their own; ours lets go of tokens and tree within its rounds.
 # `rt run` in crates/parse_run builds the program that it measures.
 cd "$(dirname "$0")" || exit 1
 program=../crates/parse_run/out/parse_run
@@ -11,13 +12,12 @@ node source.js >"$folder/declarations.js"
 node dense.js >"$folder/dense.js"
 
 measure() {
-    local name=$1 file=$2 bytes start end said
+    local name=$1 file=$2 bytes
     bytes=$(wc -c <"$file")
-    start=$(date +%s.%N)
-    said=$(/usr/bin/env time -f %M -o "$folder/peak" "$program" whole <"$file" | tail -1) || exit 1
-    end=$(date +%s.%N)
-    awk -v name="$name" -v bytes="$bytes" -v start="$start" -v end="$end" -v said="$said" -v peak="$(cat "$folder/peak")" \
-        'BEGIN { printf "%s: %d bytes, %s, %.1f MB/s, %.1f bytes of memory a byte\n", name, bytes, said, bytes * 10 / 1e6 / (end - start), peak * 1024 / bytes }'
+    /usr/bin/env time -f %M -o "$folder/peak" "$program" whole <"$file" >"$folder/said" || exit 1
+    tail -2 "$folder/said" | awk -v name="$name" -v bytes="$bytes" -v peak="$(cat "$folder/peak")" \
+        'NR == 1 { said = $0 }
+        NR == 2 { printf "%s: %d bytes, %s, %.1f MB/s, %.1f bytes of memory a byte\n", name, bytes, said, bytes * 10 / $1, peak * 1024 / bytes }'
 }
 
 for kind in declarations dense; do

@@ -1,4 +1,4 @@
-ghost use Rattle.std.specs.Prelude.{◌≡◌, ◌≤◌, ◌<◌, ◌+◌, ◌^◌, ◌++◌, length, drop, IfOk, OnOk};
+ghost use Rattle.std.specs.Prelude.{◌≡◌, ◌≤◌, ◌<◌, ◌+◌, ◌^◌, ◌++◌, [], length, drop, IfOk, OnOk};
 ghost use Rattle.std.specs.Str.{chars, encode_utf8_all};
 ghost use Rattle.js_lexer.specs.Cut.{byte_len, token_of};
 ghost use Rattle.js_lexer.specs.Answers.{Answers, TextAnswers};
@@ -30,7 +30,8 @@ pub fn lex(alloc: Global, source: &[u8]) -> Result<List<Token>, LexFault>
     }
 }
 
-// The text is read by its bytes. Its characters are decoded where a piece first needs them.
+// The text is read by its bytes. Its characters are decoded where a piece first needs them. There is room for a token at each
+// byte at once: the room that no token takes is not touched.
 #[tactic(auto, using(crate::proofs::Steps::some_left))]
 fn lex_text(alloc: Global, text: &str) -> Result<List<Token>, LexFault>
     requires { length text.now < 2 ^ 32 }
@@ -38,7 +39,7 @@ fn lex_text(alloc: Global, text: &str) -> Result<List<Token>, LexFault>
 {
     let mut texts = Texts::new(alloc)?;
     let mut decoded = Vec::new(alloc);
-    let mut tokens = List::new(alloc);
+    let mut tokens = with_room(alloc, text.len())?;
     let mut from = 0;
     let mut at = 0;
     while (at as usize) < text.len() {
@@ -47,6 +48,13 @@ fn lex_text(alloc: Global, text: &str) -> Result<List<Token>, LexFault>
         at += bytes;
     }
     Ok(tokens)
+}
+
+// No token, with room for so many.
+fn with_room(alloc: Global, count: usize) -> Result<List<Token>, NoMemory>
+    ensures { IfOk result (λ tokens. tokens ≡ []) }
+{
+    Ok(List::from_vec(Vec::with_capacity(alloc, count)?))
 }
 
 // Reads the piece at a place of a text, whose first byte is `at`, and puts its token behind the

@@ -1,7 +1,7 @@
 //! Reads modules, one a line with `⏎` for each end of a line, and prints of each whether its tokens are a module, or where the
 //! fault stands. A module is spelled too, and must have these tokens. The answers that it must print are those of the
-//! language's description. With a word on its command line it reads all of its input as one module instead, so many times over:
-//! `bench/parse.sh` measures it.
+//! language's description. With a word on its command line it reads all of its input as one module instead, so many times over,
+//! and once more so many times, and prints how many microseconds the latter took: `bench/parse.sh` measures it.
 #![tactic(auto)]
 
 use flow_values::NoMemory;
@@ -12,6 +12,7 @@ use js_tree::{Module, spell};
 use std::alloc::Global;
 use std::env;
 use std::io::{self, Read};
+use std::time::Instant;
 use type_parser::ParseFault;
 
 const ROUNDS: u32 = 10;
@@ -51,6 +52,14 @@ fn report_line(rt: &impl Print, alloc: Global, line: &str) -> io::Result<()> {
     report(rt, alloc, source.as_bytes(), true)
 }
 
+// Reads a source so many times over.
+fn report_rounds(rt: &impl Print, alloc: Global, source: &[u8]) -> io::Result<()> {
+    for _ in 0..ROUNDS {
+        report(rt, alloc, source, false)?;
+    }
+    Ok(())
+}
+
 // Whether there is a word on the command line.
 fn has_word(rt: &HostRuntime) -> bool {
     match env::args(rt) {
@@ -63,9 +72,10 @@ fn main(rt: HostRuntime) -> io::Result<()> {
     if has_word(&rt) {
         let mut source = Vec::new(rt.alloc());
         rt.reader().read_to_end(&mut source)?;
-        for _ in 0..ROUNDS {
-            report(&rt, rt.alloc(), source.as_slice(), false)?;
-        }
+        report_rounds(&rt, rt.alloc(), source.as_slice())?;
+        let start = Instant::now(&rt)?;
+        report_rounds(&rt, rt.alloc(), source.as_slice())?;
+        println!(rt; "{} us", start.elapsed(&rt)?.as_micros())?;
     } else {
         for line in rt.lines(rt.alloc()) {
             report_line(&rt, rt.alloc(), line?.as_str())?;

@@ -16,7 +16,7 @@ overflow_add-from c =
 
 pub loop-at-init : goal.loop-at-init
 loop-at-init c = record {
-  tokens = search rules;
+  tokens = λ more has. rw c.in_ok-tokens.ensures has;
   stuck = search rules;
   within = omega arith;
   bytes = omega arith;
