@@ -1,15 +1,25 @@
 -- The words of the command, and the statuses.
-use Rattle.std.specs.Prelude.{ℕ, ◌==◌, ◌++◌, Bool, false, not, List, [], ◌∷◌, Option, Some, None, if◌then◌else◌, codes}
+use Rattle.std.specs.Prelude.{ℕ, ◌==◌, ◌++◌, Bool, false, not, IsTrue, List, [], ◌∷◌, Option, Some, None, if◌then◌else◌, codes}
 use Rattle.flow_base.specs.Program.{Bytes}
 use Rattle.flowd_top.specs.declared.status.Status.{Status}
 use Rattle.flowd_top.specs.declared.status.Status.TheVariants.{Clean, Errors, Usage, BadLine, FolderFault, ScriptFault, SinkFault, Limit, NoMemory}
+
+-- the most modules of a run
+abbrev pub MOST_MODULES : ℕ
+MOST_MODULES = 1024
 
 -- a word that names a folder: it is not empty and does not begin with `-`
 abbrev pub is_root : Bytes → Bool
 is_root [] = false
 is_root (b ∷ word) = not (b == 45)
 
--- the place of the folder's word, or `None` where the words are not one such word
+-- the words are of the command: one word, which names a folder
+abbrev pub AreOfCommand : List Bytes → Type 0
+AreOfCommand [] = ⊥
+AreOfCommand (word ∷ []) = IsTrue (is_root word)
+AreOfCommand (word ∷ next ∷ more) = ⊥
+
+-- the place of the folder's word, or `None` where no word is the folder's
 abbrev pub root_place : List Bytes → Option ℕ
 root_place (word ∷ []) = if is_root word then Some 0 else None
 root_place _ = None

@@ -1,21 +1,24 @@
-ghost use Rattle.std.specs.Prelude.{◌≡◌, ◌≤◌, ◌<◌, ◌⊎◌, map, length, string_bytes, None, Err};
+ghost use Rattle.std.specs.Prelude.{◌≡◌, ◌≤◌, ◌<◌, ◌⊎◌, map, length, string_bytes, Err};
+ghost use Rattle.std.specs.List.{AllByRecursion};
+ghost use Rattle.flow_base.specs.Path.{IsNormalPath};
 ghost use Rattle.flow_base.specs.Program.{IsRising};
 ghost use Rattle.flow_base.specs.Causes.{raised, Counts};
 ghost use Rattle.flow_base.specs.Seen.{outside};
 ghost use Rattle.flow_base.specs.declared.outside.LastFault.TheVariants.{Listing};
 ghost use Rattle.script_print.specs.Printed.{files_line};
-ghost use Rattle.script_run.specs.Transcript.{MOST_MODULES};
-ghost use Rattle.flowd_top.specs.Words.{root_place};
+ghost use Rattle.flowd_top.specs.Words.{AreOfCommand, MOST_MODULES};
 ghost use Rattle.flowd_top.specs.Run.{Leaves, RunLeaves, WritesLast, status_after};
 
 use crate::words::usage;
 use crate::{Status, root_word};
 use flow_base::{Folder, FolderFault, List, Path, Sink, SinkFault, Source, Turnstile};
+use recheck_run::empty_heap;
 use script_print::files_line;
 use script_run::{Ended, RunFault, WalkEnd, run, write_all};
 use std::alloc::Global;
 
-const MOST_MODULES: usize = 1024;
+// The most modules.
+const MOST_MODULES: u32 = 1024;
 
 /// All that the program does: it loads the modules of the folder, and then takes the lines of the
 /// script, edits, rechecks and questions, one after the other. The words are those of the command
@@ -33,16 +36,16 @@ pub fn flowd<F: Folder, S: Source, K: Sink, T: Turnstile + Sync>(
     _turns: &T,
 ) -> Status
     // What was printed is a whole transcript with this status; after a fault of the script all of one up to the last
-    // whole line that the script gave, and after one of the sink, and at want of memory, a front of one. After a fault
-    // of the folder nothing was printed.
-    ensures printed { Leaves result (map string_bytes words.now)
+    // whole line that the script gave, and after one of the sink, and at want of memory, a front of one, with no more read
+    // faults than the folder counted. After a fault of the folder nothing was printed.
+    ensures printed { Leaves MOST_MODULES result (map string_bytes words.now)
         (outside (F.seen folder.old) (S.seen script.old) (K.seen out.old)) (outside (F.seen folder.new) (S.seen script.new) (K.seen out.new)) }
 
     // Where the words are not of the command, neither the folder nor the script is touched.
-    ensures no_command { root_place (map string_bytes words.now) ≡ None →
+    ensures no_command { (AreOfCommand (map string_bytes words.now) → ⊥) →
         (result ≡ Status.Usage) ⊎ (result ≡ Status.SinkFault) ⊎ (result ≡ Status.NoMemory) }
-    ensures no_folder { root_place (map string_bytes words.now) ≡ None → folder.new ≡ folder.old }
-    ensures no_script { root_place (map string_bytes words.now) ≡ None → script.new ≡ script.old }
+    ensures no_folder { (AreOfCommand (map string_bytes words.now) → ⊥) → folder.new ≡ folder.old }
+    ensures no_script { (AreOfCommand (map string_bytes words.now) → ⊥) → script.new ≡ script.old }
 
     // Each fault has its cause, and none is passed over: the script and the sink counted one where the status is theirs,
     // and else none. The folder counted one, its listing, where the status is its own; `printed` says how many read faults
@@ -56,21 +59,34 @@ pub fn flowd<F: Folder, S: Source, K: Sink, T: Turnstile + Sync>(
     ensures told { (F.seen folder.new).told ≡ (F.seen folder.old).told }
     ensures folder_later { (F.seen folder.old).faults ≤ (F.seen folder.new).faults }
 {
-    if root_word(words).is_none() {
+    let Some(_root) = root_word(words) else {
         return write_last(out, usage(), Status::Usage);
-    }
+    };
     let listed = match folder.list() {
         Ok(listed) => listed,
         Err(FolderFault::Failed) => return Status::FolderFault,
         Err(FolderFault::NoMemory) => return Status::NoMemory,
     };
-    if listed.len() > MOST_MODULES {
+    see_normal(listed.as_slice());
+    if listed.len() > MOST_MODULES as usize {
         return refuse_files(alloc, &listed, out);
     }
     run_over(alloc, listed, folder, script, out)
 }
 
+// Each path is a normal one.
+fn see_normal(paths: &[Path])
+    ensures { AllByRecursion IsNormalPath paths.now }
+{
+    let mut rest = paths;
+    while let [path, more @ ..] = rest {
+        let _text = path.as_str();
+        rest = more;
+    }
+}
+
 // The run over these listed paths.
+#[tactic(auto, using(crate::proofs::Endings::nothing_run))]
 fn run_over<F: Folder, S: Source, K: Sink>(
     alloc: Global,
     listed: List<Path>,
@@ -80,14 +96,17 @@ fn run_over<F: Folder, S: Source, K: Sink>(
 ) -> Status
     requires rising { IsRising listed }
     requires few { length listed ≤ MOST_MODULES }
-    ensures leaves { RunLeaves listed (outside (F.seen folder.old) (S.seen script.old) (K.seen out.old)) (outside (F.seen folder.new) (S.seen script.new) (K.seen out.new)) result }
+    ensures leaves { RunLeaves MOST_MODULES listed (outside (F.seen folder.old) (S.seen script.old) (K.seen out.old)) (outside (F.seen folder.new) (S.seen script.new) (K.seen out.new)) result }
     ensures no_folder_fault { result ≡ Status.FolderFault → ⊥ }
     ensures script_counts { Counts (result ≡ Status.ScriptFault) (S.seen script.old).faults (S.seen script.new).faults }
     ensures sink_counts { Counts (result ≡ Status.SinkFault) (K.seen out.old).faults (K.seen out.new).faults }
     ensures told { (F.seen folder.new).told ≡ (F.seen folder.old).told }
     ensures folder_later { (F.seen folder.old).faults ≤ (F.seen folder.new).faults }
 {
-    match run(alloc, listed, folder, script, out) {
+    let Ok(heap) = empty_heap(alloc, MOST_MODULES) else {
+        return Status::NoMemory;
+    };
+    match run(alloc, heap, MOST_MODULES, listed, folder, script, out) {
         Ok(ended) => status_of(ended),
         Err(RunFault::ScriptFault) => Status::ScriptFault,
         Err(RunFault::SinkFault) => Status::SinkFault,
@@ -96,7 +115,7 @@ fn run_over<F: Folder, S: Source, K: Sink>(
 }
 
 // The status of a run that came to its end.
-fn status_of(ended: Ended) -> Status
+fn status_of<W: Drop>(ended: Ended<W>) -> Status
     ensures { result ≡ status_after ended.ending ended.errors }
 {
     match ended.ending {

@@ -1,11 +1,13 @@
-ghost use Rattle.std.specs.Prelude.{◌≡◌, ◌<◌, map, length, string_bytes, IfSome};
-ghost use Rattle.flowd_top.specs.Words.{root_place, is_root, usage_line};
+ghost use Rattle.std.specs.Prelude.{◌≡◌, ◌<◌, map, length, string_bytes, IfSome, IfNone};
+ghost use Rattle.flowd_top.specs.Words.{AreOfCommand, root_place, is_root, usage_line};
 
 /// The place of the folder's word among the words of the command, without the program's own name,
 /// or `None` where they are not of the command: one word that is not empty and does not begin with
 /// `-`.
 pub fn root_word(words: &[String]) -> Option<usize>
     ensures place { result ≡ root_place (map string_bytes words.now) }
+    ensures command { IfSome result (λ _. AreOfCommand (map string_bytes words.now)) }
+    ensures no_command { IfNone result (AreOfCommand (map string_bytes words.now) → ⊥) }
     ensures within { IfSome result (λ place. place < length words.now) }
 {
     match words {

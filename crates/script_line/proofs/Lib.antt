@@ -1,1 +1,3 @@
+pub mod Commanding
+pub mod Deciding
 pub mod Nothing

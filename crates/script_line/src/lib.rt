@@ -1,8 +1,10 @@
 //! A script's lines: which bytes are which command.
 #![tactic(auto)]
 
+mod laws;
 mod line;
 mod reading;
 
+pub use laws::one_command;
 pub use line::{Ask, Line, LineFault};
 pub use reading::read_line;

@@ -1,8 +1,10 @@
 pub mod Ascii
 pub mod Commands
+pub mod Completing
 pub mod FaultPlaces
 pub mod Fronts
 pub mod Givens
+pub mod Once
 pub mod Sessions
 pub mod Walks
 pub mod Writing

@@ -1,5 +1,5 @@
 -- A heap of modules and the edits that wait, as the walk sees them.
-use Rattle.std.proofs.Common.{◌≡◌, ◌==◌, eq-eqb, ℕ, zero, suc, ◌+◌, ◌*◌, ◌-◌, ◌^◌, ◌<◌, List, [], ◌∷◌, length, false, Some, refl, sym, ap, ◌∙◌, subst, arith, inl, inr}
+use Rattle.std.proofs.Common.{◌≡◌, ◌==◌, eq-eqb, ℕ, zero, suc, ◌+◌, ◌*◌, ◌^◌, ◌<◌, List, [], ◌∷◌, length, false, Some, refl, sym, ap, ◌∙◌, subst, arith, inl, inr}
 use Rattle.std.specs.Prelude.{slice_get}
 use Rattle.std.specs.List.{AllByRecursion}
 use Rattle.std.proofs.lemmas.Option.{same_Some}
@@ -14,16 +14,17 @@ use Rattle.flow_state.specs.declared.payload.RootRow.{RootRow}
 use Rattle.flow_state.specs.declared.payload.Root.{Root}
 use Rattle.flow_state.specs.declared.payload.Payload.{Payload}
 use Rattle.flow_state.specs.declared.payload.Payload.TheVariants as payload
-use Rattle.recheck_run.specs.Wanted.{Rows, MayBecome, IsTouched, unedited}
+use Rattle.recheck_run.specs.Waiting.{Waiting}
+use Rattle.recheck_run.specs.Wanted.{Rows, MayBecome, IsTouched, unedited, to_read}
 use Rattle.recheck_run.specs.Recheck.{RecheckState, IsEmptyHeap, Rechecked, CountsReads}
 use Rattle.recheck_run.specs.declared.recheck.Outcome.{Outcome}
 use Rattle.recheck_run.specs.declared.recheck.Outcome.TheVariants as outcome
 use Rattle.script_print.specs.Printed.{done_line, fault_line, refused_line, status_answer}
-use Rattle.script_run.specs.Transcript.{Standing, with_edit, Rechecks, done, cannot_read, Turns, blank, edits, refuses, rechecks, answers}
+use Rattle.script_run.specs.Transcript.{Standing, start, with_edit, Rechecks, done, cannot_read, Turns, blank, edits, refuses, rechecks, answers}
 use Rattle.script_line.specs.declared.line.Line.{Line}
 use Rattle.script_line.specs.declared.line.Line.TheVariants as line
 use Rattle.script_line.specs.declared.line.Ask.TheVariants as ask
-use Rattle.script_run.specs.Session.{modules_in, program_in, program_with, modules_of, standing_of, HasErrors, HasRechecked, HasTurned, HasEdited, Prints}
+use Rattle.script_run.specs.Session.{modules_in, program_in, program_with, modules_of, Held, held, standing_of, standing_in, HasErrors, HasRechecked, HasTurned, HasEdited, Prints}
 
 -- ---- counts
 
@@ -119,6 +120,11 @@ rechecks_not s s' path line before now touched is prints rose = record {
 pub empty_program : (m : Meaning Payload) (modules : ℕ) → IsEmptyHeap m modules → program_in m.committed ≡ []
 empty_program m modules empty = ap program_with (first_modules m.committed (payload.Root empty.commits.0) empty.commits.1) ∙ empty.commits.2
 
+-- a session over it, with these paths to be read, stands at the start
+pub begins_empty : (m : Meaning Payload) (modules : ℕ) (waiting : Waiting) (listed : List Bytes) → IsEmptyHeap m modules → waiting ≡ record { rows = to_read listed; capacity = modules } → standing_of m waiting ≡ start listed
+begins_empty m modules waiting listed empty is =
+    same_standing (program_in m.committed) [] m.version 0 waiting.rows (to_read listed) (empty_program m modules empty) empty.version (ap (λ (w : Waiting). w.rows) is)
+
 -- a recheck of the heap is one of the walk
 heap_rechecked : (before now : RecheckState) (o : Outcome) (version : ℕ) (line : Bytes) → Rechecked before now o → CountsReads before.folder now.folder o → before.folder.faults < 2 ^ 64 → version ≡ now.heap.version
     → Prints o version line → HasRechecked (standing_of before.heap before.edits) (standing_of now.heap now.edits) line before.folder now.folder
@@ -139,38 +145,38 @@ heap_rechecked before now (outcome.ReadFault path) version line recheck reads bo
     reads.0
 heap_rechecked before now outcome.NoMemory version line recheck reads bounded is prints = absurd prints
 
-pub rechecked : (before now : RecheckState) (s : Standing) (o : Outcome) (version : ℕ) (line : Bytes) → standing_of before.heap before.edits ≡ s → Rechecked before now o → CountsReads before.folder now.folder o
-    → before.folder.faults < 2 ^ 64 → version ≡ now.heap.version → Prints o version line → HasRechecked s (standing_of now.heap now.edits) line before.folder now.folder
-rechecked before now s o version line at recheck reads bounded is prints =
-    subst (λ t. HasRechecked t (standing_of now.heap now.edits) line before.folder now.folder) at (heap_rechecked before now o version line recheck reads bounded is prints)
+pub rechecked : (before now : RecheckState) (h : Held) (o : Outcome) (version : ℕ) (line : Bytes) → held before.heap before.edits ≡ h → Rechecked before now o → CountsReads before.folder now.folder o
+    → before.folder.faults < 2 ^ 64 → version ≡ now.heap.version → Prints o version line → HasRechecked (standing_in h) (standing_of now.heap now.edits) line before.folder now.folder
+rechecked before now h o version line at recheck reads bounded is prints =
+    subst (λ (g : Held). HasRechecked (standing_in g) (standing_of now.heap now.edits) line before.folder now.folder) at (heap_rechecked before now o version line recheck reads bounded is prints)
 
 -- ---- turns
 
-of_turn : (said line : Line) (s s' : Standing) (printed more : Bytes) (faults : ℕ) (before now : FolderSeen) → said ≡ line → more ≡ printed → Turns before.told line s s' faults printed
-    → RoseBy faults before.faults now.faults → HasTurned said s s' more before now
-of_turn said line s s' printed more faults before now is same turns counted = record {
+of_turn : (most : ℕ) (said line : Line) (s s' : Standing) (printed more : Bytes) (faults : ℕ) (before now : FolderSeen) → said ≡ line → more ≡ printed → Turns most before.told line s s' faults printed
+    → RoseBy faults before.faults now.faults → HasTurned most said s s' more before now
+of_turn most said line s s' printed more faults before now is same turns counted = record {
   faults = faults;
-  turns = subst (λ l. Turns before.told l s s' faults more) (sym is) (subst (λ p. Turns before.told line s s' faults p) (sym same) turns);
+  turns = subst (λ l. Turns most before.told l s s' faults more) (sym is) (subst (λ p. Turns most before.told line s s' faults p) (sym same) turns);
   counted = counted;
 }
 
-pub turned_blank : (said : Line) (s : Standing) (printed : Bytes) (now : FolderSeen) → now.faults < 2 ^ 64 → said ≡ line.Blank → printed ≡ [] → HasTurned said s s printed now now
-turned_blank said s printed now bounded is none = of_turn said line.Blank s s [] printed 0 now now is none (blank s) (rose_none now.faults now.faults bounded refl)
+pub turned_blank : (most : ℕ) (said : Line) (s : Standing) (printed : Bytes) (now : FolderSeen) → now.faults < 2 ^ 64 → said ≡ line.Blank → printed ≡ [] → HasTurned most said s s printed now now
+turned_blank most said s printed now bounded is none = of_turn most said line.Blank s s [] printed 0 now now is none (blank s) (rose_none now.faults now.faults bounded refl)
 
-pub turned_edit : (said : Line) (path text : Bytes) (s s' : Standing) (printed : Bytes) (now : FolderSeen) → now.faults < 2 ^ 64 → said ≡ line.Edit path text → HasEdited path text s s' printed
-    → HasTurned said s s' printed now now
-turned_edit said path text s s' printed now bounded is (inl (few, same, none)) =
-    of_turn said (line.Edit path text) s s' [] printed 0 now now is none (subst (λ t. Turns now.told (line.Edit path text) s t 0 []) (sym same) (edits s path text few)) (rose_none now.faults now.faults bounded refl)
-turned_edit said path text s s' printed now bounded is (inr (many, same, refused)) =
-    of_turn said (line.Edit path text) s s' (refused_line (length (with_edit s path text).rows)) printed 0 now now is refused
-    (subst (λ t. Turns now.told (line.Edit path text) s t 0 (refused_line (length (with_edit s path text).rows))) (sym same) (refuses s path text many)) (rose_none now.faults now.faults bounded refl)
+pub turned_edit : (most : ℕ) (said : Line) (path text : Bytes) (s s' : Standing) (printed : Bytes) (now : FolderSeen) → now.faults < 2 ^ 64 → said ≡ line.Edit path text → HasEdited most path text s s' printed
+    → HasTurned most said s s' printed now now
+turned_edit most said path text s s' printed now bounded is (inl (few, same, none)) =
+    of_turn most said (line.Edit path text) s s' [] printed 0 now now is none (subst (λ t. Turns most now.told (line.Edit path text) s t 0 []) (sym same) (edits s path text few)) (rose_none now.faults now.faults bounded refl)
+turned_edit most said path text s s' printed now bounded is (inr (many, same, refused)) =
+    of_turn most said (line.Edit path text) s s' (refused_line (length (with_edit s path text).rows)) printed 0 now now is refused
+    (subst (λ t. Turns most now.told (line.Edit path text) s t 0 (refused_line (length (with_edit s path text).rows))) (sym same) (refuses s path text many)) (rose_none now.faults now.faults bounded refl)
 
-pub turned_recheck : (said : Line) (s s' : Standing) (text printed : Bytes) (before now : FolderSeen) → said ≡ line.Recheck → printed ≡ text → HasRechecked s s' text before now
-    → HasTurned said s s' printed before now
-turned_recheck said s s' text printed before now is same recheck =
-    of_turn said line.Recheck s s' text printed recheck.faults before now is same (rechecks s s' recheck.faults text recheck.rechecks) recheck.counted
+pub turned_recheck : (most : ℕ) (said : Line) (s s' : Standing) (text printed : Bytes) (before now : FolderSeen) → said ≡ line.Recheck → printed ≡ text → HasRechecked s s' text before now
+    → HasTurned most said s s' printed before now
+turned_recheck most said s s' text printed before now is same recheck =
+    of_turn most said line.Recheck s s' text printed recheck.faults before now is same (rechecks s s' recheck.faults text recheck.rechecks) recheck.counted
 
-pub turned_status : (said : Line) (s : Standing) (printed : Bytes) (now : FolderSeen) → now.faults < 2 ^ 64 → said ≡ line.Ask ask.Status → printed ≡ status_answer s.version s.program
-    → HasTurned said s s printed now now
-turned_status said s printed now bounded is same =
-    of_turn said (line.Ask ask.Status) s s (status_answer s.version s.program) printed 0 now now is same (answers s) (rose_none now.faults now.faults bounded refl)
+pub turned_status : (most : ℕ) (said : Line) (s : Standing) (printed : Bytes) (now : FolderSeen) → now.faults < 2 ^ 64 → said ≡ line.Ask ask.Status → printed ≡ status_answer s.version s.program
+    → HasTurned most said s s printed now now
+turned_status most said s printed now bounded is same =
+    of_turn most said (line.Ask ask.Status) s s (status_answer s.version s.program) printed 0 now now is same (answers s) (rose_none now.faults now.faults bounded refl)

@@ -10,11 +10,12 @@ use Rattle.flow_model.specs.Errors.{full1, error_count}
 use Rattle.script_line.specs.declared.line.Line.{Line}
 use Rattle.script_reader.specs.Lines.{lines_left, TakesLine}
 use Rattle.script_run.specs.declared.ending.WalkEnd.{WalkEnd}
-use Rattle.script_run.specs.Transcript.{Standing, start, Rechecks, done, cannot_read, Turns, blank, edits, refuses, rechecks, answers, loads, goes, Ends, last_line, IsRun, IsRunSoFar, nothing, so_far, whole}
+use Rattle.script_run.specs.Transcript.{Standing, start, Rechecks, done, cannot_read, Turns, blank, edits, refuses, rechecks, answers, loads, goes, Ends, last_line, IsRun, IsRunSoFar}
 use Rattle.script_run.specs.Session.{HasRechecked, HasTurned}
 use Rattle.script_run.specs.declared.command.Command.{Command}
 use Rattle.script_run.specs.declared.command.Command.TheVariants as command
-use Rattle.script_run.specs.Steps.{WalkState, Reads, IsTaken, HasEnd, Takes, Closes, Breaks, silent, in_turn, in_end, BreaksOff, unsaid, begun, HasLoaded, BreaksLoad, unsaid_load, begun_load, HasWalked, HasRun, TookAllGiven, HasStopped, HasFront}
+use Rattle.script_run.specs.Steps.{WalkState, Reads, IsTaken, HasEnd, RoseByAtLeast, Takes, Closes, Breaks, silent, in_turn, in_end, BreaksOff, unsaid, begun, HasLoaded, BreaksLoad, unsaid_load, begun_load, HasWalked, HasRun, TookAllGiven, HasStopped, HasFront}
+use Rattle.script_run.proofs.Completing.{front_longer, goes_on, some_run}
 use Rattle.script_run.proofs.Fronts.{front_none, front_all, front_behind}
 use Rattle.script_run.proofs.Writing.{appended_twice}
 
@@ -23,13 +24,20 @@ use Rattle.script_run.proofs.Writing.{appended_twice}
 rose_both : (f g before between now : ℕ) → RoseBy f before between → RoseBy g between now → RoseBy (f + g) before now
 rose_both f g before between now first second = omega (arith, first, second)
 
+rose_least : (f before now : ℕ) → RoseBy f before now → RoseByAtLeast f before now
+rose_least f before now rose = omega (arith, rose)
+
+-- a count that rose by so many, and then maybe more
+rose_more : (f before between now : ℕ) → RoseBy f before between → between ≤ now → RoseByAtLeast f before now
+rose_more f before between now rose later = omega (arith, rose, later)
+
 -- ---- versions
 
 recheck_version : {told : Option Program} {s t : Standing} {f : ℕ} {printed : Bytes} → Rechecks told s t f printed → t.version ≤ s.version + 1
 recheck_version (done s program may) = omega arith
 recheck_version (cannot_read s path touched) = omega arith
 
-turn_version : {told : Option Program} {said : Line} {s t : Standing} {f : ℕ} {printed : Bytes} → Turns told said s t f printed → t.version ≤ s.version + 1
+turn_version : {most : ℕ} {told : Option Program} {said : Line} {s t : Standing} {f : ℕ} {printed : Bytes} → Turns most told said s t f printed → t.version ≤ s.version + 1
 turn_version (blank s) = omega arith
 turn_version (edits s path text few) = omega arith
 turn_version (refuses s path text many) = omega arith
@@ -71,27 +79,36 @@ some_of o x P is holds = subst (λ o. IfSome o P) is holds
 pub none_of : {A : Type 0} (o : Option A) (P : Type 0) → o ≡ None → IfNone o P → P
 none_of o P is holds = subst (λ o. IfNone o P) is holds
 
-pub breaks_off : (said : Line) (before now : WalkState) (piece printed : Bytes) (held : Option Bytes) → piece ≡ printed → HoldsFront before.out.written held piece
-    → HasTurned said before.standing now.standing printed before.folder now.folder → BreaksOff said before held
-breaks_off said before now piece printed held is front turned = begun now.standing turned.faults printed turned.turns (subst (λ p. HoldsFront before.out.written held p) is front)
+pub breaks_off : (most : ℕ) (said : Line) (before now : WalkState) (piece printed : Bytes) (held : Option Bytes) → piece ≡ printed → HoldsFront before.out.written held piece
+    → HasTurned most said before.standing now.standing printed before.folder now.folder → BreaksOff most said before now.folder held
+breaks_off most said before now piece printed held is front turned = begun now.standing printed turned (subst (λ p. HoldsFront before.out.written held p) is front)
 
 pub breaks_load : (before now : WalkState) (s : Standing) (piece printed : Bytes) (held : Option Bytes) → s ≡ before.standing → piece ≡ printed → HoldsFront before.out.written held piece
-    → HasRechecked s now.standing printed before.folder now.folder → BreaksLoad before held
+    → HasRechecked s now.standing printed before.folder now.folder → BreaksLoad before now.folder held
 breaks_load before now s piece printed held is same front recheck =
-    begun_load now.standing recheck.faults printed (subst (λ t. Rechecks before.folder.told t now.standing recheck.faults printed) is recheck.rechecks) (subst (λ p. HoldsFront before.out.written held p) same front)
+    begun_load now.standing printed (subst (λ t. HasRechecked t now.standing printed before.folder now.folder) is recheck) (subst (λ p. HoldsFront before.out.written held p) same front)
 
-pub breaks_turn : (next : Command) (said : Line) (taken : ℕ) (lines lines' : Option (List Bytes)) (before : WalkState) (held : Option Bytes) → next ≡ command.Takes said
-    → Reads next taken lines lines' → BreaksOff said before held → Breaks taken lines before held
-breaks_turn next said taken lines lines' before held is reads off = in_turn said lines' (subst (λ n. Reads n taken lines lines') is reads) off
+-- a load from the start
+pub loaded_from : (before now : WalkState) (s : Standing) (piece printed : Bytes) → s ≡ before.standing → piece ≡ printed → HasRechecked s now.standing printed before.folder now.folder
+    → now.out.written ≡ appended before.out.written piece → HasLoaded before now
+loaded_from before now s piece printed is same recheck written = record {
+  printed = printed;
+  load = subst (λ t. HasRechecked t now.standing printed before.folder now.folder) is recheck;
+  written = written ∙ ap (appended before.out.written) same;
+}
 
-pub breaks_end : (next : Command) (how : WalkEnd) (taken : ℕ) (lines lines' : Option (List Bytes)) (before : WalkState) (held : Option Bytes) → next ≡ command.Ends how
-    → Reads next taken lines lines' → HoldsFront before.out.written held (last_line (taken + 1) how) → Breaks taken lines before held
-breaks_end next how taken lines lines' before held is reads front = in_end how (subst (λ n. Reads n taken lines lines') is reads) front
+pub breaks_turn : (most : ℕ) (next : Command) (said : Line) (taken : ℕ) (lines lines' : Option (List Bytes)) (before : WalkState) (folder : FolderSeen) (held : Option Bytes) → next ≡ command.Takes said
+    → Reads next taken lines lines' → BreaksOff most said before folder held → Breaks most taken lines before folder held
+breaks_turn most next said taken lines lines' before folder held is reads off = in_turn said lines' (subst (λ n. Reads n taken lines lines') is reads) off
+
+pub breaks_end : (most : ℕ) (next : Command) (how : WalkEnd) (taken : ℕ) (lines lines' : Option (List Bytes)) (before : WalkState) (folder : FolderSeen) (held : Option Bytes) → next ≡ command.Ends how
+    → Reads next taken lines lines' → HoldsFront before.out.written held (last_line (taken + 1) how) → Breaks most taken lines before folder held
+breaks_end most next how taken lines lines' before folder held is reads front = in_end how (subst (λ n. Reads n taken lines lines') is reads) front
 
 -- ---- the walk
 
-module _ (listed : List Bytes) (script : Option (List Bytes)) (before : WalkState) where
-  pub begin : (now : WalkState) → before.standing ≡ start listed → HasLoaded before now → HasWalked listed script script 0 before now
+module _ (most : ℕ) (listed : List Bytes) (script : Option (List Bytes)) (before : WalkState) where
+  pub begin : (now : WalkState) → before.standing ≡ start listed → HasLoaded before now → HasWalked most listed script script 0 before now
   begin now is loaded = record {
     lines = [];
     number = refl;
@@ -104,8 +121,8 @@ module _ (listed : List Bytes) (script : Option (List Bytes)) (before : WalkStat
     version = omega (arith, recheck_version loaded.load.rechecks, ap (λ (s : Standing). s.version) is);
   }
 
-  pub more : (left left' : Option (List Bytes)) (n : ℕ) (mid now : WalkState) → mid.folder.told ≡ before.folder.told → HasWalked listed script left n before mid → Takes n left left' mid now
-      → HasWalked listed script left' (n + 1) before now
+  pub more : (left left' : Option (List Bytes)) (n : ℕ) (mid now : WalkState) → mid.folder.told ≡ before.folder.told → HasWalked most listed script left n before mid → Takes most n left left' mid now
+      → HasWalked most listed script left' (n + 1) before now
   more left left' n mid now same walked takes =
       let is = takes.is in
       let turned = takes.answered.turned in
@@ -117,24 +134,23 @@ module _ (listed : List Bytes) (script : Option (List Bytes)) (before : WalkStat
         printed = walked.printed ++ takes.answered.printed;
         walk =
             goes walked.lines mid.standing walked.read_faults walked.printed is.bytes takes.said now.standing turned.faults takes.answered.printed walked.walk (omega (arith, walked.number, is.few)) is.short is.says
-            (subst (λ told. Turns told takes.said mid.standing now.standing turned.faults takes.answered.printed) same turned.turns);
+            (subst (λ told. Turns most told takes.said mid.standing now.standing turned.faults takes.answered.printed) same turned.turns);
         written = takes.answered.written ∙ ap (λ held. appended held takes.answered.printed) walked.written ∙ appended_twice before.out.written walked.printed takes.answered.printed;
         counted = rose_both walked.read_faults turned.faults before.folder.faults mid.folder.faults now.folder.faults walked.counted turned.counted;
         version = omega (arith, walked.version, turn_version turned.turns);
       }
 
-  so_far_of : (left : Option (List Bytes)) (n : ℕ) (now : WalkState) (walked : HasWalked listed script left n before now) → IsRunSoFar before.folder.told listed script walked.read_faults walked.printed
+  so_far_of : (left : Option (List Bytes)) (n : ℕ) (now : WalkState) (walked : HasWalked most listed script left n before now) → IsRunSoFar most before.folder.told listed script walked.read_faults walked.printed
   so_far_of left n now walked =
       let rest = some_rest left in
       record { taken = walked.lines; rest = rest.0; lines = told_lines script left walked.lines rest.0 walked.leaves rest.1; standing = now.standing; walk = walked.walk }
 
-  run_of : (left : Option (List Bytes)) (n : ℕ) (now : WalkState) (how : WalkEnd) (walked : HasWalked listed script left n before now) → HasEnd how n left
-      → IsRun before.folder.told listed script walked.read_faults (walked.printed ++ last_line (n + 1) how) how now.standing.program
+  run_of : (left : Option (List Bytes)) (n : ℕ) (now : WalkState) (how : WalkEnd) (walked : HasWalked most listed script left n before now) → HasEnd how n left
+      → IsRun most before.folder.told listed script walked.read_faults (walked.printed ++ last_line (n + 1) how) how now.standing.program now.standing.version
   run_of left n now how walked end = record {
     taken = walked.lines;
     rest = end.rest;
     lines = told_lines script left walked.lines end.rest walked.leaves end.lines;
-    version = now.standing.version;
     rows = now.standing.rows;
     before = walked.printed;
     walk = walked.walk;
@@ -148,89 +164,119 @@ module _ (listed : List Bytes) (script : Option (List Bytes)) (before : WalkStat
 abbrev pub outside_at : WalkState → SourceSeen → Outside
 outside_at at script = record { folder = at.folder; script = script; out = at.out }
 
-module _ (listed : List Bytes) (before : WalkState) (source : SourceSeen) where
+module _ (most : ℕ) (listed : List Bytes) (before : WalkState) (source : SourceSeen) where
   abbrev lines : Option (List Bytes)
   lines = lines_left [] source.left
 
   abbrev first : Outside
   first = outside_at before source
 
-  pub finishes : (left : Option (List Bytes)) (n : ℕ) (mid now : WalkState) (source' : SourceSeen) (how : WalkEnd) (errors : ℕ) → errors ≡ error_count (full1 mid.standing.program) →
-      HasWalked listed lines left n before mid → Closes how n left mid now → HasRun listed how errors first (outside_at now source')
+  pub finishes : (left : Option (List Bytes)) (n : ℕ) (mid now : WalkState) (source' : SourceSeen) (how : WalkEnd) (errors : ℕ) → errors ≡ error_count (full1 now.standing.program) →
+      HasWalked most listed lines left n before mid → Closes how n left mid now → HasRun most listed how errors now.standing.program now.standing.version first (outside_at now source')
   finishes left n mid now source' how errors counts walked closes = record {
     read_faults = walked.read_faults;
     printed = walked.printed ++ last_line (n + 1) how;
-    program = mid.standing.program;
-    run = run_of listed lines before left n mid how walked closes.is;
+    run =
+        subst (λ (s : Standing). IsRun most before.folder.told listed lines walked.read_faults (walked.printed ++ last_line (n + 1) how) how s.program s.version) (sym closes.standing)
+        (run_of most listed lines before left n mid how walked closes.is);
     written = closes.written ∙ ap (λ held. appended held (last_line (n + 1) how)) walked.written ∙ appended_twice before.out.written walked.printed (last_line (n + 1) how);
     counted = ap (λ (f : FolderSeen). f.faults) closes.folder ∙ walked.counted;
     counts = counts;
   }
 
-  pub front_of_run : (how : WalkEnd) (errors : ℕ) (now : Outside) → HasRun listed how errors first now → HasFront listed first now
-  front_of_run how errors now run =
-      record { printed = run.printed; prints = whole run.read_faults run.printed how run.program run.run; front = front_all before.out.written now.out.written run.printed run.written }
-
-  pub front_of_walk : (left : Option (List Bytes)) (n : ℕ) (mid : WalkState) (now : Outside) → now.out.written ≡ mid.out.written → HasWalked listed lines left n before mid → HasFront listed first now
-  front_of_walk left n mid now same walked = record {
-    printed = walked.printed;
-    prints = so_far walked.read_faults walked.printed (so_far_of listed lines before left n mid walked);
-    front = front_all before.out.written now.out.written walked.printed (same ∙ walked.written);
+  pub front_of_run : (how : WalkEnd) (errors : ℕ) (program : Program) (version : ℕ) (now : Outside) → HasRun most listed how errors program version first now → HasFront most listed first now
+  front_of_run how errors program version now run = record {
+    read_faults = run.read_faults;
+    printed = run.printed;
+    how = how;
+    program = program;
+    version = version;
+    run = run.run;
+    front = front_all before.out.written now.out.written run.printed run.written;
+    counted = rose_least run.read_faults before.folder.faults now.folder.faults run.counted;
   }
 
-  front_of_turn : (left left' : Option (List Bytes)) (n : ℕ) (mid : WalkState) (now : Outside) (said : Line) → mid.folder.told ≡ before.folder.told → HasWalked listed lines left n before mid → IsTaken said n left left'
-      → BreaksOff said mid now.out.written → HasFront listed first now
-  front_of_turn left left' n mid now said told walked is (unsaid same) = front_of_walk left n mid now same walked
-  front_of_turn left left' n mid now said told walked is (begun s f printed turns front) =
+  -- a front of what was printed up to a line
+  front_so_far : (now : Outside) (faults : ℕ) (printed : Bytes) → IsRunSoFar most before.folder.told listed lines faults printed → HoldsFront before.out.written now.out.written printed
+      → RoseByAtLeast faults before.folder.faults now.folder.faults → HasFront most listed first now
+  front_so_far now faults printed run front counted = let on = goes_on most before.folder.told listed lines faults printed run in record {
+    read_faults = faults;
+    printed = printed ++ on.more;
+    how = on.how;
+    program = on.program;
+    version = on.version;
+    run = on.run;
+    front = front_longer before.out.written now.out.written printed on.more front;
+    counted = counted;
+  }
+
+  pub front_of_walk : (left : Option (List Bytes)) (n : ℕ) (mid : WalkState) (now : Outside) → now.out.written ≡ mid.out.written → mid.folder.faults ≤ now.folder.faults → HasWalked most listed lines left n before mid
+      → HasFront most listed first now
+  front_of_walk left n mid now same later walked =
+      front_so_far now walked.read_faults walked.printed (so_far_of most listed lines before left n mid walked) (front_all before.out.written now.out.written walked.printed (same ∙ walked.written))
+      (rose_more walked.read_faults before.folder.faults mid.folder.faults now.folder.faults walked.counted later)
+
+  front_of_turn : (left left' : Option (List Bytes)) (n : ℕ) (mid : WalkState) (now : Outside) (said : Line) → mid.folder.told ≡ before.folder.told → mid.folder.faults ≤ now.folder.faults
+      → HasWalked most listed lines left n before mid → IsTaken said n left left' → BreaksOff most said mid now.folder now.out.written → HasFront most listed first now
+  front_of_turn left left' n mid now said told later walked is (unsaid same) = front_of_walk left n mid now same later walked
+  front_of_turn left left' n mid now said told later walked is (begun s printed turned front) =
       let rest = some_rest left' in
-      record {
-        printed = walked.printed ++ printed;
-        prints = so_far (walked.read_faults + f) (walked.printed ++ printed) (record {
-          taken = walked.lines ++ is.bytes ∷ [];
-          rest = rest.0;
-          lines = told_lines lines left' (walked.lines ++ is.bytes ∷ []) rest.0 (one_more lines left left' walked.lines is.bytes walked.leaves is.takes) rest.1;
-          standing = s;
-          walk =
-              goes walked.lines mid.standing walked.read_faults walked.printed is.bytes said s f printed walked.walk (omega (arith, walked.number, is.few)) is.short is.says
-              (subst (λ t. Turns t said mid.standing s f printed) told turns);
-        });
-        front = front_behind before.out.written mid.out.written now.out.written walked.printed printed walked.written front;
-      }
+      front_so_far now (walked.read_faults + turned.faults) (walked.printed ++ printed) (record {
+        taken = walked.lines ++ is.bytes ∷ [];
+        rest = rest.0;
+        lines = told_lines lines left' (walked.lines ++ is.bytes ∷ []) rest.0 (one_more lines left left' walked.lines is.bytes walked.leaves is.takes) rest.1;
+        standing = s;
+        walk =
+            goes walked.lines mid.standing walked.read_faults walked.printed is.bytes said s turned.faults printed walked.walk (omega (arith, walked.number, is.few)) is.short is.says
+            (subst (λ t. Turns most t said mid.standing s turned.faults printed) told turned.turns);
+      }) (front_behind before.out.written mid.out.written now.out.written walked.printed printed walked.written front)
+      (rose_least (walked.read_faults + turned.faults) before.folder.faults now.folder.faults
+      (rose_both walked.read_faults turned.faults before.folder.faults mid.folder.faults now.folder.faults walked.counted turned.counted))
 
-  pub front_of_break : (left : Option (List Bytes)) (n : ℕ) (mid : WalkState) (now : Outside) → mid.folder.told ≡ before.folder.told → HasWalked listed lines left n before mid → Breaks n left mid now.out.written
-      → HasFront listed first now
-  front_of_break left n mid now told walked (silent same) = front_of_walk left n mid now same walked
-  front_of_break left n mid now told walked (in_turn said left' is off) = front_of_turn left left' n mid now said told walked is off
-  front_of_break left n mid now told walked (in_end how end front) = record {
+  pub front_of_break : (left : Option (List Bytes)) (n : ℕ) (mid : WalkState) (now : Outside) → mid.folder.told ≡ before.folder.told → mid.folder.faults ≤ now.folder.faults → HasWalked most listed lines left n before mid
+      → Breaks most n left mid now.folder now.out.written → HasFront most listed first now
+  front_of_break left n mid now told later walked (silent same) = front_of_walk left n mid now same later walked
+  front_of_break left n mid now told later walked (in_turn said left' is off) = front_of_turn left left' n mid now said told later walked is off
+  front_of_break left n mid now told later walked (in_end how end front) = record {
+    read_faults = walked.read_faults;
     printed = walked.printed ++ last_line (n + 1) how;
-    prints = whole walked.read_faults (walked.printed ++ last_line (n + 1) how) how mid.standing.program (run_of listed lines before left n mid how walked end);
+    how = how;
+    program = mid.standing.program;
+    version = mid.standing.version;
+    run = run_of most listed lines before left n mid how walked end;
     front = front_behind before.out.written mid.out.written now.out.written walked.printed (last_line (n + 1) how) walked.written front;
+    counted = rose_more walked.read_faults before.folder.faults mid.folder.faults now.folder.faults walked.counted later;
   }
 
-  pub front_of_load : (now : Outside) → before.standing ≡ start listed → BreaksLoad before now.out.written → HasFront listed first now
-  front_of_load now is (unsaid_load same) = record { printed = []; prints = nothing; front = front_none before.out.written now.out.written [] same }
-  front_of_load now is (begun_load s f printed load front) =
+  pub front_of_load : (now : Outside) → before.standing ≡ start listed → before.folder.faults ≤ now.folder.faults → BreaksLoad before now.folder now.out.written → HasFront most listed first now
+  front_of_load now is later (unsaid_load same) = let run = some_run most before.folder.told listed lines in let on = run.3 in record {
+    read_faults = run.0;
+    printed = run.2 ++ on.more;
+    how = on.how;
+    program = on.program;
+    version = on.version;
+    run = on.run;
+    front = front_none before.out.written now.out.written (run.2 ++ on.more) same;
+    counted = omega (arith, later, run.1);
+  }
+  front_of_load now is later (begun_load s printed load front) =
       let rest = some_rest lines in
-      record {
-        printed = printed;
-        prints = so_far f printed (record {
-          taken = [];
-          rest = rest.0;
-          lines = rest.1;
-          standing = s;
-          walk = loads s f printed (subst (λ t. Rechecks before.folder.told t s f printed) is load);
-        });
-        front = front;
-      }
+      front_so_far now load.faults printed (record {
+        taken = [];
+        rest = rest.0;
+        lines = rest.1;
+        standing = s;
+        walk = loads s load.faults printed (subst (λ t. Rechecks before.folder.told t s load.faults printed) is load.rechecks);
+      }) front (rose_least load.faults before.folder.faults now.folder.faults load.counted)
 
   -- the script failed, where neither the folder nor the sink was used any more
-  pub stops : (left : Option (List Bytes)) (n : ℕ) (mid : WalkState) (now : Outside) → now.folder ≡ mid.folder → now.out ≡ mid.out → (walked : HasWalked listed lines left n before mid)
-      → TookAllGiven walked.lines source.left now.script.left → HasStopped listed first now
+  pub stops : (left : Option (List Bytes)) (n : ℕ) (mid : WalkState) (now : Outside) → now.folder ≡ mid.folder → now.out ≡ mid.out → (walked : HasWalked most listed lines left n before mid)
+      → TookAllGiven walked.lines source.left now.script.left → HasStopped most listed first now
   unfolding so_far_of
   stops left n mid now unread unwritten walked took = record {
     read_faults = walked.read_faults;
     printed = walked.printed;
-    run = so_far_of listed lines before left n mid walked;
+    run = so_far_of most listed lines before left n mid walked;
     took_all = took;
     written = ap (λ (k : SinkSeen). k.written) unwritten ∙ walked.written;
     counted = ap (λ (f : FolderSeen). f.faults) unread ∙ walked.counted;

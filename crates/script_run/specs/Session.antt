@@ -5,7 +5,7 @@ use Rattle.flow_base.specs.Program.{Bytes, Program}
 use Rattle.flow_base.specs.Seen.{FolderSeen}
 use Rattle.flow_model.specs.Errors.{errors1}
 use Rattle.flow_model.specs.declared.fault.Fault.{Fault}
-use Rattle.heap_core.specs.Meaning.{Meaning}
+use Rattle.heap_core.specs.Meaning.{Meaning, AllFit, IsSound}
 use Rattle.flow_state.specs.State.{program_of, errors_place}
 use Rattle.flow_state.specs.declared.payload.RootRow.{RootRow}
 use Rattle.flow_state.specs.declared.payload.Payload.{Payload}
@@ -16,7 +16,7 @@ use Rattle.recheck_run.specs.declared.recheck.Outcome.{Outcome}
 use Rattle.recheck_run.specs.declared.recheck.Outcome.TheVariants as outcome
 use Rattle.source_place.specs.Place.{IsPlace}
 use Rattle.script_line.specs.declared.line.Line.{Line}
-use Rattle.script_run.specs.Transcript.{Standing, MOST_MODULES, with_edit, Rechecks, Turns}
+use Rattle.script_run.specs.Transcript.{Standing, with_edit, Rechecks, Turns}
 use Rattle.script_print.specs.Printed.{done_line, fault_line, refused_line}
 
 -- the rows of the root of a state
@@ -50,11 +50,26 @@ program_in state = program_with (modules_in state)
 abbrev pub standing_of : Meaning Payload → Waiting → Standing
 standing_of m waiting = record { program = program_in m.committed; version = m.version; rows = waiting.rows }
 
+-- what a session holds: what its heap means, and the edits that wait
+pub record Held : Type 0 where
+  pub heap : Meaning Payload
+  pub waiting : Waiting
+
+abbrev pub held : Meaning Payload → Waiting → Held
+held heap waiting = record { heap = heap; waiting = waiting }
+
+-- where the walk of a session stands
+abbrev pub standing_in : Held → Standing
+standing_in h = standing_of h.heap h.waiting
+
 -- no transaction is open, and there is room for as many modules as there may be
-pub record IsReady (m : Meaning Payload) (waiting : Waiting) : Type 0 where
-  pub closed : m.is_open ≡ false
-  pub room : HasRoom m MOST_MODULES
-  pub capacity : waiting.capacity ≡ MOST_MODULES
+pub record IsReady (h : Held) : Type 0 where
+  pub closed : h.heap.is_open ≡ false
+  pub room : HasRoom h.heap h.waiting.capacity
+
+-- what is committed has a root, and fits it
+pub may_be_read : {P : Type 0} {fits : ℕ → P → ℕ → P → Type 0} {m : Meaning P} → IsSound fits m → (0 < length m.committed) × AllFit fits m.committed
+may_be_read sound = (sound.some_entity, sound.fit)
 
 -- the errors of this module stand in the state, at a place that has a number
 pub record HasErrors (state : List Payload) (m : RootRow) : Type 0 where
@@ -72,16 +87,16 @@ pub record HasRechecked (s s' : Standing) (printed : Bytes) (before now : Folder
   pub counted : RoseBy faults before.faults now.faults
 
 -- the same of a line of the script
-pub record HasTurned (line : Line) (s s' : Standing) (printed : Bytes) (before now : FolderSeen) : Type 0 where
+pub record HasTurned (most : ℕ) (line : Line) (s s' : Standing) (printed : Bytes) (before now : FolderSeen) : Type 0 where
   pub faults : ℕ
-  pub turns : Turns before.told line s s' faults printed
+  pub turns : Turns most before.told line s s' faults printed
   pub counted : RoseBy faults before.faults now.faults
 
--- an edit joined the others, or was refused and changed nothing; what this prints
-abbrev pub HasEdited : Bytes → Bytes → Standing → Standing → Bytes → Type 0
-HasEdited path text s s' printed =
-    ((length (with_edit s path text).rows ≤ MOST_MODULES) × (s' ≡ with_edit s path text) × (printed ≡ []))
-    ⊎ ((MOST_MODULES < length (with_edit s path text).rows) × (s' ≡ s) × (printed ≡ refused_line (length (with_edit s path text).rows)))
+-- an edit joined the others, or was refused since the modules would be more than these and changed nothing; what this prints
+abbrev pub HasEdited : ℕ → Bytes → Bytes → Standing → Standing → Bytes → Type 0
+HasEdited most path text s s' printed =
+    ((length (with_edit s path text).rows ≤ most) × (s' ≡ with_edit s path text) × (printed ≡ []))
+    ⊎ ((most < length (with_edit s path text).rows) × (s' ≡ s) × (printed ≡ refused_line (length (with_edit s path text).rows)))
 
 -- what a recheck prints, after which the version is this one
 abbrev pub Prints : Outcome → ℕ → Bytes → Type 0

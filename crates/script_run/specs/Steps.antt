@@ -1,5 +1,5 @@
 -- The steps of a walk: what is read, and what was done and printed so far.
-use Rattle.std.specs.Prelude.{◌≡◌, ◌<◌, ◌≤◌, ℕ, ◌+◌, List, [], ◌∷◌, ◌++◌, length, Option}
+use Rattle.std.specs.Prelude.{◌≡◌, ◌<◌, ◌≤◌, ℕ, ◌+◌, ◌-◌, ◌^◌, min, List, [], ◌∷◌, ◌++◌, length, Option}
 use Rattle.std.specs.Option.{option_map}
 use Rattle.flow_base.specs.Program.{Bytes, Program}
 use Rattle.flow_base.specs.Causes.{RoseBy}
@@ -13,7 +13,7 @@ use Rattle.script_reader.specs.Lines.{LINE_LIMIT, script_lines, lines_left, HasN
 use Rattle.script_run.specs.declared.ending.WalkEnd.{WalkEnd}
 use Rattle.script_run.specs.declared.command.Command.{Command}
 use Rattle.script_run.specs.declared.command.Command.TheVariants as command
-use Rattle.script_run.specs.Transcript.{Standing, Rechecks, Turns, Walked, Ends, last_line, IsRun, IsRunSoFar, PrintsBetweenLines, MOST_LINES}
+use Rattle.script_run.specs.Transcript.{Standing, Walked, Ends, last_line, IsRun, IsRunSoFar, MOST_LINES}
 use Rattle.script_run.specs.Session.{HasRechecked, HasTurned}
 
 -- a line was taken from those that are left, which says this and doesn't end the script
@@ -50,16 +50,20 @@ pub record WalkState : Type 0 where
 abbrev pub walk_state : Standing → FolderSeen → SinkSeen → WalkState
 walk_state standing folder out = record { standing = standing; folder = folder; out = out }
 
+-- a folder's count rose by at least so many faults, or up to its end
+abbrev pub RoseByAtLeast : ℕ → ℕ → ℕ → Type 0
+RoseByAtLeast faults before now = min (before + faults) (2 ^ 64 - 1) ≤ now
+
 -- a line was answered: it was printed what it prints
-pub record HasAnswered (said : Line) (before now : WalkState) : Type 0 where
+pub record HasAnswered (most : ℕ) (said : Line) (before now : WalkState) : Type 0 where
   pub printed : Bytes
-  pub turned : HasTurned said before.standing now.standing printed before.folder now.folder
+  pub turned : HasTurned most said before.standing now.standing printed before.folder now.folder
   pub written : now.out.written ≡ appended before.out.written printed
 
--- an answer broke off, and the sink then held this: nothing more, or a front of the answer
-pub data BreaksOff (said : Line) (before : WalkState) (held : Option Bytes) : Type 0 where
-  unsaid : held ≡ before.out.written → BreaksOff said before held
-  begun : (s : Standing) (faults : ℕ) (printed : Bytes) → Turns before.folder.told said before.standing s faults printed → HoldsFront before.out.written held printed → BreaksOff said before held
+-- an answer broke off, and the folder and the sink were then these: nothing more was written, or a front of the answer
+pub data BreaksOff (most : ℕ) (said : Line) (before : WalkState) (folder : FolderSeen) (held : Option Bytes) : Type 0 where
+  unsaid : held ≡ before.out.written → BreaksOff most said before folder held
+  begun : (s : Standing) (printed : Bytes) → HasTurned most said before.standing s printed before.folder folder → HoldsFront before.out.written held printed → BreaksOff most said before folder held
 
 -- the load was done and printed, from the standing before it
 pub record HasLoaded (before now : WalkState) : Type 0 where
@@ -67,16 +71,16 @@ pub record HasLoaded (before now : WalkState) : Type 0 where
   pub load : HasRechecked before.standing now.standing printed before.folder now.folder
   pub written : now.out.written ≡ appended before.out.written printed
 
--- the load broke off, and the sink then held this: nothing more, or a front of its line
-pub data BreaksLoad (before : WalkState) (held : Option Bytes) : Type 0 where
-  unsaid_load : held ≡ before.out.written → BreaksLoad before held
-  begun_load : (s : Standing) (faults : ℕ) (printed : Bytes) → Rechecks before.folder.told before.standing s faults printed → HoldsFront before.out.written held printed → BreaksLoad before held
+-- the load broke off, and the folder and the sink were then these: nothing more was written, or a front of its line
+pub data BreaksLoad (before : WalkState) (folder : FolderSeen) (held : Option Bytes) : Type 0 where
+  unsaid_load : held ≡ before.out.written → BreaksLoad before folder held
+  begun_load : (s : Standing) (printed : Bytes) → HasRechecked before.standing s printed before.folder folder → HoldsFront before.out.written held printed → BreaksLoad before folder held
 
 -- a line of the script was taken and answered
-pub record Takes (taken : ℕ) (lines lines' : Option (List Bytes)) (before now : WalkState) : Type 0 where
+pub record Takes (most taken : ℕ) (lines lines' : Option (List Bytes)) (before now : WalkState) : Type 0 where
   pub said : Line
   pub is : IsTaken said taken lines lines'
-  pub answered : HasAnswered said before now
+  pub answered : HasAnswered most said before now
 
 -- the walk ended, and its last line was printed
 pub record Closes (how : WalkEnd) (taken : ℕ) (lines : Option (List Bytes)) (before now : WalkState) : Type 0 where
@@ -85,30 +89,29 @@ pub record Closes (how : WalkEnd) (taken : ℕ) (lines : Option (List Bytes)) (b
   pub standing : now.standing ≡ before.standing
   pub folder : now.folder ≡ before.folder
 
--- a walk broke off at a line, and the sink then held this: nothing more, or a front of what it prints there
-pub data Breaks (taken : ℕ) (lines : Option (List Bytes)) (before : WalkState) (held : Option Bytes) : Type 0 where
-  silent : held ≡ before.out.written → Breaks taken lines before held
-  in_turn : (said : Line) (lines' : Option (List Bytes)) → IsTaken said taken lines lines' → BreaksOff said before held → Breaks taken lines before held
-  in_end : (how : WalkEnd) → HasEnd how taken lines → HoldsFront before.out.written held (last_line (taken + 1) how) → Breaks taken lines before held
+-- a walk broke off at a line, and the folder and the sink were then these: nothing more was written, or a front of what it prints there
+pub data Breaks (most taken : ℕ) (lines : Option (List Bytes)) (before : WalkState) (folder : FolderSeen) (held : Option Bytes) : Type 0 where
+  silent : held ≡ before.out.written → Breaks most taken lines before folder held
+  in_turn : (said : Line) (lines' : Option (List Bytes)) → IsTaken said taken lines lines' → BreaksOff most said before folder held → Breaks most taken lines before folder held
+  in_end : (how : WalkEnd) → HasEnd how taken lines → HoldsFront before.out.written held (last_line (taken + 1) how) → Breaks most taken lines before folder held
 
 -- the load was done and so many lines were taken and answered
-pub record HasWalked (listed : List Bytes) (script left : Option (List Bytes)) (taken : ℕ) (before now : WalkState) : Type 0 where
+pub record HasWalked (most : ℕ) (listed : List Bytes) (script left : Option (List Bytes)) (taken : ℕ) (before now : WalkState) : Type 0 where
   pub lines : List Bytes
   pub number : length lines ≡ taken
   pub leaves : script ≡ option_map (λ rest. lines ++ rest) left
   pub read_faults : ℕ
   pub printed : Bytes
-  pub walk : Walked before.folder.told listed lines now.standing read_faults printed
+  pub walk : Walked most before.folder.told listed lines now.standing read_faults printed
   pub written : now.out.written ≡ appended before.out.written printed
   pub counted : RoseBy read_faults before.folder.faults now.folder.faults
   pub version : now.standing.version ≤ taken + 1
 
--- a whole run was done and printed
-pub record HasRun (listed : List Bytes) (how : WalkEnd) (errors : ℕ) (before now : Outside) : Type 0 where
+-- a whole run was done and printed, and it ended with this program at this version, which has so many errors
+pub record HasRun (most : ℕ) (listed : List Bytes) (how : WalkEnd) (errors : ℕ) (program : Program) (version : ℕ) (before now : Outside) : Type 0 where
   pub read_faults : ℕ
   pub printed : Bytes
-  pub program : Program
-  pub run : IsRun before.folder.told listed (lines_left [] before.script.left) read_faults printed how program
+  pub run : IsRun most before.folder.told listed (lines_left [] before.script.left) read_faults printed how program version
   pub written : now.out.written ≡ appended before.out.written printed
   pub counted : RoseBy read_faults before.folder.faults now.folder.faults
   pub counts : errors ≡ error_count (full1 program)
@@ -123,16 +126,21 @@ pub record TookAllGiven (taken : List Bytes) (script left : Option Bytes) : Type
   pub lines : lines_left [] script ≡ option_map (λ rest. taken ++ script_lines (part ++ rest)) left
 
 -- The script failed: all whole lines that it gave were taken and answered, and all that the load and these lines print was printed.
-pub record HasStopped (listed : List Bytes) (before now : Outside) : Type 0 where
+pub record HasStopped (most : ℕ) (listed : List Bytes) (before now : Outside) : Type 0 where
   pub read_faults : ℕ
   pub printed : Bytes
-  pub run : IsRunSoFar before.folder.told listed (lines_left [] before.script.left) read_faults printed
+  pub run : IsRunSoFar most before.folder.told listed (lines_left [] before.script.left) read_faults printed
   pub took_all : TookAllGiven run.taken before.script.left now.script.left
   pub written : now.out.written ≡ appended before.out.written printed
   pub counted : RoseBy read_faults before.folder.faults now.folder.faults
 
--- a front of what a run prints was printed
-pub record HasFront (listed : List Bytes) (before now : Outside) : Type 0 where
+-- a front of what a whole run prints was printed, one with no more read faults than the folder counted
+pub record HasFront (most : ℕ) (listed : List Bytes) (before now : Outside) : Type 0 where
+  pub read_faults : ℕ
   pub printed : Bytes
-  pub prints : PrintsBetweenLines before.folder.told listed (lines_left [] before.script.left) printed
+  pub how : WalkEnd
+  pub program : Program
+  pub version : ℕ
+  pub run : IsRun most before.folder.told listed (lines_left [] before.script.left) read_faults printed how program version
   pub front : HoldsFront before.out.written now.out.written printed
+  pub counted : RoseByAtLeast read_faults before.folder.faults now.folder.faults

@@ -1,5 +1,8 @@
--- What a run with a script prints: the load, and then the walk over the script's lines.
-use Rattle.std.specs.Prelude.{◌≡◌, ◌<◌, ◌≤◌, ℕ, ◌+◌, List, [], ◌∷◌, ◌++◌, length, Option}
+-- What a run with a script prints: the load, and then the walk over the script's lines. The most modules that there may be, `most`, are a
+-- parameter of all of it.
+use Rattle.std.specs.Prelude.{◌≡◌, ◌<◌, ◌≤◌, ℕ, ◌+◌, List, [], ◌∷◌, ◌++◌, length, Option, Some}
+use Rattle.std.specs.List.{AllByRecursion}
+use Rattle.flow_base.specs.Path.{IsNormalPath}
 use Rattle.flow_base.specs.Program.{Bytes, Program, paths_of, IsRising}
 use Rattle.flow_base.specs.Outside.{WhereTold}
 use Rattle.flow_model.specs.Errors.{full1, error_count}
@@ -20,16 +23,13 @@ pub record Standing : Type 0 where
   pub version : ℕ
   pub rows : Rows
 
--- the most modules
-abbrev pub MOST_MODULES : ℕ
-MOST_MODULES = 1024
-
 -- the most lines of a script, blank ones counted
 abbrev pub MOST_LINES : ℕ
 MOST_LINES = 1048576
 
--- paths that a folder may list: they rise, and where the folder tells its program they are its paths
+-- paths that a folder may list: they are normal paths and rise, and where the folder tells its program they are its paths
 pub record MayList (told : Option Program) (listed : List Bytes) : Type 0 where
+  pub normal : AllByRecursion IsNormalPath listed
   pub rising : IsRising listed
   pub same : WhereTold told (λ program. listed ≡ paths_of program)
 
@@ -50,21 +50,21 @@ abbrev pub with_edit : Standing → Bytes → Bytes → Standing
 with_edit s path text = record { program = s.program; version = s.version; rows = edited s.rows path (take.Text text) }
 
 -- what one line of the script does and prints
-pub data Turns (told : Option Program) : Line → Standing → Standing → ℕ → Bytes → Type 0 where
-  blank : (s : Standing) → Turns told line.Blank s s 0 []
-  edits : (s : Standing) (path text : Bytes) → length (with_edit s path text).rows ≤ MOST_MODULES → Turns told (line.Edit path text) s (with_edit s path text) 0 []
-  refuses : (s : Standing) (path text : Bytes) → MOST_MODULES < length (with_edit s path text).rows →
-      Turns told (line.Edit path text) s s 0 (refused_line (length (with_edit s path text).rows))
-  rechecks : (s s' : Standing) (faults : ℕ) (printed : Bytes) → Rechecks told s s' faults printed → Turns told line.Recheck s s' faults printed
-  answers : (s : Standing) → Turns told (line.Ask ask.Status) s s 0 (status_answer s.version s.program)
+pub data Turns (most : ℕ) (told : Option Program) : Line → Standing → Standing → ℕ → Bytes → Type 0 where
+  blank : (s : Standing) → Turns most told line.Blank s s 0 []
+  edits : (s : Standing) (path text : Bytes) → length (with_edit s path text).rows ≤ most → Turns most told (line.Edit path text) s (with_edit s path text) 0 []
+  refuses : (s : Standing) (path text : Bytes) → most < length (with_edit s path text).rows →
+      Turns most told (line.Edit path text) s s 0 (refused_line (length (with_edit s path text).rows))
+  rechecks : (s s' : Standing) (faults : ℕ) (printed : Bytes) → Rechecks told s s' faults printed → Turns most told line.Recheck s s' faults printed
+  answers : (s : Standing) → Turns most told (line.Ask ask.Status) s s 0 (status_answer s.version s.program)
 
 -- The load was done and these lines of the script were taken, one after the other: where the walk stands, how many read faults there
 -- were, and what was printed.
-pub data Walked (told : Option Program) (listed : List Bytes) : List Bytes → Standing → ℕ → Bytes → Type 0 where
-  loads : (s : Standing) (faults : ℕ) (printed : Bytes) → Rechecks told (start listed) s faults printed → Walked told listed [] s faults printed
+pub data Walked (most : ℕ) (told : Option Program) (listed : List Bytes) : List Bytes → Standing → ℕ → Bytes → Type 0 where
+  loads : (s : Standing) (faults : ℕ) (printed : Bytes) → Rechecks told (start listed) s faults printed → Walked most told listed [] s faults printed
   goes : (taken : List Bytes) (s : Standing) (faults : ℕ) (printed : Bytes) (bytes : Bytes) (line : Line) (s' : Standing) (more_faults : ℕ) (more : Bytes) →
-      Walked told listed taken s faults printed → length taken < MOST_LINES → length bytes ≤ LINE_LIMIT → Says bytes line → Turns told line s s' more_faults more →
-      Walked told listed (taken ++ bytes ∷ []) s' (faults + more_faults) (printed ++ more)
+      Walked most told listed taken s faults printed → length taken < MOST_LINES → length bytes ≤ LINE_LIMIT → Says bytes line → Turns most told line s s' more_faults more →
+      Walked most told listed (taken ++ bytes ∷ []) s' (faults + more_faults) (printed ++ more)
 
 -- After so many lines, with these to come, a walk ends like this: no line is left, or the next one says so; the next one is no command,
 -- or is too long; or as many as there may be were taken, and one is left.
@@ -82,28 +82,34 @@ last_line number ending.BadLine = bad_line number
 last_line number ending.LongLine = long_line
 last_line number ending.ManyLines = many_lines
 
--- a run over a folder that lists these paths, and a script: where it tells its lines, these are they
-pub record IsRun (told : Option Program) (listed : List Bytes) (script : Option (List Bytes)) (faults : ℕ) (printed : Bytes) (how : WalkEnd) (program : Program) : Type 0 where
+-- A run over a folder that lists these paths, and a script: where it tells its lines, these are they. The program and the version are those
+-- at which the walk ended.
+pub record IsRun (most : ℕ) (told : Option Program) (listed : List Bytes) (script : Option (List Bytes)) (faults : ℕ) (printed : Bytes) (how : WalkEnd) (program : Program) (version : ℕ) : Type 0 where
   pub taken : List Bytes
   pub rest : List Bytes
   pub lines : WhereTold script (λ its. its ≡ taken ++ rest)
-  pub version : ℕ
   pub rows : Rows
   pub before : Bytes
-  pub walk : Walked told listed taken (record { program = program; version = version; rows = rows }) faults before
+  pub walk : Walked most told listed taken (record { program = program; version = version; rows = rows }) faults before
   pub ends : Ends (length taken) rest how
   pub prints : printed ≡ before ++ last_line (length taken + 1) how
 
 -- the same up to a line: the load was done, and some lines were taken
-pub record IsRunSoFar (told : Option Program) (listed : List Bytes) (script : Option (List Bytes)) (faults : ℕ) (printed : Bytes) : Type 0 where
+pub record IsRunSoFar (most : ℕ) (told : Option Program) (listed : List Bytes) (script : Option (List Bytes)) (faults : ℕ) (printed : Bytes) : Type 0 where
   pub taken : List Bytes
   pub rest : List Bytes
   pub lines : WhereTold script (λ its. its ≡ taken ++ rest)
   pub standing : Standing
-  pub walk : Walked told listed taken standing faults printed
+  pub walk : Walked most told listed taken standing faults printed
 
--- what a run has printed at some moment between its lines, or at its end
-pub data PrintsBetweenLines (told : Option Program) (listed : List Bytes) (script : Option (List Bytes)) : Bytes → Type 0 where
-  nothing : PrintsBetweenLines told listed script []
-  so_far : (faults : ℕ) (printed : Bytes) → IsRunSoFar told listed script faults printed → PrintsBetweenLines told listed script printed
-  whole : (faults : ℕ) (printed : Bytes) (how : WalkEnd) (program : Program) → IsRun told listed script faults printed how program → PrintsBetweenLines told listed script printed
+-- what was printed up to a line goes on to what a whole run prints, with no further read fault
+pub record GoesOn (most : ℕ) (told : Option Program) (listed : List Bytes) (script : Option (List Bytes)) (faults : ℕ) (printed : Bytes) : Type 0 where
+  pub more : Bytes
+  pub how : WalkEnd
+  pub program : Program
+  pub version : ℕ
+  pub run : IsRun most told listed script faults (printed ++ more) how program version
+
+-- a run without a read fault, over a folder and a script that tell their content
+abbrev pub IsQuietRun : ℕ → Program → List Bytes → List Bytes → Bytes → WalkEnd → Program → ℕ → Type 0
+IsQuietRun most folder listed script printed how program version = IsRun most (Some folder) listed (Some script) 0 printed how program version

@@ -19,12 +19,14 @@ pub enum WalkEnd {
 }
 
 /// A run that came to its end.
-#[derive(Clone, Copy, Debug, PartialEq, Eq)]
-pub struct Ended {
+#[derive(Drop)]
+pub struct Ended<W> {
     /// How the script ended.
     pub ending: WalkEnd,
     /// The number of errors of the program that was committed last.
     pub errors: u64,
+    /// The heap, which holds that program at its version.
+    pub heap: W,
 }
 
 /// Why a run did not come to its end.

@@ -4,7 +4,9 @@ ghost use Rattle.flow_base.specs.Outside.{appended, HoldsFront};
 ghost use Rattle.flow_base.specs.Causes.{Counts};
 ghost use Rattle.flow_base.specs.Seen.{outside};
 ghost use Rattle.script_reader.specs.Lines.{bytes_left, lines_left, TakesFront, BreaksLine};
-ghost use Rattle.script_run.specs.Transcript.{MOST_MODULES, start, last_line};
+ghost use Rattle.recheck_run.specs.Recheck.{IsEmptyHeap};
+ghost use Rattle.script_run.specs.Transcript.{start, last_line};
+ghost use Rattle.script_run.specs.Session.{program_in, standing_in};
 ghost use Rattle.script_run.specs.Steps.{walk_state, Takes, Closes, Breaks, HasAnswered, BreaksOff, HasLoaded, BreaksLoad, HasRun, HasStopped, HasFront};
 
 use crate::command::{Command, read_command};
@@ -13,46 +15,58 @@ use crate::session::Session;
 use crate::sinks::write_all;
 use crate::{Ended, RunFault, WalkEnd};
 use flow_base::{Folder, List, Path, Sink, SinkFault, Source};
+use flow_state::Payload;
+use heap_core::HeapWriter;
 use script_line::Line;
 use script_reader::LineReader;
 use std::alloc::Global;
 
-/// The load of these paths, which rise, and then the script line by line. What a line prints is
-/// written before the next one is read.
+/// The load of these paths, which rise, into a heap for so many modules that has none, and then the
+/// script line by line. What a line prints is written before the next one is read. The heap is given
+/// back as the walk leaves it, with the program and the version at which it ended.
 ///
 /// # Errors
 ///
 /// `ScriptFault` and `SinkFault` exactly where the script, or the sink, counted a fault, and then one,
 /// and `NoMemory` where memory is refused. After `ScriptFault` all whole lines that the script gave are answered,
-/// and what they print is written; after the others a front of what the run prints.
-pub fn run<F: Folder, S: Source, K: Sink>(
+/// and what they print is written; after the others a front of what a whole run prints, with no more read faults than
+/// the folder counted.
+pub fn run<W: HeapWriter<Payload> + Drop, F: Folder, S: Source, K: Sink>(
     alloc: Global,
+    heap: W,
+    modules: u32,
     listed: List<Path>,
     folder: &mut F,
     script: &mut S,
     out: &mut K,
-) -> Result<Ended, RunFault>
+) -> Result<Ended<W>, RunFault>
+    requires empty { IsEmptyHeap (W.meaning heap) modules }
     requires rising { IsRising listed }
-    requires few { length listed ≤ MOST_MODULES }
-    ensures ended { IfOk result (λ ended. HasRun listed ended.ending ended.errors
+    requires few { length listed ≤ modules }
+    ensures ended { IfOk result (λ ended. HasRun modules listed ended.ending ended.errors (program_in (W.meaning ended.heap).committed) (W.meaning ended.heap).version
         (outside (F.seen folder.old) (S.seen script.old) (K.seen out.old)) (outside (F.seen folder.new) (S.seen script.new) (K.seen out.new))) }
-    ensures stopped { IsErrOf result RunFault.ScriptFault → HasStopped listed
+    ensures stopped { IsErrOf result RunFault.ScriptFault → HasStopped modules listed
         (outside (F.seen folder.old) (S.seen script.old) (K.seen out.old)) (outside (F.seen folder.new) (S.seen script.new) (K.seen out.new)) }
-    ensures front { OnErr result (HasFront listed
+    ensures front { OnErr result (HasFront modules listed
         (outside (F.seen folder.old) (S.seen script.old) (K.seen out.old)) (outside (F.seen folder.new) (S.seen script.new) (K.seen out.new))) }
     ensures script_counts { Counts (IsErrOf result RunFault.ScriptFault) (S.seen script.old).faults (S.seen script.new).faults }
     ensures sink_counts { Counts (IsErrOf result RunFault.SinkFault) (K.seen out.old).faults (K.seen out.new).faults }
     ensures told { (F.seen folder.new).told ≡ (F.seen folder.old).told }
     ensures later { (F.seen folder.old).faults ≤ (F.seen folder.new).faults }
 {
-    let mut session = load(alloc, listed, folder, out)?;
+    let mut session = load(alloc, heap, modules, listed, folder, out)?;
     let mut reader = LineReader::new(alloc)?;
     let mut taken = 0;
     loop {
         match step(alloc, taken, &mut session, &mut reader, folder, script, out)? {
             Some(ending) => {
                 let errors = session.errors()?;
-                return Ok(Ended { ending, errors });
+                let heap = session.into_heap();
+                return Ok(Ended {
+                    ending,
+                    errors,
+                    heap,
+                });
             }
             None => taken += 1,
         }
@@ -60,22 +74,27 @@ pub fn run<F: Folder, S: Source, K: Sink>(
 }
 
 // The load: the first recheck, and its line.
-fn load<F: Folder, K: Sink>(
+#[tactic(auto, using(crate::proofs::Walks::loaded_from))]
+fn load<W: HeapWriter<Payload> + Drop, F: Folder, K: Sink>(
     alloc: Global,
+    heap: W,
+    modules: u32,
     listed: List<Path>,
     folder: &mut F,
     out: &mut K,
-) -> Result<Session, RunFault>
+) -> Result<Session<W>, RunFault>
+    requires empty { IsEmptyHeap (W.meaning heap) modules }
     requires rising { IsRising listed }
-    requires few { length listed ≤ MOST_MODULES }
-    ensures loaded { IfOk result (λ session. HasLoaded (walk_state (start listed) (F.seen folder.old) (K.seen out.old)) (walk_state session (F.seen folder.new) (K.seen out.new))) }
-    ensures front { OnErr result (BreaksLoad (walk_state (start listed) (F.seen folder.old) (K.seen out.old)) (K.seen out.new).written) }
+    requires few { length listed ≤ modules }
+    ensures loaded { IfOk result (λ session. HasLoaded (walk_state (start listed) (F.seen folder.old) (K.seen out.old)) (walk_state (standing_in session) (F.seen folder.new) (K.seen out.new))) }
+    ensures modules { IfOk result (λ session. session.waiting.capacity ≡ modules) }
+    ensures front { OnErr result (BreaksLoad (walk_state (start listed) (F.seen folder.old) (K.seen out.old)) (F.seen folder.new) (K.seen out.new).written) }
     ensures counts { Counts (IsErrOf result RunFault.SinkFault) (K.seen out.old).faults (K.seen out.new).faults }
     ensures no_script { IsErrOf result RunFault.ScriptFault → ⊥ }
     ensures told { (F.seen folder.new).told ≡ (F.seen folder.old).told }
     ensures later { (F.seen folder.old).faults ≤ (F.seen folder.new).faults }
 {
-    let mut session = Session::open(alloc, listed)?;
+    let mut session = Session::open(alloc, heap, modules, listed)?;
     let line = session.recheck(folder)?;
     print(out, line.as_bytes())?;
     Ok(session)
@@ -83,21 +102,22 @@ fn load<F: Folder, K: Sink>(
 
 // Takes the next line of a script of which so many were taken, and answers it. Where the walk ends
 // there, it prints its last line, and tells how it ended.
-fn step<F: Folder, S: Source, K: Sink>(
+fn step<W: HeapWriter<Payload> + Drop, F: Folder, S: Source, K: Sink>(
     alloc: Global,
     taken: u32,
-    session: &mut Session,
+    session: &mut Session<W>,
     reader: &mut LineReader,
     folder: &mut F,
     script: &mut S,
     out: &mut K,
 ) -> Result<Option<WalkEnd>, RunFault>
-    requires { session.old.version + 1 < 2 ^ 31 }
-    ensures takes { IfOk result (λ ending. IfNone ending (Takes taken (lines_left reader.old (S.seen script.old).left) (lines_left reader.new (S.seen script.new).left)
-        (walk_state session.old (F.seen folder.old) (K.seen out.old)) (walk_state session.new (F.seen folder.new) (K.seen out.new)))) }
+    requires { session.old.heap.version + 1 < 2 ^ 31 }
+    ensures takes { IfOk result (λ ending. IfNone ending (Takes session.old.waiting.capacity taken (lines_left reader.old (S.seen script.old).left) (lines_left reader.new (S.seen script.new).left)
+        (walk_state (standing_in session.old) (F.seen folder.old) (K.seen out.old)) (walk_state (standing_in session.new) (F.seen folder.new) (K.seen out.new)))) }
     ensures closes { IfOk result (λ ending. IfSome ending (λ how. Closes how taken (lines_left reader.old (S.seen script.old).left)
-        (walk_state session.old (F.seen folder.old) (K.seen out.old)) (walk_state session.new (F.seen folder.new) (K.seen out.new)))) }
-    ensures breaks { OnErr result (Breaks taken (lines_left reader.old (S.seen script.old).left) (walk_state session.old (F.seen folder.old) (K.seen out.old)) (K.seen out.new).written) }
+        (walk_state (standing_in session.old) (F.seen folder.old) (K.seen out.old)) (walk_state (standing_in session.new) (F.seen folder.new) (K.seen out.new)))) }
+    ensures breaks { OnErr result (Breaks session.old.waiting.capacity taken (lines_left reader.old (S.seen script.old).left) (walk_state (standing_in session.old) (F.seen folder.old) (K.seen out.old)) (F.seen folder.new) (K.seen out.new).written) }
+    ensures modules { session.new.waiting.capacity ≡ session.old.waiting.capacity }
     ensures silent { IsErrOf result RunFault.ScriptFault → K.seen out.new ≡ K.seen out.old }
     ensures unread { IsErrOf result RunFault.ScriptFault → F.seen folder.new ≡ F.seen folder.old }
     ensures front { TakesFront (bytes_left reader.old (S.seen script.old).left) (bytes_left reader.new (S.seen script.new).left) }
@@ -121,16 +141,17 @@ fn step<F: Folder, S: Source, K: Sink>(
 }
 
 // Answers a line that does not end the script.
-fn answer<F: Folder, K: Sink>(
-    session: &mut Session,
+fn answer<W: HeapWriter<Payload> + Drop, F: Folder, K: Sink>(
+    session: &mut Session<W>,
     folder: &mut F,
     out: &mut K,
     line: Line,
 ) -> Result<(), RunFault>
-    requires version { session.old.version + 1 < 2 ^ 31 }
+    requires version { session.old.heap.version + 1 < 2 ^ 31 }
     requires goes_on { line ≡ Line.End → ⊥ }
-    ensures answered { OnOk result (HasAnswered line (walk_state session.old (F.seen folder.old) (K.seen out.old)) (walk_state session.new (F.seen folder.new) (K.seen out.new))) }
-    ensures breaks { OnErr result (BreaksOff line (walk_state session.old (F.seen folder.old) (K.seen out.old)) (K.seen out.new).written) }
+    ensures answered { OnOk result (HasAnswered session.old.waiting.capacity line (walk_state (standing_in session.old) (F.seen folder.old) (K.seen out.old)) (walk_state (standing_in session.new) (F.seen folder.new) (K.seen out.new))) }
+    ensures modules { session.new.waiting.capacity ≡ session.old.waiting.capacity }
+    ensures breaks { OnErr result (BreaksOff session.old.waiting.capacity line (walk_state (standing_in session.old) (F.seen folder.old) (K.seen out.old)) (F.seen folder.new) (K.seen out.new).written) }
     ensures counts { Counts (IsErrOf result RunFault.SinkFault) (K.seen out.old).faults (K.seen out.new).faults }
     ensures no_script { IsErrOf result RunFault.ScriptFault → ⊥ }
     ensures told { (F.seen folder.new).told ≡ (F.seen folder.old).told }

@@ -1,19 +1,20 @@
 use Rattle.std.proofs.Common.{rules, ap}
 use Rattle.std.proofs.lemmas.Result.{IfOk-weaker}
+use Rattle.script_run.specs.Session.{standing_in}
 use Rattle.script_run.proofs.Sessions.{turned_blank, turned_edit, turned_recheck, turned_status}
 use Rattle.script_run.proofs.session.Session.turn.Goals as goal
 
 pub returns-in-Blank-clause-turned : goal.returns-in-Blank-clause-turned
-returns-in-Blank-clause-turned g c = turned_blank c.args.line c.args.self.now _ _ (g.met.F.Folder.bounded c.args.folder.now) c.in-Blank.is c.new.ensures.items
+returns-in-Blank-clause-turned g c = turned_blank c.args.self.now.waiting.capacity c.args.line (standing_in c.args.self.now) _ _ (g.met.F.Folder.bounded c.args.folder.now) c.in-Blank.is c.new.ensures.items
 
 pub returns-in-Edit-clause-turned : goal.returns-in-Edit-clause-turned
 returns-in-Edit-clause-turned g c =
-    IfOk-weaker c.edit.result _ _ (λ printed edited. turned_edit c.args.line c.in-Edit.path c.in-Edit.text c.args.self.now c.edit.new.self printed.items _ (g.met.F.Folder.bounded c.args.folder.now) c.in-Edit.is edited) c.edit.ensures
+    IfOk-weaker c.edit.result _ _ (λ printed edited. turned_edit c.args.self.now.waiting.capacity c.args.line c.in-Edit.path c.in-Edit.text (standing_in c.args.self.now) (standing_in c.edit.new.self) printed.items _ (g.met.F.Folder.bounded c.args.folder.now) c.in-Edit.is edited) c.edit.ensures.edited
 
 pub returns-in_ok-recheck-in-Recheck-clause-turned : goal.returns-in_ok-recheck-in-Recheck-clause-turned
 returns-in_ok-recheck-in-Recheck-clause-turned g c =
-    turned_recheck c.args.line c.args.self.now c.recheck.new.self _ _ _ _ c.in-Recheck.is (ap (λ v. v.items) c.into_bytes.ensures.value) c.in_ok-recheck-in-Recheck.ensures.rechecked
+    turned_recheck c.args.self.now.waiting.capacity c.args.line (standing_in c.args.self.now) (standing_in c.recheck.new.self) _ _ _ _ c.in-Recheck.is (ap (λ v. v.items) c.into_bytes.ensures.value) c.in_ok-recheck-in-Recheck.ensures.rechecked
 
 pub returns-in-Ask-Status-clause-turned : goal.returns-in-Ask-Status-clause-turned
 returns-in-Ask-Status-clause-turned g c =
-    IfOk-weaker c.status.result _ _ (λ printed is. turned_status c.args.line c.args.self.now printed.items _ (g.met.F.Folder.bounded c.args.folder.now) (search rules) is) c.status.ensures
+    IfOk-weaker c.status.result _ _ (λ printed is. turned_status c.args.self.now.waiting.capacity c.args.line (standing_in c.args.self.now) printed.items _ (g.met.F.Folder.bounded c.args.folder.now) (search rules) is) c.status.ensures

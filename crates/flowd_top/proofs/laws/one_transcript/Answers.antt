@@ -1,0 +1,5 @@
+use Rattle.flowd_top.proofs.Transcripts.{some_transcript, same_transcript}
+use Rattle.flowd_top.proofs.laws.one_transcript.Goals as goal
+
+pub returns : goal.returns
+returns c = record { some = some_transcript; one = same_transcript }

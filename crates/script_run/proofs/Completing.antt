@@ -1,0 +1,141 @@
+-- A run up to a line goes on to a whole run, with no further read fault.
+use Rattle.std.proofs.Common.{◌≡◌, ℕ, ◌+◌, List, [], ◌∷◌, ◌++◌, length, Option, Some, None, refl, sym, ap, ◌∙◌, subst, arith, inl, inr, ◌⊎◌, append_assoc, length-append}
+use Rattle.std.proofs.lemmas.Bool.{cases_lt}
+use Rattle.std.proofs.lemmas.List.{take-append-le}
+use Rattle.flow_base.specs.Program.{Bytes, Program}
+use Rattle.flow_base.specs.Outside.{WhereTold, appended, HoldsFront}
+use Rattle.recheck_run.specs.Wanted.{MayBecome, taken}
+use Rattle.script_line.specs.declared.line.Line.{Line}
+use Rattle.script_line.specs.declared.line.Line.TheVariants as line
+use Rattle.script_line.specs.declared.line.Ask.TheVariants as ask
+use Rattle.script_line.specs.Says.{Says}
+use Rattle.script_line.proofs.Deciding.{says_or_not}
+use Rattle.script_reader.specs.Lines.{LINE_LIMIT}
+use Rattle.script_run.specs.declared.ending.WalkEnd.{WalkEnd}
+use Rattle.script_run.specs.declared.ending.WalkEnd.TheVariants as ending
+use Rattle.script_run.specs.Transcript.{Standing, MOST_LINES, start, with_edit, Rechecks, done, Turns, blank, edits, refuses, rechecks, answers, Walked, loads, goes, Ends, no_line, end_line, bad, long, many, last_line, IsRun, IsRunSoFar, GoesOn}
+
+-- ---- lists
+
+pub front_longer : (before now : Option Bytes) (piece more : Bytes) → HoldsFront before now piece → HoldsFront before now (piece ++ more)
+front_longer before now piece more (n, within, front) = (n, omega (arith, within, length-append piece more), front ∙ ap (appended before) (sym (take-append-le n piece more within)))
+
+-- ---- a recheck and a turn without a read fault
+
+some_program : (told : Option Program) (s : Standing) → (program : Program) × MayBecome told s.rows program
+some_program None s = (taken [] s.rows, ([], tt, refl))
+some_program (Some folder) s = (taken folder s.rows, (folder, refl, refl))
+
+pub quiet_recheck : (told : Option Program) (s : Standing) → (t : Standing) × (printed : Bytes) × Rechecks told s t 0 printed
+quiet_recheck told s = let may = some_program told s in (_, _, done s may.0 may.1)
+
+module _ (most : ℕ) (told : Option Program) where
+  quiet_edit : (s : Standing) (path text : Bytes) → (t : Standing) × (printed : Bytes) × Turns most told (line.Edit path text) s t 0 printed
+  quiet_edit s path text = elim (cases_lt most (length (with_edit s path text).rows)) [
+    | inl over ↦ (_, _, refuses s path text over)
+    | inr few ↦ (_, _, edits s path text few)
+  ]
+
+  quiet_turn : (said : Line) → (said ≡ line.End → ⊥) → (s : Standing) → (t : Standing) × (printed : Bytes) × Turns most told said s t 0 printed
+  quiet_turn line.Blank goes_on s = (_, _, blank s)
+  quiet_turn (line.Edit path text) goes_on s = quiet_edit s path text
+  quiet_turn line.Recheck goes_on s = let recheck = quiet_recheck told s in (_, _, rechecks s recheck.0 0 recheck.1 recheck.2)
+  quiet_turn (line.Ask ask.Status) goes_on s = (_, _, answers s)
+  quiet_turn line.End goes_on s = absurd (goes_on refl)
+
+  end_or_not : (said : Line) → (said ≡ line.End) ⊎ (said ≡ line.End → ⊥)
+  end_or_not line.Blank = inr (λ is. absurd (cc (is)))
+  end_or_not (line.Edit path text) = inr (λ is. absurd (cc (is)))
+  end_or_not line.Recheck = inr (λ is. absurd (cc (is)))
+  end_or_not (line.Ask a) = inr (λ is. absurd (cc (is)))
+  end_or_not line.End = inl refl
+
+  -- ---- the rest of a script
+
+  module _ (listed : List Bytes) where
+    stops_there : (before rest : List Bytes) (s : Standing) (faults : ℕ) (printed : Bytes) → Walked most told listed before s faults printed → (how : WalkEnd) → Ends (length before) rest how
+        → GoesOn most told listed (Some (before ++ rest)) faults printed
+    stops_there before rest s faults printed walk how ends = record {
+      more = last_line (length before + 1) how;
+      how = how;
+      program = s.program;
+      version = s.version;
+      run = record { taken = before; rest = rest; lines = refl; rows = s.rows; before = printed; walk = walk; ends = ends; prints = refl };
+    }
+
+    -- what goes on behind one line more goes on before it
+    one_back : (lines lines' : List Bytes) (faults faults' : ℕ) (printed piece : Bytes) → lines' ≡ lines → faults' ≡ faults → GoesOn most told listed (Some lines') faults' (printed ++ piece)
+        → GoesOn most told listed (Some lines) faults printed
+    one_back lines lines' faults faults' printed piece same quiet on = record {
+      more = piece ++ on.more;
+      how = on.how;
+      program = on.program;
+      version = on.version;
+      run =
+          subst (λ ls. IsRun most told listed (Some ls) faults (printed ++ (piece ++ on.more)) on.how on.program on.version) same
+          (subst (λ f. IsRun most told listed (Some lines') f (printed ++ (piece ++ on.more)) on.how on.program on.version) quiet
+          (subst (λ p. IsRun most told listed (Some lines') faults' p on.how on.program on.version) (append_assoc printed piece on.more) on.run));
+    }
+
+    -- one line is taken, or the walk ends there
+    one_line : (before : List Bytes) (bytes : Bytes) (rest : List Bytes) (s : Standing) (faults : ℕ) (printed : Bytes) → Walked most told listed before s faults printed
+        → ((t : Standing) (more : Bytes) → Walked most told listed (before ++ bytes ∷ []) t (faults + 0) (printed ++ more) → GoesOn most told listed (Some ((before ++ bytes ∷ []) ++ rest)) (faults + 0) (printed ++ more))
+        → GoesOn most told listed (Some (before ++ bytes ∷ rest)) faults printed
+    one_line before bytes rest s faults printed walk next = elim (cases_lt (length before) MOST_LINES) [
+      | inr past ↦ stops_there before (bytes ∷ rest) s faults printed walk ending.ManyLines (many bytes rest past)
+      | inl few ↦ elim (cases_lt LINE_LIMIT (length bytes)) [
+        | inl over ↦ stops_there before (bytes ∷ rest) s faults printed walk ending.LongLine (long bytes rest few over)
+        | inr short ↦ elim (says_or_not bytes) [
+          | inr never ↦ stops_there before (bytes ∷ rest) s faults printed walk ending.BadLine (bad bytes rest few short never)
+          | inl said ↦ elim (end_or_not said.0) [
+            | inl end ↦ stops_there before (bytes ∷ rest) s faults printed walk ending.Finished (end_line bytes rest few short (subst (λ l. Says bytes l) end said.1))
+            | inr goes_on ↦
+                let turn = quiet_turn said.0 goes_on s in
+                one_back (before ++ bytes ∷ rest) ((before ++ bytes ∷ []) ++ rest) faults (faults + 0) printed turn.1 (append_assoc before (bytes ∷ []) rest) (omega arith)
+                (next turn.0 turn.1 (goes before s faults printed bytes said.0 turn.0 0 turn.1 walk few short said.1 turn.2))
+          ]
+        ]
+      ]
+    ]
+
+    walks_on : (rest before : List Bytes) (s : Standing) (faults : ℕ) (printed : Bytes) → Walked most told listed before s faults printed → GoesOn most told listed (Some (before ++ rest)) faults printed
+    walks_on [] before s faults printed walk = stops_there before [] s faults printed walk ending.Finished no_line
+    walks_on (bytes ∷ rest) before s faults printed walk =
+        one_line before bytes rest s faults printed walk (λ t more on. walks_on rest (before ++ bytes ∷ []) t (faults + 0) (printed ++ more) on)
+
+    told_so : (script : Option (List Bytes)) (lines before rest : List Bytes) → WhereTold script (λ its. its ≡ lines) → lines ≡ before ++ rest → WhereTold script (λ its. its ≡ before ++ rest)
+    told_so None lines before rest same is = tt
+    told_so (Some its) lines before rest same is = same ∙ is
+
+    of_lines : (script : Option (List Bytes)) (lines : List Bytes) (faults : ℕ) (printed : Bytes) → WhereTold script (λ its. its ≡ lines) → GoesOn most told listed (Some lines) faults printed
+        → GoesOn most told listed script faults printed
+    of_lines script lines faults printed same on = let run = on.run in record {
+      more = on.more;
+      how = on.how;
+      program = on.program;
+      version = on.version;
+      run = record {
+        taken = run.taken;
+        rest = run.rest;
+        lines = told_so script lines run.taken run.rest same run.lines;
+        rows = run.rows;
+        before = run.before;
+        walk = run.walk;
+        ends = run.ends;
+        prints = run.prints;
+      };
+    }
+
+    some_lines : (script : Option (List Bytes)) → (lines : List Bytes) × WhereTold script (λ its. its ≡ lines)
+    some_lines None = ([], tt)
+    some_lines (Some lines) = (lines, refl)
+
+    pub goes_on : (script : Option (List Bytes)) (faults : ℕ) (printed : Bytes) → IsRunSoFar most told listed script faults printed → GoesOn most told listed script faults printed
+    goes_on script faults printed run = of_lines script (run.taken ++ run.rest) faults printed run.lines (walks_on run.rest run.taken run.standing faults printed run.walk)
+
+    -- a load without a read fault goes on so, whatever the script is
+    pub some_run : (script : Option (List Bytes)) → (faults : ℕ) × (faults ≡ 0) × (printed : Bytes) × GoesOn most told listed script faults printed
+    some_run script =
+        let load = quiet_recheck told (start listed) in
+        let lines = some_lines script in
+        (0, refl, load.1, of_lines script lines.0 0 load.1 lines.1 (walks_on lines.0 [] load.0 0 load.1 (loads load.0 0 load.1 load.2)))

@@ -1,0 +1,5 @@
+use Rattle.script_run.proofs.Completing.{goes_on}
+use Rattle.script_run.proofs.laws.a_front_goes_on.Goals as goal
+
+pub returns : goal.returns
+returns c = goes_on

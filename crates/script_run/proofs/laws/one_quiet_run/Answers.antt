@@ -1,0 +1,5 @@
+use Rattle.script_run.proofs.Once.{some_quiet_run, same_run}
+use Rattle.script_run.proofs.laws.one_quiet_run.Goals as goal
+
+pub returns : goal.returns
+returns c = record { some = some_quiet_run; one = same_run }
