@@ -45,11 +45,7 @@ fn one_of(alloc: Global, mut all: List<FlowType>) -> Result<FlowType, NoMemory>
 
 // A type in front of those that are another one.
 #[tactic(auto, using(crate::proofs::Plain::past_one, crate::proofs::Plain::past_same))]
-fn in_front(
-    alloc: Global,
-    one: &FlowType,
-    all: &[FlowType],
-) -> Result<List<FlowType>, NoMemory>
+fn in_front(alloc: Global, one: &FlowType, all: &[FlowType]) -> Result<List<FlowType>, NoMemory>
     ensures { IfOk result (λ kept. kept ≡ one.now ∷ others one.now all.now) }
 {
     let mut kept = List::new(alloc);
