@@ -1,0 +1,4 @@
+pub mod View
+pub mod Declaring
+pub mod Seen
+pub mod Walks
