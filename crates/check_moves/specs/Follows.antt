@@ -1,0 +1,33 @@
+-- What stays behind a state: the marks, and the heights of its names.
+use Rattle.std.specs.Prelude.{◌≡◌, List, [], Option, Some, None}
+use Rattle.flow_facts.specs.Known.{Known}
+use Rattle.refine_flow.specs.Standing.{known}
+use Rattle.scopes.specs.View.{IsTop, KeepsHeights}
+use Rattle.fact_ways.specs.declared.fork.Fork.{Fork}
+use Rattle.fact_ways.specs.Ways.{Fits, Goes, Leads, AreNested, outermost, way_of}
+use Rattle.check_moves.specs.View.{now}
+use Rattle.check_moves.specs.declared.state.State.{State}
+use Rattle.check_moves.specs.declared.functions.Outside.{Outside}
+
+-- from ways to others, which stand
+pub record Follows (from : Option Fork) (old : State) (to : Option Fork) (new : State) : Type 0 where
+  pub leads : Leads from old.facts to new.facts
+  pub heights : KeepsHeights old.scope new.scope
+
+-- Behind a state, ways that left stand round others, the first ones inside the next, and round nothing else of that state.
+pub record Leaves (before : State) (left : List Fork) (inner : Option Fork) (s : State) : Type 0 where
+  pub nested : AreNested left inner s.facts
+  pub fits : Fits inner s.facts
+  pub goes : Goes None before.facts (outermost left inner) s.facts
+  pub heights : KeepsHeights before.scope s.scope
+
+-- what stands around a function is that of a state before, and so are the facts outside
+pub record IsOutside (o : Outside) (before : State) (s : State) : Type 0 where
+  pub heights : KeepsHeights before.scope s.scope
+  pub facts : o.facts ≡ before.facts
+  pub height : IsTop o.height before.scope
+  pub depth : o.depth ≡ before.scope.depth
+  pub result : o.result ≡ before.scope.result
+  pub returned : o.returned ≡ before.returned
+  pub breaks : o.breaks ≡ before.breaks
+  pub stopped : o.stopped ≡ (now before).notes.stopped

@@ -1,0 +1,3 @@
+pub mod View
+pub mod Follows
+pub mod Moves

@@ -1,0 +1,215 @@
+//! Operators: `&&`, `||` and `??`, behind whose left side ways part, and the others.
+#![tactic(auto, unfolding(crate::specs::View::around, crate::specs::View::now, crate::specs::View::told))]
+
+ghost use Rattle.std.specs.Prelude.{◌≡◌, ◌∷◌, [], true, Some, OnOk, IfOk, reverse, if◌then◌else◌};
+ghost use Rattle.flow_facts.specs.Narrowing.{narrowed};
+ghost use Rattle.flow_facts.specs.declared.test.Test as test;
+ghost use Rattle.type_terms.specs.Join.{join_of};
+ghost use Rattle.code_tree.specs.Flat.{operator_view};
+ghost use Rattle.typing.specs.States.{Out, after};
+ghost use Rattle.typing.specs.Forms.{nullish_now, nullish_out, operator_out};
+ghost use Rattle.check_world.specs.View.{world_view};
+ghost use Rattle.fact_ways.specs.Ways.{Fits, AreNested, outermost, way_of, ways_of};
+
+use crate::state::{Read, State};
+use check_world::World;
+use code_tree::Operator;
+use fact_ways::Fork;
+use flow_facts::{Place, Test};
+use flow_values::{List, NoMemory};
+use narrowing::narrow;
+use part_steps::operator_type;
+use type_terms::join;
+use type_values::FlowType;
+
+// What holds of the left side of `&&` (true) or `||` where the right one is not read.
+fn leaving_test(is_and: bool) -> Test
+    ensures { result ≡ (if is_and then test.Falsy else test.Truthy) }
+{
+    if is_and { Test::Falsy } else { Test::Truthy }
+}
+
+impl State {
+    ghost use Rattle.check_moves.specs.View.{around, now, told};
+    ghost use Rattle.check_moves.specs.Follows.{Follows};
+    ghost use Rattle.check_moves.specs.Moves.{goes_on, leaving, met, is_plain, nullish_from};
+
+    /// Goes on where what was read is truthy (true) or falsy. What is handed out has the other way as
+    /// its arm.
+    ///
+    /// # Errors
+    ///
+    /// `NoMemory` where memory is refused.
+    #[tactic(auto, using(crate::proofs::Choosing::goes_and, crate::proofs::Choosing::goes_or, crate::proofs::Choosing::left_and, crate::proofs::Choosing::left_or, crate::proofs::Following::follows_through), unfolding(crate::specs::View::around, crate::specs::View::now, crate::specs::View::told))]
+    pub fn part(&mut self, is_and: bool, fork: Option<Fork>) -> Result<Fork, NoMemory>
+        requires { Fits fork self.old.facts }
+        ensures now { (ty : FlowType) → OnOk result (now self.new ≡ goes_on is_and (told (record { ty = ty; fork = fork }) self.old)) }
+        ensures arm { (ty : FlowType) → IfOk result (λ k. way_of self.new.facts k ≡ leaving is_and (told (record { ty = ty; fork = fork }) self.old)) }
+        ensures around { OnOk result (around self.new ≡ around self.old) }
+        ensures follows { IfOk result (λ k. Follows fork self.old (Some k) self.new) }
+    {
+        let fork = self.split(fork)?;
+        if is_and {
+            return Ok(self.turn(fork)?);
+        }
+        Ok(fork)
+    }
+
+    /// The ways behind `a && b && ..` (true) or `a || b || ..`, of which the last operand was read, with
+    /// those ways where one before it left the chain.
+    ///
+    /// # Errors
+    ///
+    /// `NoMemory` where memory is refused.
+    #[tactic(auto, using(crate::proofs::Choosing::all_and, crate::proofs::Choosing::all_or, crate::proofs::Rounds::nested_through, crate::proofs::Rounds::ways_through, crate::proofs::Rounds::follows_outer, crate::proofs::Rounds::nested_turned, crate::proofs::Rounds::ways_turned, crate::proofs::Rounds::turned_outer), unfolding(crate::specs::View::around, crate::specs::View::now, crate::specs::View::told))]
+    pub fn meet_left(
+        &mut self,
+        is_and: bool,
+        last: Option<Fork>,
+        left: Vec<Fork>,
+    ) -> Result<Option<Fork>, NoMemory>
+        requires last { Fits last self.old.facts }
+        requires left { AreNested (reverse left.items) last self.old.facts }
+        ensures told { (ty : FlowType) → IfOk result (λ fork. told (record { ty = ty; fork = fork }) self.new ≡ met is_and (ways_of self.old.facts (reverse left.items)) (told (record { ty = ty; fork = last }) self.old)) }
+        ensures around { OnOk result (around self.new ≡ around self.old) }
+        ensures follows { IfOk result (λ fork. Follows (outermost (reverse left.items) last) self.old fork self.new) }
+    {
+        let fork = self.split(last)?;
+        if is_and {
+            return Ok(Some(self.meet_ways(fork, left)?));
+        }
+        let turned = self.turn(fork)?;
+        let met = self.meet_ways(turned, left)?;
+        Ok(Some(self.turn(met)?))
+    }
+
+    // The join of what a test leaves of a type, and another one.
+    #[tactic(auto, unfolding(check_world::specs::View::world_view))]
+    fn left_or(
+        &self,
+        world: &World<'_>,
+        left: &FlowType,
+        test: &Test,
+        right: FlowType,
+    ) -> Result<FlowType, NoMemory>
+        ensures { IfOk result (λ t. t ≡ join_of (narrowed (world_view world.now).members test.now left.now ∷ right ∷ [])) }
+    {
+        let left = narrow(self.alloc, world.table, left, test)?;
+        let mut both = List::new(self.alloc);
+        both.push(left)?;
+        both.push(right)?;
+        Ok(join(self.alloc, both.as_slice())?)
+    }
+
+    /// The type of `a && b` (true) or `a || b`: what is left of a's where the chain is left, and b's.
+    ///
+    /// # Errors
+    ///
+    /// `NoMemory` where memory is refused.
+    pub fn either_type(
+        &self,
+        world: &World<'_>,
+        is_and: bool,
+        left: &FlowType,
+        right: FlowType,
+    ) -> Result<FlowType, NoMemory>
+        ensures { IfOk result (λ t. t ≡ join_of (narrowed (world_view world.now).members (if is_and then test.Falsy else test.Truthy) left.now ∷ right ∷ [])) }
+    {
+        self.left_or(world, left, &leaving_test(is_and), right)
+    }
+
+    /// Goes on to the right side of `??`: a place on the left is null or void there. Gives the type of
+    /// the left side, and its way.
+    ///
+    /// # Errors
+    ///
+    /// `NoMemory` where memory is refused.
+    #[tactic(auto, using(crate::proofs::Operating::nullish_begun, crate::proofs::Operating::arm_begun, crate::proofs::Following::way_under, crate::proofs::Following::follows_through, crate::proofs::Following::follows_under), unfolding(crate::specs::View::around, crate::specs::View::now, crate::specs::View::told))]
+    pub fn begin_nullish(
+        &mut self,
+        world: &World<'_>,
+        place: Option<Place>,
+        left: Read,
+    ) -> Result<(FlowType, Fork), NoMemory>
+        requires { Fits left.fork self.old.facts }
+        ensures now { OnOk result (now self.new ≡ nullish_now (world_view world.now) place (told left self.old)) }
+        ensures ty { IfOk result (λ begun. begun.0 ≡ left.ty) }
+        ensures arm { IfOk result (λ begun. way_of self.new.facts begun.1 ≡ (after (told left self.old)).facts) }
+        ensures around { OnOk result (around self.new ≡ around self.old) }
+        ensures follows { IfOk result (λ begun. Follows left.fork self.old (Some begun.1) self.new) }
+    {
+        let ty = self.after(left)?;
+        let fork = self.stand()?;
+        self.assume_nullish(world, place, &ty)?;
+        Ok((ty, fork))
+    }
+
+    // A place of a type, if there is one, is null or void.
+    #[tactic(auto, using(crate::proofs::Following::follows_nothing), unfolding(crate::specs::View::around, crate::specs::View::now, crate::specs::View::told))]
+    fn assume_nullish(
+        &mut self,
+        world: &World<'_>,
+        place: Option<Place>,
+        ty: &FlowType,
+    ) -> Result<(), NoMemory>
+        ensures now { OnOk result (now self.new ≡ nullish_from (world_view world.now) place ty.now (now self.old)) }
+        ensures around { OnOk result (around self.new ≡ around self.old) }
+        ensures follows { OnOk result (Follows None self.old None self.new) }
+    {
+        match place {
+            Some(place) => self.assume(world, &place, ty, &Test::Nullish),
+            None => Ok(()),
+        }
+    }
+
+    /// What `a ?? b` gives, once b was read behind a's way.
+    ///
+    /// # Errors
+    ///
+    /// `NoMemory` where memory is refused.
+    #[tactic(auto, using(crate::proofs::Operating::nullish_ended, crate::proofs::Rounds::fits_round, crate::proofs::Rounds::follows_round), unfolding(crate::specs::View::around, crate::specs::View::now, crate::specs::View::told))]
+    pub fn end_nullish(
+        &mut self,
+        world: &World<'_>,
+        left: &FlowType,
+        fork: Fork,
+        right: Read,
+    ) -> Result<Read, NoMemory>
+        requires right { Fits right.fork self.old.facts }
+        requires left { AreNested (fork ∷ []) right.fork self.old.facts }
+        ensures told { (a : Out) → a.ty ≡ left.now → (after a).facts ≡ way_of self.old.facts fork → IfOk result (λ r. told r self.new ≡ nullish_out (world_view world.now) a (told right self.old)) }
+        ensures around { OnOk result (around self.new ≡ around self.old) }
+        ensures follows { IfOk result (λ r. Follows (Some fork) self.old r.fork self.new) }
+    {
+        let right = self.after(right)?;
+        self.meet(fork)?;
+        let ty = self.left_or(world, left, &Test::NotNullish, right)?;
+        Ok(Read { ty, fork: None })
+    }
+
+    /// What an operator gives that is none of `&&`, `||` and `??`, once its right side was read. Its
+    /// chain begins at a token, its left side ends at a second one, and its right side at a third one.
+    ///
+    /// # Errors
+    ///
+    /// `NoMemory` where memory is refused.
+    #[tactic(auto, using(crate::proofs::Operating::operator_read, crate::proofs::Following::follows_still), unfolding(crate::specs::View::around, crate::specs::View::now, crate::specs::View::told))]
+    pub fn read_operator(
+        &mut self,
+        world: &World<'_>,
+        operator: Operator,
+        tokens: (usize, usize, usize),
+        left: &FlowType,
+        right: Read,
+    ) -> Result<Read, NoMemory>
+        requires plain { is_plain (operator_view operator) ≡ true }
+        requires fits { Fits right.fork self.old.facts }
+        ensures told { (a : Out) → a.ty ≡ left.now → IfOk result (λ r. told r self.new ≡ operator_out (world_view world.now) tokens.0 tokens.1 tokens.2 (operator_view operator) a (told right self.old)) }
+        ensures around { OnOk result (around self.new ≡ around self.old) }
+        ensures follows { IfOk result (λ r. Follows right.fork self.old r.fork self.new) }
+    {
+        let right = self.after(right)?;
+        let ty = operator_type(world, operator, tokens, left, &right, &mut self.notes)?;
+        Ok(Read { ty, fork: None })
+    }
+}

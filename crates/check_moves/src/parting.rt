@@ -1,0 +1,90 @@
+//! Ways that part and meet, as moves of a state.
+#![tactic(auto, unfolding(crate::specs::View::around, crate::specs::View::now))]
+
+ghost use Rattle.std.specs.Prelude.{◌≡◌, None, Some, OnOk, IfOk, reverse};
+ghost use Rattle.flow_facts.specs.Known.{joined};
+ghost use Rattle.refine_flow.specs.Standing.{known};
+ghost use Rattle.fact_ways.specs.Ways.{Fits, AreNested, outermost, way_of, ways_of, yes_of, all_joined};
+
+use crate::state::State;
+use fact_ways::{Fork, meet, meet_all, split, stand, swap, take};
+use flow_values::NoMemory;
+
+impl State {
+    ghost use Rattle.check_moves.specs.View.{around, now};
+    ghost use Rattle.check_moves.specs.Follows.{Follows};
+
+    // Two ways from here, which are the same so far.
+    #[tactic(auto, using(crate::proofs::Following::follows_facts), unfolding(crate::specs::View::around, crate::specs::View::now))]
+    pub(crate) fn stand(&mut self) -> Result<Fork, NoMemory>
+        ensures now { OnOk result (now self.new ≡ now self.old) }
+        ensures arm { IfOk result (λ k. way_of self.new.facts k ≡ known self.old.facts) }
+        ensures around { OnOk result (around self.new ≡ around self.old) }
+        ensures follows { IfOk result (λ k. Follows None self.old (Some k) self.new) }
+    {
+        stand(&mut self.facts)
+    }
+
+    // The two ways behind an expression, also where they are the same.
+    #[tactic(auto, using(crate::proofs::Following::follows_facts), unfolding(crate::specs::View::around, crate::specs::View::now))]
+    pub(crate) fn split(&mut self, fork: Option<Fork>) -> Result<Fork, NoMemory>
+        requires { Fits fork self.old.facts }
+        ensures now { OnOk result (now self.new ≡ now self.old) }
+        ensures arm { IfOk result (λ k. way_of self.new.facts k ≡ yes_of fork self.old.facts) }
+        ensures around { OnOk result (around self.new ≡ around self.old) }
+        ensures follows { IfOk result (λ k. Follows fork self.old (Some k) self.new) }
+    {
+        split(&mut self.facts, fork)
+    }
+
+    /// Goes on with the other one of two ways.
+    ///
+    /// # Errors
+    ///
+    /// `NoMemory` where memory is refused.
+    #[tactic(auto, using(crate::proofs::Following::follows_facts), unfolding(crate::specs::View::around, crate::specs::View::now))]
+    pub fn turn(&mut self, fork: Fork) -> Result<Fork, NoMemory>
+        requires { Fits (Some fork) self.old.facts }
+        ensures now { OnOk result (now self.new ≡ record (now self.old) { facts = way_of self.old.facts fork }) }
+        ensures arm { IfOk result (λ k. way_of self.new.facts k ≡ known self.old.facts) }
+        ensures around { OnOk result (around self.new ≡ around self.old) }
+        ensures follows { IfOk result (λ k. Follows (Some fork) self.old (Some k) self.new) }
+    {
+        swap(&mut self.facts, fork)
+    }
+
+    // Goes on with the way of the arm alone.
+    #[tactic(auto, using(crate::proofs::Following::follows_facts), unfolding(crate::specs::View::around, crate::specs::View::now))]
+    pub(crate) fn take(&mut self, fork: Fork) -> Result<(), NoMemory>
+        requires { Fits (Some fork) self.old.facts }
+        ensures now { OnOk result (now self.new ≡ record (now self.old) { facts = way_of self.old.facts fork }) }
+        ensures around { OnOk result (around self.new ≡ around self.old) }
+        ensures follows { OnOk result (Follows (Some fork) self.old None self.new) }
+    {
+        take(&mut self.facts, fork)
+    }
+
+    // The way of the arm meets the one that went on.
+    #[tactic(auto, using(crate::proofs::Following::follows_facts), unfolding(crate::specs::View::around, crate::specs::View::now))]
+    pub(crate) fn meet(&mut self, fork: Fork) -> Result<(), NoMemory>
+        requires { Fits (Some fork) self.old.facts }
+        ensures now { OnOk result (now self.new ≡ record (now self.old) { facts = joined (way_of self.old.facts fork) (known self.old.facts) }) }
+        ensures around { OnOk result (around self.new ≡ around self.old) }
+        ensures follows { OnOk result (Follows (Some fork) self.old None self.new) }
+    {
+        meet(&mut self.facts, fork)
+    }
+
+    // Ways that left before all meet the one that went on, the last one first; the arm stays what it is.
+    #[tactic(auto, using(crate::proofs::Following::follows_facts), unfolding(crate::specs::View::around, crate::specs::View::now))]
+    pub(crate) fn meet_ways(&mut self, last: Fork, left: Vec<Fork>) -> Result<Fork, NoMemory>
+        requires last { Fits (Some last) self.old.facts }
+        requires left { AreNested (reverse left.items) (Some last) self.old.facts }
+        ensures now { OnOk result (now self.new ≡ record (now self.old) { facts = all_joined (ways_of self.old.facts (reverse left.items)) (known self.old.facts) }) }
+        ensures arm { IfOk result (λ k. way_of self.new.facts k ≡ way_of self.old.facts last) }
+        ensures around { OnOk result (around self.new ≡ around self.old) }
+        ensures follows { IfOk result (λ k. Follows (outermost (reverse left.items) (Some last)) self.old (Some k) self.new) }
+    {
+        meet_all(&mut self.facts, last, left)
+    }
+}
