@@ -5,6 +5,8 @@
                                       those below them: each proof and each edit is done from nothing
     bench/gate.py --kept [NAME ..]    runs `rt ci` without --anew: what an earlier run kept isn't done again, nor counted
 
+A toolchain whose `rt ci` keeps nothing has no --anew and takes no names: there it is `rt ci` in both cases.
+
 What `rt ci` says goes to the file that the variable GATE_LOG names, if it is set.
 `rt ci` starts a process of `rattle` for each proof, each proof of tests and each try of an edit, and a check of the crate
 as it stands before its edits, which counts as theirs. The program looks at those processes ten times a second, in /proc,
@@ -79,10 +81,17 @@ def print_row(name, row):
     print(f"{name:<20}" + "".join(f"{row[it]:>9.1f}" for it in KINDS) + f"{sum(row.values()):>9.1f}")
 
 
-def main():
-    words = sys.argv[1:]
+def command_of(words):
+    """The run of `rt ci`, as the toolchain's own help says that it takes its words."""
+    asked = subprocess.run(["rt", "help"], stdin=subprocess.DEVNULL, stdout=subprocess.PIPE, stderr=subprocess.STDOUT)
+    if b"--anew" not in asked.stdout:
+        return ["rt", "ci"]
     flags = [] if "--kept" in words else ["--anew"]
-    command = ["rt", "ci", *flags, *(it for it in words if it != "--kept")]
+    return ["rt", "ci", *flags, *(it for it in words if it != "--kept")]
+
+
+def main():
+    command = command_of(sys.argv[1:])
     began = time.monotonic()
     with tempfile.TemporaryFile("w+", errors="replace") as said:
         run = subprocess.Popen(command, cwd=TOP, stdout=said, stderr=subprocess.STDOUT)

@@ -1,9 +1,7 @@
 //! What the names of a module mean as types.
-ghost use Rattle.std.specs.Prelude.{◌≡◌, not, List, ℕ, OnOk, OnErr, IfOk};
+ghost use Rattle.std.specs.Prelude.{◌≡◌, not, List, ℕ, None, OnOk, OnErr, IfOk};
 ghost use Rattle.std.specs.Option.{is_some};
 ghost use Rattle.std.specs.Str.{bytes_eq};
-ghost use Rattle.check_values.specs.declared.codes.Code.TheVariants.{CannotResolveName};
-ghost use Rattle.typing.specs.States.{no_type_of};
 ghost use Rattle.typing.specs.TypeFaults.{type_meant};
 
 use check_values::Code;
@@ -32,7 +30,7 @@ impl TypeScope {
     /// No names.
     #[tactic(auto, unfolding(crate::specs::View::row_of))]
     pub fn new(alloc: Global) -> TypeScope
-        ensures { (name : List ℕ) → meaning_in result name ≡ no_type_of CannotResolveName }
+        ensures { (name : List ℕ) → row_of result name ≡ None }
     {
         TypeScope {
             rows: BTreeMap::new(alloc),
