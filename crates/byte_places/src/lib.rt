@@ -1,0 +1,6 @@
+//! Where a line and a column of a source stand in its bytes.
+#![tactic(auto)]
+
+mod places;
+
+pub use places::byte_place;

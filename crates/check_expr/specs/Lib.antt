@@ -1,0 +1,4 @@
+pub mod Runs
+pub mod Bodies
+pub mod Targets
+pub mod Tests

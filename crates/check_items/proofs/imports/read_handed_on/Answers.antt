@@ -1,0 +1,17 @@
+use Rattle.std.proofs.Common.{arith}
+use Rattle.check_world.specs.View.{world_view, notes_view}
+use Rattle.check_items.proofs.NotesInOrder.{handed_none, handed_next, handed_all}
+use Rattle.check_items.proofs.imports.read_handed_on.Goals as goal
+
+pub loop-i-init : goal.loop-i-init
+loop-i-init c = λ p says. handed_none (world_view c.args.world.now) p c.args.from.0 c.args.from.1.now (notes_view c.args.notes.now)
+
+pub loop-i-preserved : goal.loop-i-preserved
+loop-i-preserved c = λ p says.
+    handed_next (world_view c.args.world.now) p c.args.from.0 c.args.from.1.now c.as_slice-names.result.now c.loop-i.i c.index-names-i.result (notes_view c.args.notes.now) (notes_view c.loop-i.notes) (notes_view c.read_name.new.notes)
+    (omega arith) c.index-names-i.is (c.in_ok-read_name.ensures p says) (c.loop-i.invariant p says)
+
+pub returns : goal.returns
+returns c = λ p says.
+    handed_all (world_view c.args.world.now) p c.args.from.0 c.args.from.1.now c.as_slice-names.result.now c.args.list.now.names c.loop-i.i (notes_view c.args.notes.now) (notes_view c.loop-i.notes) (omega arith) c.as_slice-names.ensures
+    (c.loop-i.invariant p says)

@@ -1,0 +1,4 @@
+pub mod View
+pub mod Exported
+pub mod Meant
+pub mod Aliases

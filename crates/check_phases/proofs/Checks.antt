@@ -1,0 +1,111 @@
+-- The errors of the modules, one after the other.
+use Rattle.std.proofs.Common.{◌≡◌, ℕ, zero, suc, ◌+◌, ◌<◌, List, [], ◌∷◌, ◌++◌, map, length, take, get_or, slice_get, Some, None, refl, sym, ap, ◌∙◌, subst, arith}
+use Rattle.heap_core.proofs.Lists.{get_index}
+use Rattle.flow_base.specs.Program.{Bytes, Program}
+use Rattle.check_values.specs.Rows.{Rows, row_at}
+use Rattle.check_values.specs.declared.root.RootRow.{RootRow}
+use Rattle.check_values.specs.declared.faults.Errs.{Errs}
+use Rattle.check_values.specs.declared.signatures.Deps.{Deps}
+use Rattle.check_values.specs.declared.signatures.Sig.{Sig}
+use Rattle.check_values.specs.declared.faults.Fault.{Fault}
+use Rattle.check_values.specs.declared.signatures.LocalSig.{LocalSig}
+use Rattle.source_front.specs.Front.{Says, IsParse}
+use Rattle.source_front.specs.declared.parse.Parse.{Parse}
+use Rattle.source_front.specs.declared.parse.ParseTree.{ParseTree}
+use Rattle.source_front.specs.declared.parse.ParseTree.TheVariants.{Tree, Broken}
+use Rattle.errors_by_reach.specs.Seen.{Sigs}
+use Rattle.errors_by_reach.specs.Law.{AreErrors}
+use Rattle.check_job.specs.Jobs.{source_in, source_of, IsFronted, HasFaults}
+use Rattle.check_job.specs.declared.job.CheckJob.{CheckJob}
+use Rattle.program_check.specs.Full.{beside}
+use Rattle.check_phases.specs.Phases.{AreParsed, AreChecked, IsCheckedAt}
+use Rattle.check_phases.specs.Sourced.{program_in, AreSources}
+use Rattle.check_phases.specs.Whole.{sigs_by}
+use Rattle.check_phases.specs.Checking.{IsJobOf}
+use Rattle.check_phases.specs.declared.merging.Sources.{Sources}
+use Rattle.check_phases.proofs.Jobs.{zip_at}
+use Rattle.check_phases.proofs.Lists.{one_value, take_next, take_whole}
+use Rattle.check_phases.proofs.Merges.{beside_get, program_get}
+
+-- ---- the signatures of a job
+
+pub signed_more : (s : Sources) (sigs : List Sig) (ms : List RootRow) (i : ℕ) (m : RootRow) (sig mine : Sig) (path : Bytes) (old new : Rows Sig) → ms ≡ s.root.modules → i < length ms → m ≡ get_or ms i m → i < length sigs → sig ≡ get_or sigs i sig
+    → path ≡ m.path → mine ≡ sig → old ≡ take i (beside (program_in s) sigs) → new ≡ old ++ (path, mine) ∷ [] → new ≡ take (i + 1) (beside (program_in s) sigs)
+signed_more s sigs ms i m sig mine path old new same low is low_sig is_sig is_path is_mine so_far pushed =
+    let at_m : slice_get s.root.modules i ≡ Some m = ap (λ (l : List RootRow). slice_get l i) (sym same) ∙ get_index ms i m low is in
+    let at = beside_get s.root.modules sigs i m sig at_m (get_index sigs i sig low_sig is_sig) in
+    let next = take_next (beside (program_in s) sigs) i (m.path, sig) at in
+    pushed ∙ ((λ j. so_far j ++ (is_path j, is_mine j) ∷ []) ∙ sym next)
+
+length_beside : {X : Type 0} (ms : List RootRow) (xs : List X) → length xs ≡ length ms → length (beside (map (λ (r : RootRow). (r.path, r.text)) ms) xs) ≡ length ms
+length_beside [] xs many = refl
+length_beside (m ∷ ms) [] many = absurd (omega (arith, many))
+length_beside (m ∷ ms) (x ∷ xs) many = ap suc (length_beside ms xs (omega (arith, many)))
+
+pub signed_all : (s : Sources) (sigs : List Sig) (i : ℕ) (rows : Rows Sig) → length sigs ≡ length s.root.modules → i ≡ length s.root.modules → rows ≡ take i (beside (program_in s) sigs) → rows ≡ beside (program_in s) sigs
+signed_all s sigs i rows many all is =
+    is ∙ (ap (λ (n : ℕ). take n (beside (program_in s) sigs)) (all ∙ sym (length_beside s.root.modules sigs many)) ∙ take_whole (beside (program_in s) sigs))
+
+-- ---- the job
+
+pub job_made : (s : Sources) (sigs : List Sig) (ms : List RootRow) (x : ℕ) (m : RootRow) (parse : Parse) (deps : Deps) (job : CheckJob) → ms ≡ s.root.modules → x < length ms → m ≡ get_or ms x m
+    → x < length s.parses.items → parse ≡ get_or s.parses.items x parse → x < length s.lists.items → deps ≡ get_or s.lists.items x deps
+    → job.path ≡ m.path → job.text ≡ m.text → job.parse ≡ parse → job.deps ≡ deps → job.sigs ≡ beside (program_in s) sigs → IsJobOf s sigs x job
+job_made s sigs ms x m parse deps job same low is low_p is_p low_d is_d path text p d signed = record {
+  at_module = program_get s.root.modules x m (ap (λ (l : List RootRow). slice_get l x) (sym same) ∙ get_index ms x m low is) ∙ (λ j. Some (sym path j, sym text j));
+  parse = get_index s.parses.items x parse low_p is_p ∙ ap Some (sym p);
+  deps = get_index s.lists.items x deps low_d is_d ∙ ap Some (sym d);
+  signed = signed;
+}
+
+-- what a source says goes with the faults of its tree
+says_faults : (text : Bytes) (job : CheckJob) (tree : ParseTree) (sig : LocalSig) (faults : List Fault) → job.parse.faults ≡ faults → Says text tree sig faults → HasFaults job (source_in tree)
+says_faults text job (Tree m spans) sig faults is says = is ∙ says.2
+says_faults text job (Broken f) sig faults is says = tt
+
+pub job_fronted : (s : Sources) (sigs : List Sig) (x : ℕ) (job : CheckJob) → AreSources s → IsJobOf s sigs x job → IsFronted job
+job_fronted s sigs x job sources is =
+    let there = zip_at (λ (m : Bytes × Bytes) (p : Parse). IsParse m.1 p) (program_in s) s.parses.items x (job.path, job.text) sources.parsed is.at_module in
+    let same : there.0 ≡ job.parse = one_value there.0 job.parse (sym there.1 ∙ is.parse) in
+    let says : IsParse job.text job.parse = subst (λ (p : Parse). IsParse job.text p) same there.2 in
+    says_faults job.text job job.parse.tree job.parse.sig job.parse.faults refl says
+
+-- its errors are those of the module of its number
+pub job_checked : (s : Sources) (sigs : List Sig) (x : ℕ) (job : CheckJob) (errs : Errs) → IsJobOf s sigs x job → AreErrors job.path job.deps (source_of job) (row_at job.sigs) errs.faults
+    → IsCheckedAt (sigs_by s sigs) (program_in s) s.parses.items s.lists.items x errs
+job_checked s sigs x job errs is are = record {
+  path = (job.path, job.text);
+  parse = job.parse;
+  deps = job.deps;
+  at_path = is.at_module;
+  at_parse = is.parse;
+  at_deps = is.deps;
+  errors = subst (λ (rows : Rows Sig). AreErrors job.path job.deps (source_of job) (row_at rows) errs.faults) is.signed are;
+}
+
+pub job_errors : (s : Sources) (sigs : List Sig) (x : ℕ) (job : CheckJob) (errs mine : Errs) → IsJobOf s sigs x job → AreErrors job.path job.deps (source_of job) (row_at job.sigs) errs.faults → mine ≡ errs
+    → IsCheckedAt (sigs_by s sigs) (program_in s) s.parses.items s.lists.items x mine
+job_errors s sigs x job errs mine is are same = subst (λ (e : Errs). IsCheckedAt (sigs_by s sigs) (program_in s) s.parses.items s.lists.items x e) (sym same) (job_checked s sigs x job errs is are)
+
+-- ---- batches
+
+pub one_checked : (sigs : Sigs) (program : Program) (parses : List Parse) (lists : List Deps) (x : ℕ) (errs : Errs) (old new : List Errs) → length old ≡ x → IsCheckedAt sigs program parses lists x errs → new ≡ old ++ errs ∷ []
+    → AreChecked sigs program parses lists old → AreChecked sigs program parses lists new
+one_checked sigs program parses lists x errs old new many is pushed so_far =
+    subst (λ (l : List Errs). AreChecked sigs program parses lists l) (sym pushed) (go program parses lists x old many is.path is.parse is.deps is.at_path is.at_parse is.at_deps is.errors so_far)
+  where
+    go : (program : Program) (parses : List Parse) (lists : List Deps) (x : ℕ) (old : List Errs) → length old ≡ x → (path : Bytes × Bytes) (parse : Parse) (deps : Deps) → slice_get program x ≡ Some path → slice_get parses x ≡ Some parse
+        → slice_get lists x ≡ Some deps → AreErrors path.0 deps (source_in parse.tree) sigs errs.faults → AreChecked sigs program parses lists old → AreChecked sigs program parses lists (old ++ errs ∷ [])
+    go [] parses lists x old many path parse deps a b c e so_far = absurd (let z : None ≡ Some path = a in cc)
+    go (m ∷ program) [] lists x old many path parse deps a b c e so_far = absurd (let z : None ≡ Some parse = b in cc)
+    go (m ∷ program) (p ∷ parses) [] x old many path parse deps a b c e so_far = absurd (let z : None ≡ Some deps = c in cc)
+    go (m ∷ program) (p ∷ parses) (d ∷ lists) zero [] many path parse deps a b c e so_far =
+        let am = one_value m path a in let bp = one_value p parse b in let cd = one_value d deps c in (
+          subst (λ (r : Bytes × Bytes). AreErrors r.0 d (source_in p.tree) sigs errs.faults) (sym am)
+              (subst (λ (r : Parse). AreErrors path.0 d (source_in r.tree) sigs errs.faults) (sym bp)
+              (subst (λ (r : Deps). AreErrors path.0 r (source_in parse.tree) sigs errs.faults) (sym cd) e)),
+          tt,
+        )
+    go (m ∷ program) (p ∷ parses) (d ∷ lists) zero (o ∷ old) many path parse deps a b c e so_far = absurd (omega (arith, many))
+    go (m ∷ program) (p ∷ parses) (d ∷ lists) (suc x) [] many path parse deps a b c e so_far = absurd (omega (arith, many))
+    go (m ∷ program) (p ∷ parses) (d ∷ lists) (suc x) (o ∷ old) many path parse deps a b c e so_far = (so_far.0, go program parses lists x old (omega (arith, many)) path parse deps a b c e so_far.1)
