@@ -1,0 +1,11 @@
+//! The law that each module has errors, one list of them or an empty one, whatever the merged signatures of a program are: what a check
+//! answers is defined for all of them. The definitions stand in `errors_by_reach`; the code here is the law, as the contract of a call
+//! that does nothing.
+#![tactic(auto)]
+
+ghost use Rattle.errors_law.specs.Law.{EachHasErrors};
+
+/// Each module has errors.
+pub fn each_has_errors()
+    ensures { EachHasErrors }
+{}
