@@ -1,5 +1,8 @@
 -- The errors of the modules, one after the other.
-use Rattle.std.proofs.Common.{◌≡◌, ℕ, zero, suc, ◌+◌, ◌<◌, List, [], ◌∷◌, ◌++◌, map, length, take, get_or, slice_get, Some, None, refl, sym, ap, ◌∙◌, subst, arith}
+use Rattle.std.proofs.Common.{◌≡◌, ℕ, zero, suc, ◌+◌, ◌<◌, ◌≤◌, List, [], ◌∷◌, ◌++◌, map, length, take, take_all, get_or, slice_get, Option, Some, None, refl, sym, ap, ◌∙◌, subst, arith, append-nil}
+use Rattle.std.specs.Prelude.{option_to_list}
+use Rattle.std.specs.List.{flat_map}
+use Rattle.std.proofs.lemmas.Option.{slice_get_past}
 use Rattle.heap_core.proofs.Lists.{get_index}
 use Rattle.flow_base.specs.Program.{Bytes, Program}
 use Rattle.check_values.specs.Rows.{Rows, row_at}
@@ -14,14 +17,19 @@ use Rattle.source_front.specs.declared.parse.Parse.{Parse}
 use Rattle.source_front.specs.declared.parse.ParseTree.{ParseTree}
 use Rattle.source_front.specs.declared.parse.ParseTree.TheVariants.{Tree, Broken}
 use Rattle.errors_by_reach.specs.Seen.{Sigs}
-use Rattle.errors_by_reach.specs.Law.{AreErrors}
+use Rattle.errors_by_reach.specs.Law.{AreErrors, Agree, KeyLaw}
+use Rattle.merged_signatures.specs.Reach.{Reach, by_specifier, by_signature}
+use Rattle.named_rows.proofs.Lists.{flat_last}
+use Rattle.import_sayings.specs.Reached.{AreNumbers}
+use Rattle.import_sayings.proofs.ReachedPaths.{taken}
 use Rattle.check_job.specs.Jobs.{source_in, source_of, IsFronted, HasFaults}
 use Rattle.check_job.specs.declared.job.CheckJob.{CheckJob}
 use Rattle.program_check.specs.Full.{beside}
 use Rattle.check_phases.specs.Phases.{AreParsed, AreChecked, IsCheckedAt}
 use Rattle.check_phases.specs.Sourced.{program_in, AreSources}
 use Rattle.check_phases.specs.Whole.{sigs_by}
-use Rattle.check_phases.specs.Checking.{IsJobOf}
+use Rattle.check_phases.specs.Checking.{IsJobOf, AreSigned, picked}
+use Rattle.check_phases.specs.declared.checking.Signed.{Signed}
 use Rattle.check_phases.specs.declared.merging.Sources.{Sources}
 use Rattle.check_phases.proofs.Jobs.{zip_at}
 use Rattle.check_phases.proofs.Lists.{one_value, take_next, take_whole}
@@ -46,16 +54,35 @@ pub signed_all : (s : Sources) (sigs : List Sig) (i : ℕ) (rows : Rows Sig) →
 signed_all s sigs i rows many all is =
     is ∙ (ap (λ (n : ℕ). take n (beside (program_in s) sigs)) (all ∙ sym (length_beside s.root.modules sigs many)) ∙ take_whole (beside (program_in s) sigs))
 
+pub all_signed : (s : Sources) (sigs : List Sig) (rows view : Rows Sig) (signed : Signed) → rows ≡ beside (program_in s) sigs → view ≡ rows → AreNumbers view signed.numbers → signed.rows ≡ rows → AreSigned s sigs signed
+all_signed s sigs rows view signed is seen numbered same = record { rows = same ∙ is; numbers = subst (λ (l : Rows Sig). AreNumbers l signed.numbers) (seen ∙ sym same) numbered }
+
+-- ---- some of them
+
+pub none_picked : (rows : Rows Sig) (n : ℕ) (start : Rows Sig) → length rows ≤ n → start ≡ start ++ picked rows n
+none_picked rows n start past = sym (ap (λ (o : Option (Bytes × Sig)). start ++ option_to_list o) (slice_get_past rows n past) ∙ append-nil start)
+
+pub picked_none : (rows : Rows Sig) (numbers : List ℕ) (some : Rows Sig) → some ≡ [] → some ≡ flat_map (picked rows) (take 0 numbers)
+picked_none rows numbers some none = none
+
+pub picked_more : (rows : Rows Sig) (numbers : List ℕ) (i n : ℕ) (before after : Rows Sig) → i < length numbers → n ≡ get_or numbers i n → before ≡ flat_map (picked rows) (take i numbers) → after ≡ before ++ picked rows n → after ≡ flat_map (picked rows) (take (i + 1) numbers)
+picked_more rows numbers i n before after within is so_far adds =
+    adds ∙ ap (λ (l : Rows Sig). l ++ picked rows n) so_far
+    ∙ sym (ap (flat_map (picked rows)) (taken numbers i n within is) ∙ flat_last (picked rows) (take i numbers) n)
+
+pub picked_all : (rows : Rows Sig) (numbers : List ℕ) (i : ℕ) (some : Rows Sig) → length numbers ≤ i → some ≡ flat_map (picked rows) (take i numbers) → some ≡ flat_map (picked rows) numbers
+picked_all rows numbers i some past is = is ∙ ap (flat_map (picked rows)) (take_all i numbers past)
+
 -- ---- the job
 
-pub job_made : (s : Sources) (sigs : List Sig) (ms : List RootRow) (x : ℕ) (m : RootRow) (parse : Parse) (deps : Deps) (job : CheckJob) → ms ≡ s.root.modules → x < length ms → m ≡ get_or ms x m
+pub job_made : (s : Sources) (rows : Rows Sig) (ms : List RootRow) (x : ℕ) (m : RootRow) (parse : Parse) (deps : Deps) (job : CheckJob) → ms ≡ s.root.modules → x < length ms → m ≡ get_or ms x m
     → x < length s.parses.items → parse ≡ get_or s.parses.items x parse → x < length s.lists.items → deps ≡ get_or s.lists.items x deps
-    → job.path ≡ m.path → job.text ≡ m.text → job.parse ≡ parse → job.deps ≡ deps → job.sigs ≡ beside (program_in s) sigs → IsJobOf s sigs x job
-job_made s sigs ms x m parse deps job same low is low_p is_p low_d is_d path text p d signed = record {
+    → job.path ≡ m.path → job.text ≡ m.text → job.parse ≡ parse → job.deps ≡ deps → Agree (row_at rows) deps (row_at job.sigs) → IsJobOf s rows x job
+job_made s rows ms x m parse deps job same low is low_p is_p low_d is_d path text p d signed = record {
   at_module = program_get s.root.modules x m (ap (λ (l : List RootRow). slice_get l x) (sym same) ∙ get_index ms x m low is) ∙ (λ j. Some (sym path j, sym text j));
   parse = get_index s.parses.items x parse low_p is_p ∙ ap Some (sym p);
   deps = get_index s.lists.items x deps low_d is_d ∙ ap Some (sym d);
-  signed = signed;
+  signed = subst (λ (ds : Deps). Agree (row_at rows) ds (row_at job.sigs)) (sym d) signed;
 }
 
 -- what a source says goes with the faults of its tree
@@ -63,29 +90,43 @@ says_faults : (text : Bytes) (job : CheckJob) (tree : ParseTree) (sig : LocalSig
 says_faults text job (Tree m spans) sig faults is says = is ∙ says.2
 says_faults text job (Broken f) sig faults is says = tt
 
-pub job_fronted : (s : Sources) (sigs : List Sig) (x : ℕ) (job : CheckJob) → AreSources s → IsJobOf s sigs x job → IsFronted job
-job_fronted s sigs x job sources is =
+pub job_fronted : (s : Sources) (rows : Rows Sig) (x : ℕ) (job : CheckJob) → AreSources s → IsJobOf s rows x job → IsFronted job
+job_fronted s rows x job sources is =
     let there = zip_at (λ (m : Bytes × Bytes) (p : Parse). IsParse m.1 p) (program_in s) s.parses.items x (job.path, job.text) sources.parsed is.at_module in
     let same : there.0 ≡ job.parse = one_value there.0 job.parse (sym there.1 ∙ is.parse) in
     let says : IsParse job.text job.parse = subst (λ (p : Parse). IsParse job.text p) same there.2 in
     says_faults job.text job job.parse.tree job.parse.sig job.parse.faults refl says
 
+-- where others say the same, as far as a module reaches, it reaches no further by them
+same_reach : (sigs others : Sigs) (deps : Deps) → Agree sigs deps others → {path : Bytes} → Reach others deps path → Reach sigs deps path
+same_reach sigs others deps agree (by_specifier spec path finds) = by_specifier spec path finds
+same_reach sigs others deps agree (by_signature path other sig way is named) =
+    let there = same_reach sigs others deps agree way in
+    by_signature path other sig there (sym (agree path there) ∙ is) named
+
+agrees_back : (sigs others : Sigs) (deps : Deps) → Agree sigs deps others → Agree others deps sigs
+agrees_back sigs others deps agree = λ path way. sym (agree path (same_reach sigs others deps agree way))
+
 -- its errors are those of the module of its number
-pub job_checked : (s : Sources) (sigs : List Sig) (x : ℕ) (job : CheckJob) (errs : Errs) → IsJobOf s sigs x job → AreErrors job.path job.deps (source_of job) (row_at job.sigs) errs.faults
-    → IsCheckedAt (sigs_by s sigs) (program_in s) s.parses.items s.lists.items x errs
-job_checked s sigs x job errs is are = record {
+pub job_checked : KeyLaw → (s : Sources) (rows : Rows Sig) (x : ℕ) (job : CheckJob) (errs : Errs) → IsJobOf s rows x job → AreErrors job.path job.deps (source_of job) (row_at job.sigs) errs.faults
+    → IsCheckedAt (row_at rows) (program_in s) s.parses.items s.lists.items x errs
+job_checked law s rows x job errs is are = record {
   path = (job.path, job.text);
   parse = job.parse;
   deps = job.deps;
   at_path = is.at_module;
   at_parse = is.parse;
   at_deps = is.deps;
-  errors = subst (λ (rows : Rows Sig). AreErrors job.path job.deps (source_of job) (row_at rows) errs.faults) is.signed are;
+  errors = law job.path job.deps (source_of job) (row_at job.sigs) (row_at rows) errs.faults (agrees_back (row_at rows) (row_at job.sigs) job.deps is.signed) are;
 }
 
-pub job_errors : (s : Sources) (sigs : List Sig) (x : ℕ) (job : CheckJob) (errs mine : Errs) → IsJobOf s sigs x job → AreErrors job.path job.deps (source_of job) (row_at job.sigs) errs.faults → mine ≡ errs
-    → IsCheckedAt (sigs_by s sigs) (program_in s) s.parses.items s.lists.items x mine
-job_errors s sigs x job errs mine is are same = subst (λ (e : Errs). IsCheckedAt (sigs_by s sigs) (program_in s) s.parses.items s.lists.items x e) (sym same) (job_checked s sigs x job errs is are)
+pub job_errors : KeyLaw → (s : Sources) (rows : Rows Sig) (x : ℕ) (job : CheckJob) (errs mine : Errs) → IsJobOf s rows x job → AreErrors job.path job.deps (source_of job) (row_at job.sigs) errs.faults → mine ≡ errs
+    → IsCheckedAt (row_at rows) (program_in s) s.parses.items s.lists.items x mine
+job_errors law s rows x job errs mine is are same = subst (λ (e : Errs). IsCheckedAt (row_at rows) (program_in s) s.parses.items s.lists.items x e) (sym same) (job_checked law s rows x job errs is are)
+
+-- and so of those that were signed
+pub signed_errors : (s : Sources) (sigs : List Sig) (signed : Signed) (x : ℕ) (errs : Errs) → AreSigned s sigs signed → IsCheckedAt (row_at signed.rows) (program_in s) s.parses.items s.lists.items x errs → IsCheckedAt (sigs_by s sigs) (program_in s) s.parses.items s.lists.items x errs
+signed_errors s sigs signed x errs are = subst (λ (l : Rows Sig). IsCheckedAt (row_at l) (program_in s) s.parses.items s.lists.items x errs) are.rows
 
 -- ---- batches
 

@@ -1,22 +1,34 @@
 //! The errors of the modules.
-ghost use Rattle.std.specs.Prelude.{◌≡◌, ◌-◌, ◌+◌, ◌<◌, ◌≤◌, min, IfOk, OnOk, length, sum_by};
+ghost use Rattle.std.specs.Prelude.{◌≡◌, ◌-◌, ◌+◌, ◌++◌, ◌<◌, ◌≤◌, min, IfOk, OnOk, length, sum_by};
+ghost use Rattle.std.specs.List.{flat_map};
 ghost use Rattle.analyst.specs.Work.{Works, checking, checks_of};
 ghost use Rattle.program_check.specs.Full.{beside};
 ghost use Rattle.check_phases.specs.Phases.{AreChecked, IsCheckedAt};
 ghost use Rattle.check_phases.specs.Sourced.{program_in, AreSources};
 ghost use Rattle.check_phases.specs.Whole.{sigs_by};
-ghost use Rattle.check_phases.specs.Checking.{IsJobOf, batch_after};
+ghost use Rattle.check_phases.specs.Checking.{IsJobOf, AreSigned, picked, batch_after};
+ghost use Rattle.check_values.specs.Rows.{row_at};
+ghost use Rattle.errors_by_reach.specs.Law.{Agree};
+ghost use Rattle.import_sayings.specs.Reached.{AreNumbers};
 
 use crate::merging::{Sources, modules_of};
 use crate::work::counted;
 use analyst::Analyst;
 use check_job::CheckJob;
-use check_values::{Errs, Sig};
+use check_values::{Deps, Errs, Sig};
 use flow_values::{List, NoMemory, Path, Shared};
+use import_sayings::{Numbers, numbers_of, reached_from};
 use std::alloc::Global;
 
-// The merged signatures that the check of a module may read, and perhaps others.
-fn signatures_for(
+/// The merged signatures of all modules by their paths, in order, and the number of each path.
+#[derive(Drop)]
+pub(crate) struct Signed {
+    pub rows: List<(Path, Shared<Sig>)>,
+    pub numbers: Numbers,
+}
+
+// The merged signatures of all modules by their paths.
+fn signature_rows(
     alloc: Global,
     sources: &Sources,
     signatures: &[Shared<Sig>],
@@ -34,49 +46,107 @@ fn signatures_for(
     Ok(rows)
 }
 
-// The job of the module of a number.
-#[tactic(auto, using(crate::proofs::Merges::many_parses, crate::proofs::Merges::many_lists))]
-fn job_of(
+// The same, with the number of each path.
+#[tactic(auto, using(crate::proofs::Checks::all_signed))]
+fn sign_all(
     alloc: Global,
     sources: &Sources,
     signatures: &[Shared<Sig>],
-    x: usize,
-) -> Result<CheckJob, NoMemory>
-    requires sources { AreSources sources.now }
+) -> Result<Signed, NoMemory>
     requires many { length signatures.now ≡ length sources.now.root.modules }
-    requires within { x < length signatures.now }
-    ensures { IfOk result (IsJobOf sources.now signatures.now x) }
+    ensures { IfOk result (AreSigned sources.now signatures.now) }
+{
+    let rows = signature_rows(alloc, sources, signatures)?;
+    let numbers = numbers_of(alloc, rows.as_slice())?;
+    Ok(Signed { rows, numbers })
+}
+
+// Adds the signature of a number, with its path.
+#[tactic(auto, using(crate::proofs::Checks::none_picked))]
+fn add_signature(
+    rows: &[(Path, Shared<Sig>)],
+    number: u32,
+    out: &mut List<(Path, Shared<Sig>)>,
+) -> Result<(), NoMemory>
+    ensures { OnOk result (out.new ≡ out.old ++ picked rows.now number) }
+{
+    match rows.get(number as usize) {
+        Some((path, signature)) => out.push((path.share()?, signature.share()?)),
+        None => Ok(()),
+    }
+}
+
+// The signatures of some numbers, with their paths.
+#[tactic(auto, using(crate::proofs::Checks::picked_none, crate::proofs::Checks::picked_more, crate::proofs::Checks::picked_all))]
+fn signatures_at(
+    alloc: Global,
+    rows: &[(Path, Shared<Sig>)],
+    numbers: &[u32],
+) -> Result<List<(Path, Shared<Sig>)>, NoMemory>
+    ensures { IfOk result (λ some. some ≡ flat_map (picked rows.now) numbers.now) }
+{
+    let mut some = List::new(alloc);
+    for i in 0..numbers.len() {
+        add_signature(rows, numbers[i], &mut some)?;
+    }
+    Ok(some)
+}
+
+// The merged signatures that the check of a module may read: those of the modules that it reaches.
+#[tactic(auto, using(import_sayings::proofs::Agreeing::reached_agree))]
+fn signatures_for(
+    alloc: Global,
+    signed: &Signed,
+    deps: &Deps,
+) -> Result<List<(Path, Shared<Sig>)>, NoMemory>
+    requires { AreNumbers signed.now.rows signed.now.numbers }
+    ensures { IfOk result (λ some. Agree (row_at signed.now.rows) deps.now (row_at some)) }
+{
+    let rows = signed.rows.as_slice();
+    let reached = reached_from(alloc, &signed.numbers, deps, rows)?;
+    signatures_at(alloc, rows, reached.as_slice())
+}
+
+// The job of the module of a number.
+#[tactic(auto, using(crate::proofs::Merges::many_parses, crate::proofs::Merges::many_lists))]
+fn job_of(alloc: Global, sources: &Sources, signed: &Signed, x: usize) -> Result<CheckJob, NoMemory>
+    requires sources { AreSources sources.now }
+    requires within { x < length sources.now.root.modules }
+    requires numbered { AreNumbers signed.now.rows signed.now.numbers }
+    ensures { IfOk result (IsJobOf sources.now signed.now.rows x) }
 {
     let modules = modules_of(sources);
     let module = &modules[x];
     let parse = &sources.parses[x];
     let deps = &sources.lists[x];
+    let sigs = signatures_for(alloc, signed, deps.get())?;
     Ok(CheckJob {
         path: module.path.share()?,
         text: module.text.share()?,
         parse: parse.share()?,
         deps: deps.share()?,
-        sigs: signatures_for(alloc, sources, signatures)?,
+        sigs,
     })
 }
 
 // The errors of the module of a number, by one analyst.
-#[tactic(auto, using(crate::proofs::Works::within_same, crate::proofs::Works::within_none, crate::proofs::Checks::job_fronted, crate::proofs::Checks::job_checked))]
+#[tactic(auto, using(crate::proofs::Works::within_same, crate::proofs::Works::within_none))]
 fn errors_of<A: Analyst>(
     alloc: Global,
     analyst: &mut A,
     sources: &Sources,
-    signatures: &[Shared<Sig>],
+    signed: &Signed,
     x: usize,
 ) -> Result<Shared<Errs>, NoMemory>
     requires sources { AreSources sources.now }
-    requires many { length signatures.now ≡ length sources.now.root.modules }
-    requires within { x < length signatures.now }
-    ensures errors { IfOk result (IsCheckedAt (sigs_by sources.now signatures.now) (program_in sources.now) sources.now.parses.items sources.now.lists.items x) }
+    requires within { x < length sources.now.root.modules }
+    requires numbered { AreNumbers signed.now.rows signed.now.numbers }
+    ensures errors { IfOk result (IsCheckedAt (row_at signed.now.rows) (program_in sources.now) sources.now.parses.items sources.now.lists.items x) }
     ensures work { Works result checking (A.work analyst.old) (A.work analyst.new) }
 {
     counted(&*analyst);
-    let job = job_of(alloc, sources, signatures, x)?;
+    errors_by_reach::errors_by_reach();
+    let job = job_of(alloc, sources, signed, x)?;
     let errs = analyst.check(&job)?;
     Ok(Shared::new(alloc, errs)?)
 }
@@ -107,8 +177,9 @@ pub(crate) fn check_batch<A: Analyst>(
     counted(&*analyst);
     let start = errors.len();
     let end = usize::min(signatures.len(), start + BATCH);
+    let signed = sign_all(alloc, sources, signatures)?;
     for x in start..end {
-        let errs = errors_of(alloc, analyst, sources, signatures, x)?;
+        let errs = errors_of(alloc, analyst, sources, &signed, x)?;
         errors.push(errs)?;
     }
     Ok(())

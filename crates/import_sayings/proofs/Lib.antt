@@ -1,3 +1,5 @@
+pub mod Agreeing
 pub mod PathsIn
-pub mod Rows
 pub mod ReachedPaths
+pub mod Rows
+pub mod Searched

@@ -11,7 +11,6 @@ use Rattle.std.proofs.lemmas.List.{length-map, map-append}
 use Rattle.std.proofs.lemmas.Option.{slice_get_past, slice_get-get_or, slice_get_within, slice_get-map, get_or_from_slice_get}
 use Rattle.std.proofs.lemmas.Map.Text.{is_eq-slice_cmp}
 use Rattle.graph_search.specs.Cycles.{Leads, here, along, Has, Edge, AreWithin}
-use Rattle.graph_search.specs.Reach.{AreReached}
 use Rattle.graph_search.proofs.Searches.{joined}
 use Rattle.alias_table.specs.Aliases.{Row, Key, is_text, alias_type}
 use Rattle.type_values.specs.declared.types.FlowType.{FlowType}
@@ -24,13 +23,13 @@ use Rattle.merged_signatures.specs.Reach.{Reach, by_specifier, by_signature, pat
 use Rattle.errors_by_reach.specs.Seen.{Sigs, IsTable, alias_told}
 use Rattle.named_rows.proofs.Lists.{bytes_turned, flat_last}
 use Rattle.import_sayings.specs.View.{numbers_in, sigs_of, AreReachedAliases}
-use Rattle.import_sayings.specs.Reached.{place_of, AreNumbers, edges_in, path_found, paths_found, alias_row, rows_of, rows_at}
+use Rattle.import_sayings.specs.Reached.{place_of, AreNumbers, AreFound, edges_in, path_found, paths_found, alias_row, rows_of, rows_at}
 
 or_true : (b : Bool) → (b || true) ≡ true
 or_true true = refl
 or_true false = refl
 
-same_bytes : (a : Bytes) → bytes_eq a a ≡ true
+pub same_bytes : (a : Bytes) → bytes_eq a a ≡ true
 same_bytes a = (bytes_decides a a).1 refl
 
 -- ---- the first signature of a path
@@ -48,7 +47,7 @@ one_later row sigs path n (Some m) e rest is =
     let (s, at, first) = rest m refl in
     subst (StandsAt (row ∷ sigs) path) (number_is is) (s, at, ap (λ (b : Bool). cond b (Some row.1) (row_at sigs path)) e ∙ first)
 
-placed : (sigs : Rows Sig) (path : Bytes) (n : ℕ) → place_of sigs path ≡ Some n → StandsAt sigs path n
+pub placed : (sigs : Rows Sig) (path : Bytes) (n : ℕ) → place_of sigs path ≡ Some n → StandsAt sigs path n
 placed [] path n is = absurd cc
 placed (row ∷ sigs) path n is = go (bytes_eq row.0 path) refl (placed sigs path)
   where
@@ -110,7 +109,7 @@ numbers_whole sigs numbers n low all path =
 
 -- ---- the numbers of some paths
 
-numbered_among : (numbers : BTreeMap Bytes ℕ) (paths : List Bytes) (n : ℕ) → Has (numbers_in numbers paths) n → (q : Bytes) × (is_among paths q ≡ true) × (get (slice_cmp nat_cmp) numbers q ≡ Some n)
+pub numbered_among : (numbers : BTreeMap Bytes ℕ) (paths : List Bytes) (n : ℕ) → Has (numbers_in numbers paths) n → (q : Bytes) × (is_among paths q ≡ true) × (get (slice_cmp nat_cmp) numbers q ≡ Some n)
 numbered_among numbers [] n (i, is) = absurd cc
 numbered_among numbers (p ∷ paths) n has = go (get (slice_cmp nat_cmp) numbers p) refl has (numbered_among numbers paths n)
   where
@@ -214,7 +213,7 @@ edge_at numbers (row ∷ rows) (suc n) path s is = edge_at numbers rows n path s
 
 module _ (sigs : Rows Sig) (numbers : BTreeMap Bytes ℕ) (numbered : AreNumbers sigs numbers) (deps : Deps) where
   -- one that is reached has its number reached
-  reach_number : (reached : List ℕ) → AreReached (edges_in numbers sigs) (numbers_in numbers (paths_found deps)) reached → (path : Bytes) → Reach (sigs_of sigs) deps path → (n : ℕ) → place_of sigs path ≡ Some n → Has reached n
+  reach_number : (reached : List ℕ) → AreFound (edges_in numbers sigs) (numbers_in numbers (paths_found deps)) reached → (path : Bytes) → Reach (sigs_of sigs) deps path → (n : ℕ) → place_of sigs path ≡ Some n → Has reached n
   reach_number reached all _ (by_specifier spec path is) n at =
       all.complete n (n, among_numbered numbers (paths_found deps) path n (found_among deps deps.rows spec path is is) (numbered path ∙ at), here)
   reach_number reached all _ (by_signature path other s before is among) n at = go (place_of sigs path) refl (reach_number reached all path before)
@@ -240,7 +239,7 @@ module _ (sigs : Rows Sig) (numbers : BTreeMap Bytes ℕ) (numbered : AreNumbers
   leads_reach m n p at reach (along {q = k} edge rest) = let (q, there, reached) = edge_reach m k p at reach edge in leads_reach k n q there reached rest
 
   -- a number that is reached is that of a path that is reached
-  number_reach : (reached : List ℕ) → AreReached (edges_in numbers sigs) (numbers_in numbers (paths_found deps)) reached → (n : ℕ) → Has reached n → (q : Bytes) × (place_of sigs q ≡ Some n) × Reach (sigs_of sigs) deps q
+  pub number_reach : (reached : List ℕ) → AreFound (edges_in numbers sigs) (numbers_in numbers (paths_found deps)) reached → (n : ℕ) → Has reached n → (q : Bytes) × (place_of sigs q ≡ Some n) × Reach (sigs_of sigs) deps q
   number_reach reached all n has =
       let (start, begins, leads) = all.sound n has in
       let (p, among, at) = numbered_among numbers (paths_found deps) start begins in
@@ -256,7 +255,7 @@ told_if sigs reached path (Some n) = if is_in reached n then row_at sigs path el
 abbrev pub table_of : Rows Sig → List ℕ → Sigs
 table_of sigs reached path = told_if sigs reached path (place_of sigs path)
 
-is_table : (sigs : Rows Sig) (numbers : BTreeMap Bytes ℕ) (deps : Deps) (reached : List ℕ) → AreNumbers sigs numbers → AreReached (edges_in numbers sigs) (numbers_in numbers (paths_found deps)) reached → IsTable (sigs_of sigs) deps (table_of sigs reached)
+pub is_table : (sigs : Rows Sig) (numbers : BTreeMap Bytes ℕ) (deps : Deps) (reached : List ℕ) → AreNumbers sigs numbers → AreFound (edges_in numbers sigs) (numbers_in numbers (paths_found deps)) reached → IsTable (sigs_of sigs) deps (table_of sigs reached)
 is_table sigs numbers deps reached numbered all = record {
   has = λ path reach. all_told path reach (place_of sigs path) refl;
   only = λ path s is. only_reached path s (place_of sigs path) refl is;
@@ -306,6 +305,15 @@ told_twice s name b (Some t) e = refl
 told_twice s name true None e = e
 told_twice s name false None e = refl
 
+-- the table with one number more tells the same at another path
+pub told_beside : (sigs : Rows Sig) (ns : List ℕ) (n : ℕ) (path name : Bytes) → place_of sigs path ≡ Some n → bytes_eq path name ≡ false → (o : Option ℕ) → place_of sigs name ≡ o → told_if sigs ns name o ≡ told_if sigs (n ∷ ns) name o
+told_beside sigs ns n path name at apart None e = refl
+told_beside sigs ns n path name at apart (Some m) e = ap (λ (b : Bool). cond (b || is_in ns m) (row_at sigs name) None) (sym (unlike (n == m) refl))
+  where
+    unlike : (b : Bool) → (n == m) ≡ b → (n == m) ≡ false
+    unlike false f = f
+    unlike true f = absurd (true≢false (sym (same_bytes name) ∙ ap (λ (p : Bytes). bytes_eq p name) (sym (one_path sigs path name m (at ∙ ap (λ (k : ℕ). Some k) (eqb-true n m f)) e)) ∙ apart))
+
 aliases_told : (sigs : Rows Sig) (ns : List ℕ) → ArePlaces sigs ns → (key : Key) → alias_type (flat_map (rows_at sigs) ns) key ≡ alias_told key.1 (table_of sigs ns key.0)
 aliases_told sigs [] places key = go (place_of sigs key.0)
   where
@@ -319,19 +327,9 @@ aliases_told sigs (n ∷ ns) places key =
     ∙ own_rows path s.aliases (flat_map (rows_at sigs) ns) key
     ∙ go path s at first (bytes_eq path key.0) refl (aliases_told sigs ns (λ m has. places m (suc has.0, has.1)) key)
   where
-    unlike : (path : Bytes) (m : ℕ) → place_of sigs path ≡ Some n → bytes_eq path key.0 ≡ false → place_of sigs key.0 ≡ Some m → (b : Bool) → (n == m) ≡ b → (n == m) ≡ false
-    unlike path m at apart e false f = f
-    unlike path m at apart e true f =
-        absurd (true≢false (sym (same_bytes key.0) ∙ ap (λ (p : Bytes). bytes_eq p key.0) (sym (one_path sigs path key.0 m (at ∙ ap (λ (k : ℕ). Some k) (eqb-true n m f)) e)) ∙ apart))
-
-    -- the table with one number more tells the same at another path
-    other : (path : Bytes) → place_of sigs path ≡ Some n → bytes_eq path key.0 ≡ false → (o : Option ℕ) → place_of sigs key.0 ≡ o → told_if sigs ns key.0 o ≡ told_if sigs (n ∷ ns) key.0 o
-    other path at apart None e = refl
-    other path at apart (Some m) e = ap (λ (b : Bool). cond (b || is_in ns m) (row_at sigs key.0) None) (sym (unlike path m at apart e (n == m) refl))
-
     go : (path : Bytes) (s : Sig) → place_of sigs path ≡ Some n → row_at sigs path ≡ Some s → (b : Bool) → bytes_eq path key.0 ≡ b → alias_type (flat_map (rows_at sigs) ns) key ≡ alias_told key.1 (table_of sigs ns key.0) →
         cond b (option_or (row_at s.aliases key.1) (alias_type (flat_map (rows_at sigs) ns) key)) (alias_type (flat_map (rows_at sigs) ns) key) ≡ alias_told key.1 (table_of sigs (n ∷ ns) key.0)
-    go path s at first false e rest = rest ∙ ap (alias_told key.1) (other path at e (place_of sigs key.0) refl)
+    go path s at first false e rest = rest ∙ ap (alias_told key.1) (told_beside sigs ns n path key.0 at e (place_of sigs key.0) refl)
     go path s at first true e rest =
         let here_at : place_of sigs key.0 ≡ Some n = ap (place_of sigs) (sym ((bytes_decides path key.0).0 e)) ∙ at in
         let told : row_at sigs key.0 ≡ Some s = ap (row_at sigs) (sym ((bytes_decides path key.0).0 e)) ∙ first in
@@ -340,7 +338,7 @@ aliases_told sigs (n ∷ ns) places key =
         ∙ told_twice s key.1 (is_in ns n) (row_at s.aliases key.1) refl
         ∙ sym (ap (λ (o : Option ℕ). alias_told key.1 (told_if sigs (n ∷ ns) key.0 o)) here_at ∙ ap (λ (b : Bool). alias_told key.1 (cond (b || is_in ns n) (row_at sigs key.0) None)) (eq-eqb n n refl) ∙ ap (alias_told key.1) told)
 
-pub all_reached : (sigs : Rows Sig) (numbers : BTreeMap Bytes ℕ) (deps : Deps) (reached rows_from : List ℕ) (i : ℕ) (old new : List Row) → AreNumbers sigs numbers → AreReached (edges_in numbers sigs) (numbers_in numbers (paths_found deps)) reached → rows_from ≡ reached → length rows_from ≤ i →
+pub all_reached : (sigs : Rows Sig) (numbers : BTreeMap Bytes ℕ) (deps : Deps) (reached rows_from : List ℕ) (i : ℕ) (old new : List Row) → AreNumbers sigs numbers → AreFound (edges_in numbers sigs) (numbers_in numbers (paths_found deps)) reached → rows_from ≡ reached → length rows_from ≤ i →
     new ≡ old ++ flat_map (rows_at sigs) (take i rows_from) → AreReachedAliases deps (sigs_of sigs) old new
 all_reached sigs numbers deps reached rows_from i old new numbered all same past adds =
     let places : ArePlaces sigs reached = λ n has. (let (q, at, reach) = number_reach sigs numbers numbered deps reached all n has in (q, at)) in (
@@ -349,57 +347,10 @@ all_reached sigs numbers deps reached rows_from i old new numbered all same past
       (table_of sigs reached, is_table sigs numbers deps reached numbered all, aliases_told sigs reached places),
     )
 
--- ---- every number is that of a signature
-
-numbers_small : (sigs : Rows Sig) (numbers : BTreeMap Bytes ℕ) (paths : List Bytes) → AreNumbers sigs numbers → All (λ n. n < length sigs) (numbers_in numbers paths)
-numbers_small sigs numbers paths numbered i d within =
-    let (q, among, at) = numbered_among numbers paths (get_or (numbers_in numbers paths) i d) (i, slice_get-get_or (numbers_in numbers paths) i d within) in
-    let (s, there, first) = placed sigs q (get_or (numbers_in numbers paths) i d) (sym (numbered q) ∙ at) in
-    slice_get_within sigs (get_or (numbers_in numbers paths) i d) (q, s) there
-
-edges_count : (numbers : BTreeMap Bytes ℕ) (sigs : Rows Sig) → length (edges_in numbers sigs) ≡ length sigs
-edges_count numbers sigs = length-map sigs (λ (row : Bytes × Sig). numbers_in numbers (paths_named row.1))
-
-pub starts_within : (sigs : Rows Sig) (numbers : BTreeMap Bytes ℕ) (deps : Deps) (edges : List (List ℕ)) (starts : List ℕ) → AreNumbers sigs numbers → edges ≡ edges_in numbers sigs → starts ≡ numbers_in numbers (paths_found deps) → All (λ n. n < length edges) starts
-starts_within sigs numbers deps edges starts numbered are_edges are_starts =
-    subst₂ (λ (k : ℕ) (ss : List ℕ). All (λ n. n < k) ss) (sym (ap length are_edges ∙ edges_count numbers sigs)) (sym are_starts) (numbers_small sigs numbers (paths_found deps) numbered)
-
-pub edges_within : (sigs : Rows Sig) (numbers : BTreeMap Bytes ℕ) (edges : List (List ℕ)) → AreNumbers sigs numbers → edges ≡ edges_in numbers sigs → AreWithin edges
-edges_within sigs numbers edges numbered are_edges = subst AreWithin (sym are_edges) each
-  where
-    some_row : (rows : Rows Sig) (i : ℕ) → i < length rows → (row : Bytes × Sig) × (slice_get rows i ≡ Some row)
-    some_row [] i small = absurd (omega arith)
-    some_row (row ∷ rows) zero small = (row, refl)
-    some_row (row ∷ rows) (suc i) small = some_row rows i (omega arith)
-
-    each : AreWithin (edges_in numbers sigs)
-    each i d within =
-        let (row, there) = some_row sigs i (subst (λ (k : ℕ). i < k) (edges_count numbers sigs) within) in
-        let is : get_or (edges_in numbers sigs) i d ≡ numbers_in numbers (paths_named row.1) = get_or_from_slice_get (edges_in numbers sigs) i (numbers_in numbers (paths_named row.1)) d (slice_get-map (λ (r : Bytes × Sig). numbers_in numbers (paths_named r.1)) sigs i ∙ ap (option_map (λ (r : Bytes × Sig). numbers_in numbers (paths_named r.1))) there) in
-        subst₂ (λ (k : ℕ) (ys : List ℕ). All (λ n. n < k) ys) (sym (edges_count numbers sigs)) (sym is) (numbers_small sigs numbers (paths_named row.1) numbered)
-
-pub edges_few : (sigs : Rows Sig) (numbers : BTreeMap Bytes ℕ) (edges : List (List ℕ)) → edges ≡ edges_in numbers sigs → length sigs < 2 ^ 32 → length edges < 2 ^ 32
-edges_few sigs numbers edges is few = subst (λ (k : ℕ). k < 2 ^ 32) (sym (ap length is ∙ edges_count numbers sigs)) few
-
-pub reached_same : (edges all_edges : List (List ℕ)) (starts all_starts reached : List ℕ) → edges ≡ all_edges → starts ≡ all_starts → AreReached edges starts reached → AreReached all_edges all_starts reached
-reached_same edges all_edges starts all_starts reached are_edges are_starts = subst₂ (λ (es : List (List ℕ)) (ss : List ℕ). AreReached es ss reached) are_edges are_starts
-
 -- ---- rows in a row
 
 pub taken : {A : Type 0} (all : List A) (i : ℕ) (x : A) → i < length all → x ≡ get_or all i x → take (i + 1) all ≡ take i all ++ x ∷ []
 taken {A} all i x within is = ap (λ (k : ℕ). take k all) (add-one i) ∙ take-suc all i x within ∙ ap (λ (y : A). take i all ++ y ∷ []) (sym is)
-
-pub edges_none : (numbers : BTreeMap Bytes ℕ) (sigs : Rows Sig) (edges : List (List ℕ)) → edges ≡ [] → edges ≡ edges_in numbers (take 0 sigs)
-edges_none numbers sigs edges none = none
-
-pub edges_more : (numbers : BTreeMap Bytes ℕ) (sigs : Rows Sig) (i : ℕ) (row : Bytes × Sig) (named : List ℕ) (before after : List (List ℕ)) → i < length sigs → row ≡ get_or sigs i row → named ≡ numbers_in numbers (paths_named row.1) → before ≡ edges_in numbers (take i sigs) → after ≡ before ++ named ∷ [] →
-    after ≡ edges_in numbers (take (i + 1) sigs)
-edges_more numbers sigs i row named before after within is tells so_far adds =
-    adds ∙ ap₂ (λ (l : List (List ℕ)) (ns : List ℕ). l ++ ns ∷ []) so_far tells
-    ∙ sym (ap (edges_in numbers) (taken sigs i row within is) ∙ map-append (λ (r : Bytes × Sig). numbers_in numbers (paths_named r.1)) (take i sigs) (row ∷ []))
-
-pub edges_whole : (numbers : BTreeMap Bytes ℕ) (sigs : Rows Sig) (i : ℕ) (edges : List (List ℕ)) → length sigs ≤ i → edges ≡ edges_in numbers (take i sigs) → edges ≡ edges_in numbers sigs
-edges_whole numbers sigs i edges past is = is ∙ ap (edges_in numbers) (take_all i sigs past)
 
 pub aliases_none : (home : Bytes) (aliases : Rows FlowType) (start : List Row) → start ≡ start ++ rows_of home (take 0 aliases)
 aliases_none home aliases start = sym (append-nil start)

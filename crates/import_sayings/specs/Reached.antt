@@ -6,6 +6,8 @@ use Rattle.std.specs.Ordering.{nat_cmp}
 use Rattle.std.specs.Cmp.Lexicographic.{slice_cmp}
 use Rattle.std.specs.BTreeMap.{BTreeMap, get}
 use Rattle.std.specs.Str.{bytes_eq}
+use Rattle.graph_search.specs.Cycles.{Has}
+use Rattle.graph_search.specs.Reach.{IsReached}
 use Rattle.alias_table.specs.Aliases.{Row}
 use Rattle.type_values.specs.declared.types.FlowType.{FlowType}
 use Rattle.check_values.specs.Rows.{Bytes, Rows}
@@ -28,6 +30,11 @@ AreNumbers sigs numbers = (path : Bytes) → get (slice_cmp nat_cmp) numbers pat
 -- for each signature the numbers of the modules that it names
 abbrev pub edges_in : BTreeMap Bytes ℕ → List (Bytes × Sig) → List (List ℕ)
 edges_in numbers sigs = map (λ row. numbers_in numbers (paths_named row.1)) sigs
+
+-- exactly the numbers that the starts reach along edges
+pub record AreFound (edges : List (List ℕ)) (starts found : List ℕ) : Type 0 where
+  pub sound : (y : ℕ) → Has found y → IsReached edges starts y
+  pub complete : (y : ℕ) → IsReached edges starts y → Has found y
 
 -- the module that the specifier of a row finds, which is that of the first row of the specifier
 abbrev pub path_found : Deps → DepRow → List Bytes

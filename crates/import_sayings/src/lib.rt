@@ -8,5 +8,6 @@ mod reached;
 mod saying;
 
 pub use imports::Imports;
-pub use reached::{AliasRow, add_reached_aliases};
+pub use paths::Numbers;
+pub use reached::{AliasRow, add_reached_aliases, numbers_of, reached_from};
 pub use saying::Saying;

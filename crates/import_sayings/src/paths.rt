@@ -14,7 +14,7 @@ use std::collections::BTreeMap;
 use type_values::{FlowProp, FlowType, Param};
 
 /// The number of each module.
-pub(crate) type Numbers = BTreeMap<Path, u32>;
+pub type Numbers = BTreeMap<Path, u32>;
 
 // Adds the number of a module, if it has one.
 fn add_path(numbers: &Numbers, path: &Path, out: &mut List<u32>) -> Result<(), NoMemory>

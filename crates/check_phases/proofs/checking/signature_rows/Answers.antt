@@ -1,7 +1,7 @@
 use Rattle.std.proofs.Common.{sym, ap, ◌∙◌, length, arith}
 use Rattle.check_values.specs.declared.root.RootRow.{RootRow}
 use Rattle.check_phases.proofs.Checks.{signed_more, signed_all}
-use Rattle.check_phases.proofs.checking.signatures_for.Goals as goal
+use Rattle.check_phases.proofs.checking.signature_rows.Goals as goal
 
 pub loop-i-preserved : goal.loop-i-preserved
 loop-i-preserved c =
