@@ -9,7 +9,7 @@ A toolchain whose `rt ci` keeps nothing has no --anew and takes no names: there 
 
 What `rt ci` says goes to the file that the variable GATE_LOG names, if it is set.
 `rt ci` starts a process of `rattle` for each proof, each proof of tests and each try of an edit, and a check of the crate
-as it stands before its edits, which counts as theirs. The program looks at those processes ten times a second, in /proc,
+as it stands beside its edits, which counts as theirs. The program looks at those processes ten times a second, in /proc,
 and adds up the processor time of each: so what other programs do at the same time changes nothing but the wall time. It
 prints a line a crate, the dearest first, then the sums, the wall time, and the last line of `rt ci`, with whose
 status it ends. Linux alone.

@@ -80,7 +80,7 @@ def an_empty_folder(root):
 @case
 def errors_are_counted(root):
     write(f"{root}/a.js", b'export const x: number = "a";\nexport const y: boolean = true;\n')
-    write(f"{root}/b.js", b"let x = 1;")
+    write(f"{root}/b.js", b'let y: number = "s";')
     expect_modules(root, 2, 2)
 
 
@@ -438,11 +438,6 @@ def a_closed_standard_output(root):
 def a_closed_standard_input(root):
     write(f"{root}/a.js")
     expect(run(root, before=["sh", "-c", 'exec "$@" <&-', "sh"]), SCRIPT_FAULT, recheck(1))
-
-
-@case
-def the_example(root):
-    expect_modules(f"{TOP}/examples/first", 4, 1)
 
 
 def tried(test, room):

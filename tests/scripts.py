@@ -17,11 +17,11 @@ import time
 
 sys.path.insert(0, os.path.dirname(os.path.abspath(__file__)))
 import real_folders
-from real_folders import BAD, CLEAN, ERRORS, FLOWD, GOOD, MOST_BYTES, SCRIPT_FAULT, SINK_FAULT, expect, recheck, run, write
+from real_folders import BAD, CLEAN, ERRORS, FLOWD, GOOD, MOST_BYTES, SCRIPT_FAULT, SINK_FAULT, TOP, expect, recheck, run, write
 
 BAD_LINE, LIMIT, NO_MEMORY = 65, 69, 70
 LONGEST_LINE = 4_194_304
-CLIENT = os.path.join(os.path.dirname(os.path.dirname(os.path.abspath(__file__))), "examples", "client.py")
+CLIENT = f"{TOP}/examples/client.py"
 CASES = real_folders.CASES = []
 
 
@@ -64,11 +64,104 @@ def an_edit_is_checked_and_told(root):
 
 @case
 def errors_stand_in_the_order_of_paths(root):
-    write(f"{root}/b.js", b"let x = 1;")
-    write(f"{root}/a/c.js", GOOD + b'export const y: boolean = "\xc3\xa9";\n')
+    write(f"{root}/b.js", b'let y: number = "s";')
+    write(f"{root}/a/c.js", GOOD + b'const s: string = "\xc3\xa9"; const y: boolean = 1;\n')
     script = edit("a.js", b"\xc3\xa9") + RECHECK + STATUS + END + b"never read"
-    told = b"2 status: 3 errors\n  a.js:1:1 not-built\n  a/c.js:1:1 not-built\n  b.js:1:1 not-built\n"
-    expect_script(root, script, ERRORS, recheck(2, 2) + done(2, 3, 3) + told)
+    told = [b"  a.js:1:2 parse\n", b"  a/c.js:2:43 incompatible-type 1 boolean\n", b'  b.js:1:17 incompatible-type "s" number\n']
+    expect_script(root, script, ERRORS, recheck(2, 2) + done(2, 3, 3) + b"2 status: 3 errors\n" + b"".join(told))
+
+
+# Folders, and the errors that their status tells.
+FOLDERS = {
+    "a function without a type for its result": (
+        {"a.js": "export const f = function (n: number) { return n; };", "b.js": "import {f} from './a';\nexport const s: string = f(1);"},
+        ["a.js:1:14 signature-verification-failure f"],
+    ),
+    "types of two modules that hold one another": (
+        {"a.js": "import type {B} from './b';\nexport type A = {b: ?B};", "b.js": "import type {A} from './a';\nexport type B = {a: ?A};"},
+        [],
+    ),
+    "types of two modules that are one another": (
+        {"a.js": "import type {B} from './b';\nexport type A = B;", "b.js": "import type {A} from './a';\nexport type B = A;"},
+        ["a.js:2:13 recursive-alias A", "b.js:2:13 recursive-alias B"],
+    ),
+    "exports of two modules that are one another": (
+        {"a.js": "export {x} from './b';", "b.js": "export {x} from './a';"},
+        ["a.js:1:9 recursive-definition x", "b.js:1:9 recursive-definition x"],
+    ),
+    "a call drops what is known of a property": (
+        {"a.js": "function g(): void {}\nfunction h(x: {p: ?{q: number}}): number {\n  if (x.p != null) { g(); return x.p.q; }\n  return 0;\n}\n"},
+        ["a.js:3:34 incompatible-use null | void | {q: number}"],
+    ),
+    "a call keeps what is known of a constant": (
+        {"a.js": "function g(): void {}\nfunction h(x: {p: ?{q: number}}): number {\n  const y = x.p; if (y != null) { g(); return y.q; }\n  return 0;\n}\n"},
+        [],
+    ),
+    "a property tells which member it is": (
+        {
+            "a.js": 'type S = {kind: "circle", r: number} | {kind: "square", w: number};\nexport function area(s: S): number {\n'
+            '  if (s.kind === "circle") { return s.r; } else { return s.w; }\n}\n'
+        },
+        [],
+    ),
+    "the other member lacks the property": (
+        {
+            "a.js": 'type S = {kind: "circle", r: number} | {kind: "square", w: number};\nexport function area(s: S): number {\n'
+            '  if (s.kind === "circle") { return s.r; } else { return s.r; }\n}\n'
+        },
+        ["a.js:3:60 prop-missing r"],
+    ),
+    "a way through a function without a value": (
+        {"a.js": "export function f(b: boolean): number {\n  if (b) { return 1; }\n}\n"},
+        ["a.js:1:32 incompatible-type void number"],
+    ),
+    "as many parentheses as may be": ({"a.js": "export const x: number = " + "(" * 200 + "1" + ")" * 200 + ";"}, []),
+    "one more": ({"a.js": "export const x: number = " + "(" * 201 + "1" + ")" * 201 + ";"}, ["a.js:1:226 parse"]),
+    "some files": (
+        {
+            "types.js": "// @flow strict\nexport type User = {id: number, name: ?string, tags: Array<string>};",
+            "users.js": "import type {User} from './types';\nexport function label(u: User): string {\n  const name = u.name;\n"
+            "  if (name != null) { return name; }\n  return \"user \" + u.id;\n}\n",
+            "main.js": "import {label} from './users';\nconsole.log(label({id: 7, name: null, tags: [\"a\"]}));\n",
+        },
+        [],
+    ),
+}
+
+
+@case
+def the_errors_of_whole_folders(root):
+    for name, (folder, errors) in FOLDERS.items():
+        for path, text in folder.items():
+            write(f"{root}/{name}/{path}", text.encode())
+        told = b"1 status: %d errors\n" % len(errors) + b"".join(b"  %s\n" % error.encode() for error in errors)
+        expect_script(f"{root}/{name}", STATUS, ERRORS if errors else CLEAN, recheck(len(folder), len(errors)) + told)
+
+
+@case
+def a_source_that_is_not_utf8(root):
+    write(f"{root}/a.js", b"\xff")
+    write(f"{root}/b.js", b"import {x} from './a';\nexport const y: number = x;")
+    expect_script(root, STATUS, ERRORS, recheck(2, 1) + b"1 status: 1 errors\n  a.js:1:1 not-utf8\n")
+
+
+@case
+def an_edit_of_a_type_is_felt_in_other_modules(root):
+    write(f"{root}/a.js", b"export type T = number;")
+    write(f"{root}/b.js", b"import type {T} from './a';\nexport type U = {t: T};")
+    write(f"{root}/c.js", b"import type {U} from './b';\nexport const u: U = {t: 1};")
+    script = edit("a.js", b"export type T = string;") + RECHECK + STATUS
+    told = b"2 status: 1 errors\n  c.js:2:25 incompatible-type 1 T\n"
+    expect_script(root, script, ERRORS, recheck(3) + done(2, 3, 1) + told)
+
+
+@case
+def a_new_module_is_found_before_a_folder(root):
+    write(f"{root}/x/index.js", b"export const k: number = 1;")
+    write(f"{root}/m.js", b"import {k} from './x';\nexport const j: number = k;")
+    script = edit("x.js", b'export const k: string = "s";') + RECHECK + STATUS
+    told = b"2 status: 1 errors\n  m.js:2:26 incompatible-type string number\n"
+    expect_script(root, script, ERRORS, recheck(2) + done(2, 3, 1) + told)
 
 
 @case
@@ -187,6 +280,24 @@ def the_example_of_a_client_prints_what_changed(root):
     text = done(1, 1, 1) + done(2, 1) + b'- a.js:1:26 incompatible-type "a" number\n'
     if (ran.returncode, ran.stdout) != (CLEAN, text):
         raise AssertionError(f"it printed {ran.stdout} and ended with {ran.returncode}")
+
+
+def commands_of_the_readme():
+    """The commands over the examples that the README shows, each with what it shows that they print."""
+    with open(f"{TOP}/README.md", encoding="utf-8") as readme:
+        blocks = readme.read().split("```\n")[1::2]
+    parted = [block.removeprefix("$ ").partition("\n") for block in blocks if block.startswith("$ ")]
+    return [(command, printed.encode()) for command, _, printed in parted if "examples/" in command]
+
+
+@case
+def the_examples_print_what_the_readme_shows(root):
+    commands = commands_of_the_readme()
+    if len(commands) != 2:
+        raise AssertionError(f"the README shows {len(commands)} commands over the examples")
+    for command, printed in commands:
+        ran = subprocess.run(["sh", "-c", command], cwd=TOP, capture_output=True, timeout=60)
+        expect((ran.returncode, ran.stdout, ran.stderr), ERRORS, printed)
 
 
 @case

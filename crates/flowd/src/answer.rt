@@ -5,6 +5,7 @@ ghost use Rattle.flowd.specs.Answer.{IsAnswer};
 
 use crate::folder::DirFolder;
 use crate::streams::{StdinSource, StdoutSink};
+use flow_analyst::FlowAnalyst;
 use flow_base::Open;
 use flowd_top::{Status, flowd, root_word};
 use std::snapshot::Snapshot;
@@ -41,7 +42,17 @@ fn answer(rt: &HostRuntime, words: &[String]) -> Status
     let mut folder = folder_of(rt, words);
     let mut script = StdinSource::new(rt.reader());
     let mut out = StdoutSink::new(rt);
-    flowd(rt.alloc(), words, &mut folder, &mut script, &mut out, &Open)
+    let alloc = rt.alloc();
+    let analyst = FlowAnalyst::new(alloc);
+    flowd(
+        alloc,
+        words,
+        &mut folder,
+        &mut script,
+        &mut out,
+        &Open,
+        analyst,
+    )
 }
 
 // The same with words of its own.

@@ -8,14 +8,14 @@ use Rattle.flow_base.specs.Program.{Bytes, Program, IsRising, paths_of}
 use Rattle.flow_base.specs.Outside.{WhereTold}
 use Rattle.flow_base.specs.Seen.{FolderSeen, SourceSeen, SinkSeen, Outside, outside, folder_seen}
 use Rattle.flow_base.specs.declared.outside.LastFault.{LastFault}
-use Rattle.flow_model.specs.Errors.{full1, error_count}
+use Rattle.full_law.specs.Law.{EachFull}
 use Rattle.script_print.specs.Printed.{files_line}
 use Rattle.script_reader.specs.Lines.{lines_left}
 use Rattle.script_run.specs.declared.ending.WalkEnd.{WalkEnd}
 use Rattle.script_run.specs.declared.ending.WalkEnd.TheVariants as ending
 use Rattle.script_run.specs.Transcript.{MayList, start}
 use Rattle.script_run.specs.Steps.{HasRun, HasFront, RoseByAtLeast, walk_state, unsaid_load}
-use Rattle.script_run.proofs.Walks.{front_of_load}
+use Rattle.script_run.proofs.Walks.{front_of_load, walk_counts}
 use Rattle.flowd_top.specs.Words.{AreOfCommand, usage_line}
 use Rattle.flowd_top.specs.Run.{status_after, IsTranscript, no_command, many_files, runs, HasPrinted, HasPrintedFront, nothing_printed, front_printed, Leaves, WritesLast, RunLeaves}
 use Rattle.flowd_top.specs.declared.status.Status.{Status}
@@ -35,9 +35,9 @@ same_folder : (a b : FolderSeen) → a.told ≡ b.told → a.faults ≡ b.faults
 same_folder a b told faults last_fault = same_fields a.told b.told a.faults b.faults a.last_fault b.last_fault told faults last_fault
 
 -- nothing was done
-pub nothing_run : (most : ℕ) (listed : List Bytes) (before : Outside) → RunLeaves most listed before before status.NoMemory
-nothing_run most listed before =
-    inr (inr (inr refl, front_of_load most listed (walk_state (start listed) before.folder before.out) before.script before refl (omega arith) (unsaid_load refl)))
+pub nothing_run : EachFull → (most : ℕ) (listed : List Bytes) (before : Outside) → RunLeaves most listed before before status.NoMemory
+nothing_run each most listed before =
+    inr (inr (inr refl, front_of_load most listed (walk_state (start listed) before.folder before.out) before.script each before refl (omega arith) (unsaid_load refl)))
 
 module _ (most : ℕ) (words : List Bytes) (before now : Outside) where
   -- at want of memory, and after a fault of the sink
@@ -70,9 +70,7 @@ module _ (most : ℕ) (words : List Bytes) (before now : Outside) where
   printed_by listed command lists few how errors program version run = record {
     read_faults = run.read_faults;
     printed = run.printed;
-    transcript =
-        subst (λ n. IsTranscript most words before.folder.told (lines_left [] before.script.left) run.read_faults run.printed (status_after how n)) (sym run.counts)
-        (runs listed run.read_faults run.printed how program version command lists few run.run);
+    transcript = runs listed run.read_faults run.printed how program version errors command lists few run.run run.counts;
     written = run.written;
     counted = run.counted;
   }
@@ -89,8 +87,10 @@ module _ (most : ℕ) (words : List Bytes) (before now : Outside) where
 
   front_of_transcript : (listed : List Bytes) → AreOfCommand words → MayList before.folder.told listed → length listed ≤ most → HasFront most listed before now → HasPrintedFront most words before now
   front_of_transcript listed command lists few front =
-      front_printed front.read_faults front.printed (status_after front.how (error_count (full1 front.program)))
-      (runs listed front.read_faults front.printed front.how front.program front.version command lists few front.run) front.front front.counted
+      let whole = front.run in
+      let count = walk_counts whole.walk in
+      front_printed front.read_faults front.printed (status_after front.how count.0)
+      (runs listed front.read_faults front.printed front.how front.program front.version count.0 command lists few front.run count.1) front.front front.counted
 
   over_leaves : (result : Status) (listed : List Bytes) → AreOfCommand words → MayList before.folder.told listed → length listed ≤ most → RunLeaves most listed before now result → Leaves most result words before now
   over_leaves result listed command lists few (inl (how, errors, program, version, is, run)) =

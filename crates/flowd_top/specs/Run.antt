@@ -4,11 +4,11 @@ use Rattle.flow_base.specs.Causes.{RoseBy}
 use Rattle.flow_base.specs.Program.{Bytes, Program}
 use Rattle.flow_base.specs.Outside.{appended, HoldsFront}
 use Rattle.flow_base.specs.Seen.{Outside}
-use Rattle.flow_model.specs.Errors.{full1, error_count}
 use Rattle.script_print.specs.Printed.{files_line}
 use Rattle.script_run.specs.declared.ending.WalkEnd.{WalkEnd}
 use Rattle.script_run.specs.declared.ending.WalkEnd.TheVariants as ending
 use Rattle.script_reader.specs.Lines.{lines_left}
+use Rattle.script_run.specs.Checked.{HasErrorCount}
 use Rattle.script_run.specs.Transcript.{MayList, IsRun}
 use Rattle.script_run.specs.Steps.{RoseByAtLeast, HasRun, HasStopped, HasFront}
 use Rattle.flowd_top.specs.Words.{AreOfCommand, usage_line}
@@ -29,8 +29,8 @@ pub data IsTranscript (most : ℕ) (words : List Bytes) (told : Option Program) 
   no_command : (AreOfCommand words → ⊥) → IsTranscript most words told script 0 usage_line status.Usage
   many_files : (listed : List Bytes) → AreOfCommand words → MayList told listed → most < length listed
       → IsTranscript most words told script 0 (files_line (length listed)) status.Limit
-  runs : (listed : List Bytes) (faults : ℕ) (printed : Bytes) (how : WalkEnd) (program : Program) (version : ℕ) → AreOfCommand words → MayList told listed → length listed ≤ most
-      → IsRun most told listed script faults printed how program version → IsTranscript most words told script faults printed (status_after how (error_count (full1 program)))
+  runs : (listed : List Bytes) (faults : ℕ) (printed : Bytes) (how : WalkEnd) (program : Program) (version errors : ℕ) → AreOfCommand words → MayList told listed → length listed ≤ most
+      → IsRun most told listed script faults printed how program version → HasErrorCount program errors → IsTranscript most words told script faults printed (status_after how errors)
 
 -- what was printed goes on to a whole transcript with so many read faults
 pub record GoesOnTo (most : ℕ) (words : List Bytes) (told : Option Program) (script : Option (List Bytes)) (faults : ℕ) (printed : Bytes) : Type 0 where

@@ -11,7 +11,9 @@ ghost use Rattle.flowd_top.specs.declared.status.Status.{Status};
 pub fn a_front_goes_on()
     ensures { (most : ℕ) (words : List Bytes) (told : Option Program) (script : Option (List Bytes)) (listed : List Bytes) (faults : ℕ) (printed : Bytes) →
         AreOfCommand words → MayList told listed → length listed ≤ most → IsRunSoFar most told listed script faults printed → GoesOnTo most words told script faults printed }
-{}
+{
+    full_law::each_full();
+}
 
 /// Where the folder and the script tell their content, and the folder may list its paths, there is a
 /// transcript without a read fault, and one only.
@@ -20,4 +22,7 @@ pub fn one_transcript()
         (printed : Bytes) × (how : Status) × IsTranscript most words (Some folder) (Some script) 0 printed how }
     ensures one { (most : ℕ) (words : List Bytes) (folder : Program) (script : List Bytes) (p q : Bytes) (h k : Status) →
         IsTranscript most words (Some folder) (Some script) 0 p h → IsTranscript most words (Some folder) (Some script) 0 q k → (p ≡ q) × (h ≡ k) }
-{}
+{
+    full_law::each_full();
+    program_check::one_full();
+}

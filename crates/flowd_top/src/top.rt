@@ -11,10 +11,11 @@ ghost use Rattle.flowd_top.specs.Run.{Leaves, RunLeaves, WritesLast, status_afte
 
 use crate::words::usage;
 use crate::{Status, root_word};
+use analyst::Analyst;
 use flow_base::{Folder, FolderFault, List, Path, Sink, SinkFault, Source, Turnstile};
-use recheck_run::empty_heap;
+use full_law::each_full;
 use script_print::files_line;
-use script_run::{Ended, RunFault, WalkEnd, run, write_all};
+use script_run::{Ended, RunFault, WalkEnd, empty_heap, run, write_all};
 use std::alloc::Global;
 
 // The most modules.
@@ -22,18 +23,19 @@ const MOST_MODULES: u32 = 1024;
 
 /// All that the program does: it loads the modules of the folder, and then takes the lines of the
 /// script, edits, rechecks and questions, one after the other. The words are those of the command
-/// without the program's own name. What a line prints is written before the next one is read. No turn
-/// is taken.
+/// without the program's own name. What a line prints is written before the next one is read. The analyst
+/// reads, merges and checks. No turn is taken.
 ///
 /// The status says how the run ended. Only want of memory may come without a cause.
 #[tactic(auto, using(crate::proofs::Endings::nothing_left))]
-pub fn flowd<F: Folder, S: Source, K: Sink, T: Turnstile + Sync>(
+pub fn flowd<F: Folder, S: Source, K: Sink, T: Turnstile + Sync, A: Analyst + Drop>(
     alloc: Global,
     words: &[String],
     folder: &mut F,
     script: &mut S,
     out: &mut K,
     _turns: &T,
+    analyst: A,
 ) -> Status
     // What was printed is a whole transcript with this status; after a fault of the script all of one up to the last
     // whole line that the script gave, and after one of the sink, and at want of memory, a front of one, with no more read
@@ -71,7 +73,7 @@ pub fn flowd<F: Folder, S: Source, K: Sink, T: Turnstile + Sync>(
     if listed.len() > MOST_MODULES as usize {
         return refuse_files(alloc, &listed, out);
     }
-    run_over(alloc, listed, folder, script, out)
+    run_over(alloc, listed.as_slice(), analyst, folder, script, out)
 }
 
 // Each path is a normal one.
@@ -87,26 +89,37 @@ fn see_normal(paths: &[Path])
 
 // The run over these listed paths.
 #[tactic(auto, using(crate::proofs::Endings::nothing_run))]
-fn run_over<F: Folder, S: Source, K: Sink>(
+fn run_over<F: Folder, S: Source, K: Sink, A: Analyst + Drop>(
     alloc: Global,
-    listed: List<Path>,
+    listed: &[Path],
+    analyst: A,
     folder: &mut F,
     script: &mut S,
     out: &mut K,
 ) -> Status
-    requires rising { IsRising listed }
-    requires few { length listed ≤ MOST_MODULES }
-    ensures leaves { RunLeaves MOST_MODULES listed (outside (F.seen folder.old) (S.seen script.old) (K.seen out.old)) (outside (F.seen folder.new) (S.seen script.new) (K.seen out.new)) result }
+    requires rising { IsRising listed.now }
+    requires few { length listed.now ≤ MOST_MODULES }
+    ensures leaves { RunLeaves MOST_MODULES listed.now (outside (F.seen folder.old) (S.seen script.old) (K.seen out.old)) (outside (F.seen folder.new) (S.seen script.new) (K.seen out.new)) result }
     ensures no_folder_fault { result ≡ Status.FolderFault → ⊥ }
     ensures script_counts { Counts (result ≡ Status.ScriptFault) (S.seen script.old).faults (S.seen script.new).faults }
     ensures sink_counts { Counts (result ≡ Status.SinkFault) (K.seen out.old).faults (K.seen out.new).faults }
     ensures told { (F.seen folder.new).told ≡ (F.seen folder.old).told }
     ensures folder_later { (F.seen folder.old).faults ≤ (F.seen folder.new).faults }
 {
+    each_full();
     let Ok(heap) = empty_heap(alloc, MOST_MODULES) else {
         return Status::NoMemory;
     };
-    match run(alloc, heap, MOST_MODULES, listed, folder, script, out) {
+    match run(
+        alloc,
+        heap,
+        MOST_MODULES,
+        listed,
+        analyst,
+        folder,
+        script,
+        out,
+    ) {
         Ok(ended) => status_of(ended),
         Err(RunFault::ScriptFault) => Status::ScriptFault,
         Err(RunFault::SinkFault) => Status::SinkFault,

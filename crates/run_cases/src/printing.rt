@@ -1,5 +1,5 @@
+use check_values::{Code, Fault};
 use flow_base::{Path, Span, Text};
-use flow_model::{Code, Fault};
 use script_print::{
     bad_line, done_line, fault_line, files_line, long_line, many_lines, push_error, refused_line,
     status_line,
@@ -31,13 +31,23 @@ fn lines_are_printed(rt: HostRuntime) -> Result<(), Fail> {
 fn an_error_is_printed_with_its_place(rt: HostRuntime) -> Result<(), Fail> {
     let alloc = rt.alloc();
     let path = Path::read(alloc, b"a.js")?;
+    let mut out = Vec::new(alloc);
+    let fault = Fault {
+        span: Span { start: 26, end: 29 },
+        code: Code::IncompatibleType,
+        details: Text::from_bytes(alloc, b"\"a\" number")?,
+    };
+    let text = b"\nexport const x: number = \"a\";";
+    push_error(alloc, &mut out, &path, text, &fault)?;
     let fault = Fault {
         span: Span { start: 0, end: 0 },
-        code: Code::NotBuilt,
+        code: Code::NotUtf8,
         details: Text::from_bytes(alloc, b"")?,
     };
-    let mut out = Vec::new(alloc);
-    push_error(alloc, &mut out, &path, b"let x = 1;", &fault)?;
-    assert_eq!(rt; out.as_slice(), b"  a.js:1:1 not-built\n".as_slice());
+    push_error(alloc, &mut out, &path, b"\xff", &fault)?;
+    assert_eq!(rt;
+        out.as_slice(),
+        b"  a.js:2:26 incompatible-type \"a\" number\n  a.js:1:1 not-utf8\n".as_slice()
+    );
     Ok(())
 }

@@ -1,14 +1,15 @@
-ghost use Rattle.std.specs.Prelude.{◌≡◌, ◌++◌, string_bytes, IfOk, OnErr};
-ghost use Rattle.source_place.specs.Place.{line_at, column_at, IsPlace};
-ghost use Rattle.script_print.specs.Printed.{error_line, error_place, details_part, status_line};
+ghost use Rattle.std.specs.Prelude.{◌≡◌, ◌++◌, string_bytes, IfOk, OnOk, OnErr};
+ghost use Rattle.std.specs.List.{flat_map};
+ghost use Rattle.source_place.specs.Place.{Bytes, line_at, column_at};
+ghost use Rattle.program_check.specs.Status.{error_line, error_place, details_part, status_line};
 
+use crate::places::{Place, locate, start};
+use check_values::Fault;
 use flow_base::{NoMemory, Path};
-use flow_model::Fault;
-use source_place::place;
 use std::alloc::Global;
 
 // Two spaces, the path, the line and the column, with colons between them.
-fn error_place(alloc: Global, path: &Path, line: u32, column: u32) -> Result<String, NoMemory>
+fn error_place(alloc: Global, path: &Path, line: u64, column: u64) -> Result<String, NoMemory>
     ensures { IfOk result (λ text. string_bytes text ≡ error_place path.now line column) }
 {
     let path = path.as_str();
@@ -26,12 +27,37 @@ fn push_details(out: &mut Vec<u8>, details: &[u8]) -> Result<(), NoMemory>
     Ok(())
 }
 
+// Appends the line of an error that stands at a place of the module at a path.
+#[tactic(auto, using(crate::proofs::ErrorLines::error_line_parts))]
+fn push_line(
+    alloc: Global,
+    out: &mut Vec<u8>,
+    path: &Path,
+    place: Place,
+    fault: &Fault,
+) -> Result<(), NoMemory>
+    ensures line { (text : Bytes) → place.line ≡ line_at text fault.now.span.start → place.column ≡ column_at text fault.now.span.start
+        → IfOk result (λ _. out.new.items ≡ out.old.items ++ error_line path.now text fault.now) }
+    ensures same { OnErr result (out.new.items ≡ out.old.items) }
+{
+    let Place {
+        at: _,
+        line,
+        column,
+    } = place;
+    let mut printed = error_place(alloc, path, line, column)?.into_bytes();
+    printed.extend_from_slice(fault.code.name().as_bytes())?;
+    push_details(&mut printed, fault.details.as_bytes())?;
+    printed.extend_from_slice(b"\n")?;
+    out.extend_from_slice(printed.as_slice())?;
+    Ok(())
+}
+
 /// Appends the line of an error of the module at a path, which has this text.
 ///
 /// # Errors
 ///
 /// `NoMemory` where memory is refused. Nothing is appended then.
-#[tactic(auto, using(crate::proofs::ErrorLines::error_line_parts))]
 pub fn push_error(
     alloc: Global,
     out: &mut Vec<u8>,
@@ -39,16 +65,35 @@ pub fn push_error(
     text: &[u8],
     fault: &Fault,
 ) -> Result<(), NoMemory>
-    requires { IsPlace text.now fault.now.span.start }
     ensures line { IfOk result (λ _. out.new.items ≡ out.old.items ++ error_line path.now text.now fault.now) }
     ensures same { OnErr result (out.new.items ≡ out.old.items) }
 {
-    let (line, column) = place(text, fault.span.start);
-    let mut printed = error_place(alloc, path, line, column)?.into_bytes();
-    printed.extend_from_slice(fault.code.name().as_bytes())?;
-    push_details(&mut printed, fault.details.as_bytes())?;
-    printed.extend_from_slice(b"\n")?;
-    out.extend_from_slice(printed.as_slice())?;
+    let place = locate(text, start(), fault.span.start);
+    push_line(alloc, out, path, place, fault)
+}
+
+/// Appends the lines of errors of the module at a path, which has this text. It takes time in
+/// proportion to the text and the lines where the errors stand in the order of their places.
+///
+/// # Errors
+///
+/// `NoMemory` where memory is refused. Some of the lines may be there then.
+pub fn push_errors(
+    alloc: Global,
+    out: &mut Vec<u8>,
+    path: &Path,
+    text: &[u8],
+    faults: &[Fault],
+) -> Result<(), NoMemory>
+    ensures { OnOk result (out.new.items ≡ out.old.items ++ flat_map (error_line path.now text.now) faults.now) }
+{
+    let mut known = start();
+    let mut rest = faults;
+    while let [fault, more @ ..] = rest {
+        known = locate(text, known, fault.span.start);
+        push_line(alloc, out, path, known, fault)?;
+        rest = more;
+    }
     Ok(())
 }
 

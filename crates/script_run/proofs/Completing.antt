@@ -4,7 +4,9 @@ use Rattle.std.proofs.lemmas.Bool.{cases_lt}
 use Rattle.std.proofs.lemmas.List.{take-append-le}
 use Rattle.flow_base.specs.Program.{Bytes, Program}
 use Rattle.flow_base.specs.Outside.{WhereTold, appended, HoldsFront}
-use Rattle.recheck_run.specs.Wanted.{MayBecome, taken}
+use Rattle.full_law.specs.Law.{EachFull}
+use Rattle.pending_edits.specs.Pending.{MayBecome, edited}
+use Rattle.program_check.specs.Status.{error_count, status_answer}
 use Rattle.script_line.specs.declared.line.Line.{Line}
 use Rattle.script_line.specs.declared.line.Line.TheVariants as line
 use Rattle.script_line.specs.declared.line.Ask.TheVariants as ask
@@ -13,7 +15,7 @@ use Rattle.script_line.proofs.Deciding.{says_or_not}
 use Rattle.script_reader.specs.Lines.{LINE_LIMIT}
 use Rattle.script_run.specs.declared.ending.WalkEnd.{WalkEnd}
 use Rattle.script_run.specs.declared.ending.WalkEnd.TheVariants as ending
-use Rattle.script_run.specs.Transcript.{Standing, MOST_LINES, start, with_edit, Rechecks, done, Turns, blank, edits, refuses, rechecks, answers, Walked, loads, goes, Ends, no_line, end_line, bad, long, many, last_line, IsRun, IsRunSoFar, GoesOn}
+use Rattle.script_run.specs.Transcript.{Standing, MOST_LINES, start, with_edit, modules_counted, Rechecks, done, Turns, blank, edits, refuses, rechecks, answers, Walked, loads, goes, Ends, no_line, end_line, bad, long, many, last_line, IsRun, IsRunSoFar, GoesOn}
 
 -- ---- lists
 
@@ -22,16 +24,19 @@ front_longer before now piece more (n, within, front) = (n, omega (arith, within
 
 -- ---- a recheck and a turn without a read fault
 
-some_program : (told : Option Program) (s : Standing) → (program : Program) × MayBecome told s.rows program
-some_program None s = (taken [] s.rows, ([], tt, refl))
-some_program (Some folder) s = (taken folder s.rows, (folder, refl, refl))
+some_program : (told : Option Program) (s : Standing) → (program : Program) × MayBecome told s.program s.waiting program
+some_program None s = (edited [] s.program s.waiting, ([], tt, refl))
+some_program (Some folder) s = (edited folder s.program s.waiting, (folder, refl, refl))
 
-pub quiet_recheck : (told : Option Program) (s : Standing) → (t : Standing) × (printed : Bytes) × Rechecks told s t 0 printed
-quiet_recheck told s = let may = some_program told s in (_, _, done s may.0 may.1)
+quiet_recheck : EachFull → (told : Option Program) (s : Standing) → (t : Standing) × (printed : Bytes) × Rechecks told s t 0 printed
+quiet_recheck each told s =
+    let may = some_program told s in
+    let full = each may.0 in
+    (_, _, done s may.0 (error_count full.0) may.1 ∣ (full.0, full.1, refl) ∣₁)
 
-module _ (most : ℕ) (told : Option Program) where
+module _ (each : EachFull) (most : ℕ) (told : Option Program) where
   quiet_edit : (s : Standing) (path text : Bytes) → (t : Standing) × (printed : Bytes) × Turns most told (line.Edit path text) s t 0 printed
-  quiet_edit s path text = elim (cases_lt most (length (with_edit s path text).rows)) [
+  quiet_edit s path text = elim (cases_lt most (modules_counted (with_edit s path text))) [
     | inl over ↦ (_, _, refuses s path text over)
     | inr few ↦ (_, _, edits s path text few)
   ]
@@ -39,8 +44,8 @@ module _ (most : ℕ) (told : Option Program) where
   quiet_turn : (said : Line) → (said ≡ line.End → ⊥) → (s : Standing) → (t : Standing) × (printed : Bytes) × Turns most told said s t 0 printed
   quiet_turn line.Blank goes_on s = (_, _, blank s)
   quiet_turn (line.Edit path text) goes_on s = quiet_edit s path text
-  quiet_turn line.Recheck goes_on s = let recheck = quiet_recheck told s in (_, _, rechecks s recheck.0 0 recheck.1 recheck.2)
-  quiet_turn (line.Ask ask.Status) goes_on s = (_, _, answers s)
+  quiet_turn line.Recheck goes_on s = let recheck = quiet_recheck each told s in (_, _, rechecks s recheck.0 0 recheck.1 recheck.2)
+  quiet_turn (line.Ask ask.Status) goes_on s = let full = each s.program in (_, _, answers s (status_answer s.version s.program full.0) ∣ (full.0, full.1, refl) ∣₁)
   quiet_turn line.End goes_on s = absurd (goes_on refl)
 
   end_or_not : (said : Line) → (said ≡ line.End) ⊎ (said ≡ line.End → ⊥)
@@ -60,7 +65,7 @@ module _ (most : ℕ) (told : Option Program) where
       how = how;
       program = s.program;
       version = s.version;
-      run = record { taken = before; rest = rest; lines = refl; rows = s.rows; before = printed; walk = walk; ends = ends; prints = refl };
+      run = record { taken = before; rest = rest; lines = refl; waiting = s.waiting; before = printed; walk = walk; ends = ends; prints = refl };
     }
 
     -- what goes on behind one line more goes on before it
@@ -118,7 +123,7 @@ module _ (most : ℕ) (told : Option Program) where
         taken = run.taken;
         rest = run.rest;
         lines = told_so script lines run.taken run.rest same run.lines;
-        rows = run.rows;
+        waiting = run.waiting;
         before = run.before;
         walk = run.walk;
         ends = run.ends;
@@ -136,6 +141,6 @@ module _ (most : ℕ) (told : Option Program) where
     -- a load without a read fault goes on so, whatever the script is
     pub some_run : (script : Option (List Bytes)) → (faults : ℕ) × (faults ≡ 0) × (printed : Bytes) × GoesOn most told listed script faults printed
     some_run script =
-        let load = quiet_recheck told (start listed) in
+        let load = quiet_recheck each told (start listed) in
         let lines = some_lines script in
         (0, refl, load.1, of_lines script lines.0 0 load.1 lines.1 (walks_on lines.0 [] load.0 0 load.1 (loads load.0 0 load.1 load.2)))

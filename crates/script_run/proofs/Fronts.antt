@@ -6,7 +6,7 @@ use Rattle.flow_base.specs.Program.{Bytes}
 use Rattle.flow_base.specs.Outside.{appended, HoldsFront}
 use Rattle.script_run.proofs.Writing.{appended_twice}
 
-appended_none : (before : Option Bytes) → appended before [] ≡ before
+pub appended_none : (before : Option Bytes) → appended before [] ≡ before
 appended_none None = refl
 appended_none (Some held) = ap Some (append-nil held)
 

@@ -1,10 +1,11 @@
-pub mod Ascii
+pub mod Checks
 pub mod Commands
 pub mod Completing
-pub mod FaultPlaces
+pub mod EmptyHeaps
 pub mod Fronts
 pub mod Givens
 pub mod Once
+pub mod PendingEdits
 pub mod Sessions
 pub mod Walks
 pub mod Writing

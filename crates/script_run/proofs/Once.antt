@@ -6,17 +6,21 @@ use Rattle.std.proofs.lemmas.List.{same_from_push}
 use Rattle.std.proofs.lemmas.Option.{none-some, same_Some, slice_get_past}
 use Rattle.std.proofs.Math.Seq.{take_at, drop_at}
 use Rattle.flow_base.specs.Program.{Bytes, Program}
-use Rattle.recheck_run.specs.Wanted.{Rows, MayBecome, unedited}
-use Rattle.recheck_run.specs.Wanted as wanted
-use Rattle.flow_model.specs.Errors.{full1, error_count}
+use Rattle.full_law.specs.Law.{EachFull}
+use Rattle.check_values.specs.Rows.{Rows}
+use Rattle.pending_edits.specs.Pending.{MayBecome, edited}
+use Rattle.pending_edits.specs.declared.edit.Edit.{Edit}
+use Rattle.program_check.specs.Law.{OneFull}
 use Rattle.script_line.specs.declared.line.Line.{Line}
 use Rattle.script_line.specs.declared.line.Line.TheVariants as line
 use Rattle.script_line.specs.Says.{Says}
 use Rattle.script_line.proofs.Commanding.{same_line}
 use Rattle.script_print.specs.Printed.{done_line}
 use Rattle.script_reader.specs.Lines.{LINE_LIMIT}
+use Rattle.script_run.specs.Checked.{HasErrorCount}
 use Rattle.script_run.specs.declared.ending.WalkEnd.{WalkEnd}
 use Rattle.script_run.specs.Transcript.{Standing, MOST_LINES, Rechecks, done, cannot_read, Turns, blank, edits, refuses, rechecks, answers, Walked, loads, goes, Ends, no_line, end_line, bad, long, many, last_line, IsRun, IsQuietRun}
+use Rattle.script_run.proofs.Checks.{one_count, one_answer}
 use Rattle.script_run.proofs.Completing.{some_run}
 
 -- two walks stand at one place, and have printed the same
@@ -36,21 +40,26 @@ at_seam (x ∷ xs) y ys = at_seam xs y ys
 
 -- ---- rechecks and turns
 
-same_program : (folder p q : Program) (rows : Rows) → MayBecome (Some folder) rows p → MayBecome (Some folder) rows q → p ≡ q
-same_program folder p q rows may also = may.2 ∙ ap (λ f. wanted.taken f rows) (may.1 ∙ sym also.1) ∙ sym also.2
+same_program : (folder p q before : Program) (rows : Rows Edit) → MayBecome (Some folder) before rows p → MayBecome (Some folder) before rows q → p ≡ q
+same_program folder p q before rows may also = may.2 ∙ (ap (λ f. edited f before rows) (may.1 ∙ sym also.1) ∙ sym also.2)
 
-done_at : (s : Standing) (p q : Program) → p ≡ q →
-    Same (record { program = p; version = s.version + 1; rows = unedited p }) (record { program = q; version = s.version + 1; rows = unedited q })
-    (done_line (s.version + 1) (length p) (length p) (error_count (full1 p))) (done_line (s.version + 1) (length q) (length q) (error_count (full1 q)))
-done_at s p q same = (
-  ap (λ (r : Program). let t : Standing = record { program = r; version = s.version + 1; rows = unedited r } in t) same,
-  ap (λ r. done_line (s.version + 1) (length r) (length r) (error_count (full1 r))) same,
+done_at : (s : Standing) (p q : Program) (m n : ℕ) → p ≡ q → m ≡ n →
+    Same (record { program = p; version = s.version + 1; waiting = [] }) (record { program = q; version = s.version + 1; waiting = [] })
+    (done_line (s.version + 1) (length p) (length p) m) (done_line (s.version + 1) (length q) (length q) n)
+done_at s p q m n same count = (
+  ap (λ (r : Program). let t : Standing = record { program = r; version = s.version + 1; waiting = [] } in t) same,
+  (λ i. done_line (s.version + 1) (length (same i)) (length (same i)) (count i)),
 )
 
-module _ (folder : Program) where
+module _ (one : OneFull) (folder : Program) where
+  same_done : (s : Standing) (a b : Program) (m n : ℕ) → a ≡ b → HasErrorCount a m → HasErrorCount b n →
+      Same (record { program = a; version = s.version + 1; waiting = [] }) (record { program = b; version = s.version + 1; waiting = [] })
+      (done_line (s.version + 1) (length a) (length a) m) (done_line (s.version + 1) (length b) (length b) n)
+  same_done s a b m n same first second = done_at s a b m n same (one_count one a m n first (subst (λ p. HasErrorCount p n) (sym same) second))
+
   same_recheck : {s t u : Standing} {f g : ℕ} {p q : Bytes} → Rechecks (Some folder) s t f p → Rechecks (Some folder) s u g q → f ≡ 0 → g ≡ 0 → Same t u p q
-  same_recheck (done s a may) (done s' b also) quiet still = done_at s a b (same_program folder a b s.rows may also)
-  same_recheck (done s a may) (cannot_read s' path touched) quiet still = absurd (omega arith)
+  same_recheck (done s a m may counts) (done s' b n also counts') quiet still = same_done s a b m n (same_program folder a b s.program s.waiting may also) counts counts'
+  same_recheck (done s a m may counts) (cannot_read s' path touched) quiet still = absurd (omega arith)
   same_recheck (cannot_read s path touched) other quiet still = absurd (omega arith)
 
   module _ (most : ℕ) where
@@ -61,7 +70,7 @@ module _ (folder : Program) where
     same_turn (refuses s path text over) (edits s' path' text' few) quiet still = absurd (omega arith)
     same_turn (refuses s path text over) (refuses s' path' text' over') quiet still = (refl, refl)
     same_turn (rechecks s t f p recheck) (rechecks s' u g q other) quiet still = same_recheck recheck other quiet still
-    same_turn (answers s) (answers s') quiet still = (refl, refl)
+    same_turn (answers s p answer) (answers s' q answer') quiet still = (refl, one_answer one s.program s.version p q answer answer')
 
     turn_at : (said said' : Line) (s s' t u : Standing) (f g : ℕ) (p q : Bytes) → said' ≡ said → s' ≡ s → Turns most (Some folder) said s t f p → Turns most (Some folder) said' s' u g q → f ≡ 0 → g ≡ 0 → Same t u p q
     turn_at said said' s s' t u f g p q same there turn other quiet still =
@@ -98,7 +107,7 @@ turn_goes_on (blank s) is = absurd (cc (is))
 turn_goes_on (edits s path text few) is = absurd (cc (is))
 turn_goes_on (refuses s path text over) is = absurd (cc (is))
 turn_goes_on (rechecks s t f p recheck) is = absurd (cc (is))
-turn_goes_on (answers s) is = absurd (cc (is))
+turn_goes_on (answers s p answer) is = absurd (cc (is))
 
 passes_at : (n k : ℕ) (bytes b : Bytes) → k ≡ n → bytes ≡ b → Passes n bytes → Passes k b
 passes_at n k bytes b place same passes = subst (λ m. Passes m b) (sym place) (subst (Passes n) same passes)
@@ -151,13 +160,13 @@ same_end n rest how how' (many b r past) (many b' r' past') = refl
 
 -- ---- runs
 
-pub some_quiet_run : (most : ℕ) (folder : Program) (listed lines : List Bytes) → (printed : Bytes) × (how : WalkEnd) × (program : Program) × (version : ℕ) × IsQuietRun most folder listed lines printed how program version
-some_quiet_run most folder listed lines =
-    let run = some_run most (Some folder) listed (Some lines) in
+pub some_quiet_run : EachFull → (most : ℕ) (folder : Program) (listed lines : List Bytes) → (printed : Bytes) × (how : WalkEnd) × (program : Program) × (version : ℕ) × IsQuietRun most folder listed lines printed how program version
+some_quiet_run each most folder listed lines =
+    let run = some_run each most (Some folder) listed (Some lines) in
     let on = run.3 in
     (run.2 ++ on.more, on.how, on.program, on.version, subst (λ f. IsRun most (Some folder) listed (Some lines) f (run.2 ++ on.more) on.how on.program on.version) run.1 on.run)
 
-module _ (most : ℕ) (folder : Program) (listed lines : List Bytes) where
+module _ (one : OneFull) (most : ℕ) (folder : Program) (listed lines : List Bytes) where
   as_long : (p q : Bytes) (h k : WalkEnd) (a b : Program) (v w : ℕ) → (run : IsQuietRun most folder listed lines p h a v) → (other : IsQuietRun most folder listed lines q k b w) → length run.taken ≡ length other.taken
   as_long p q h k a b v w run other = elim (cases_lt (length run.taken) (length other.taken)) [
     | inl shorter ↦ absurd (no_earlier run.taken run.rest other.taken other.rest h (sym run.lines ∙ other.lines) shorter run.ends other.walk)
@@ -174,7 +183,7 @@ module _ (most : ℕ) (folder : Program) (listed lines : List Bytes) where
       sym (take_at run.taken run.rest (length run.taken) refl) ∙ ap (take (length run.taken)) (sym run.lines ∙ other.lines) ∙ take_at other.taken other.rest (length run.taken) (sym as_far) in
       let rest : run.rest ≡ other.rest =
       sym (drop_at run.taken run.rest (length run.taken) refl) ∙ ap (drop (length run.taken)) (sym run.lines ∙ other.lines) ∙ drop_at other.taken other.rest (length run.taken) (sym as_far) in
-      let walk = same_walk folder most listed run.walk other.walk taken refl refl in
+      let walk = same_walk one folder most listed run.walk other.walk taken refl refl in
       let how : h ≡ k = same_end (length run.taken) run.rest h k run.ends (subst (λ r. Ends (length run.taken) r k) (sym rest) (subst (λ n. Ends n other.rest k) (sym as_far) other.ends)) in (
         run.prints ∙ printed run.before other.before (length run.taken) (length other.taken) h k walk.1 as_far how ∙ sym other.prints,
         how,

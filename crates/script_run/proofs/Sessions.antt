@@ -1,30 +1,48 @@
 -- A heap of modules and the edits that wait, as the walk sees them.
-use Rattle.std.proofs.Common.{◌≡◌, ◌==◌, eq-eqb, ℕ, zero, suc, ◌+◌, ◌*◌, ◌^◌, ◌<◌, List, [], ◌∷◌, length, false, Some, refl, sym, ap, ◌∙◌, subst, arith, inl, inr}
-use Rattle.std.specs.Prelude.{slice_get}
-use Rattle.std.specs.List.{AllByRecursion}
+use Rattle.std.proofs.Common.{◌≡◌, ℕ, zero, suc, ◌+◌, ◌*◌, ◌^◌, ◌<◌, ◌≤◌, List, [], ◌∷◌, ◌++◌, length, map, false, Option, Some, None, refl, sym, ap, ◌∙◌, subst, arith, inl, inr}
+use Rattle.std.specs.Prelude.{slice_get, Result, Ok, Err, IfOk, OnOk, OnErr}
+use Rattle.std.specs.Coded.{Coded-set, coded_list}
+use Rattle.std.specs.List.{AllByRecursion, flat_map}
+use denote.Struct.Props.{≡_prop}
+use mathlib.Core.Logic.{∥∥₁_elim, ∥∥₁_map}
 use Rattle.std.proofs.lemmas.Option.{same_Some}
-use Rattle.std.proofs.lemmas.Bool.{cond-true, cond-false, ne_eqb}
-use Rattle.flow_base.specs.Program.{Bytes, Program}
+use Rattle.flow_base.specs.Program.{Bytes, Program, IsRising}
+use Rattle.flow_base.specs.Program as program
 use Rattle.flow_base.specs.Causes.{raised, RoseBy}
 use Rattle.flow_base.specs.Seen.{FolderSeen}
-use Rattle.flow_model.specs.Errors.{errors1, full1, error_count}
-use Rattle.heap_core.specs.Meaning.{Meaning, AllFit}
-use Rattle.flow_state.specs.State.{errors_place, HaveOwnRows, fits, payload_at, payload_in}
-use Rattle.flow_state.specs.declared.payload.RootRow.{RootRow}
-use Rattle.flow_state.specs.declared.payload.Root.{Root}
-use Rattle.flow_state.specs.declared.payload.Payload.{Payload}
-use Rattle.flow_state.specs.declared.payload.Payload.TheVariants as payload
-use Rattle.recheck_run.specs.Waiting.{Waiting}
-use Rattle.recheck_run.specs.Wanted.{Rows, MayBecome, IsTouched, unedited, to_read}
-use Rattle.recheck_run.specs.Recheck.{RecheckState, IsEmptyHeap, Rechecked, CountsReads}
-use Rattle.recheck_run.specs.declared.recheck.Outcome.{Outcome}
-use Rattle.recheck_run.specs.declared.recheck.Outcome.TheVariants as outcome
-use Rattle.script_print.specs.Printed.{done_line, fault_line, refused_line, status_answer}
-use Rattle.script_run.specs.Transcript.{Standing, start, with_edit, Rechecks, done, cannot_read, Turns, blank, edits, refuses, rechecks, answers}
+use Rattle.heap_core.proofs.Lists.{get_there}
+use Rattle.heap_core.specs.Meaning.{Meaning, AllFit, IsSound}
+use Rattle.check_values.specs.Rows.{Rows}
+use Rattle.check_values.specs.Roots.{paths_of_rows, paths_of}
+use Rattle.check_values.specs.contracts.faults.Fault as fault_type
+use Rattle.check_values.specs.declared.faults.Fault.{Fault}
+use Rattle.check_values.specs.declared.root.RootRow.{RootRow}
+use Rattle.check_values.specs.declared.root.Root.{Root}
+use Rattle.program_check.specs.Full.{Results, IsFull}
+use Rattle.program_check.specs.Law.{OneFull}
+use Rattle.program_check.specs.Status.{error_count, error_line, error_lines, status_line}
+use Rattle.payloads.specs.Entities.{errors_entity}
+use Rattle.payloads.specs.State.{program_of, HaveOwnRows, IsRoot, fits, payload_at, payload_in, StandsIn}
+use Rattle.payloads.proofs.Places.{stand_here}
+use Rattle.payloads.specs.declared.payload.Payload.{Payload}
+use Rattle.payloads.specs.declared.payload.Payload.TheVariants as payload
+use Rattle.pending_edits.specs.Pending.{Pending, MayBecome, IsTouched}
+use Rattle.pending_edits.specs.Pending as pending
+use Rattle.pending_edits.specs.declared.edit.Edit.{Edit}
+use Rattle.pending_edits.specs.declared.edit.Edit.TheVariants.{Put}
+use Rattle.pending_edits.specs.declared.edit.EditFault.{EditFault}
+use Rattle.pending_edits.specs.declared.edit.EditFault.TheVariants.{TooManyModules, NoMemory}
+use Rattle.program_recheck.specs.Recheck.{Commits, HasRoom, RecheckState, Rechecked, CountsReads}
+use Rattle.program_recheck.specs.declared.outcome.Outcome.{Outcome}
+use Rattle.program_recheck.specs.declared.outcome.Outcome.TheVariants as outcome
+use Rattle.script_print.specs.Printed.{done_line, fault_line, refused_line}
 use Rattle.script_line.specs.declared.line.Line.{Line}
 use Rattle.script_line.specs.declared.line.Line.TheVariants as line
 use Rattle.script_line.specs.declared.line.Ask.TheVariants as ask
-use Rattle.script_run.specs.Session.{modules_in, program_in, program_with, modules_of, Held, held, standing_of, standing_in, HasErrors, HasRechecked, HasTurned, HasEdited, Prints}
+use Rattle.script_run.specs.Checked.{HasErrorCount, IsStatusAnswer}
+use Rattle.script_run.specs.Transcript.{Standing, start, to_touch, with_edit, modules_counted, Rechecks, done, cannot_read, Turns, blank, edits, refuses, rechecks, answers}
+use Rattle.script_run.specs.Session.{modules_of, modules_in, program_in, program_with, Held, held, standing_of, standing_in, IsEmptyHeap, faults_of, faults_in, faults_at, count_in, lines_in, HasPlace, HasRechecked, HasTurned, HasEdited, Limits, Prints, PrintsEdit}
+use Rattle.script_run.proofs.Checks.{same_errors, each_module}
 
 -- ---- counts
 
@@ -34,81 +52,151 @@ rose_none before now bounded same = omega (arith, bounded, same)
 -- ---- the modules of a state
 
 pub first_modules : (state : List Payload) (root : Payload) → slice_get state 0 ≡ Some root → modules_in state ≡ modules_of root
-first_modules [] root at = absurd (cc)
-first_modules (payload.Absent ∷ state) root at = ap modules_of (same_Some payload.Absent root at)
-first_modules (payload.Errs errs ∷ state) root at = ap modules_of (same_Some (payload.Errs errs) root at)
-first_modules (payload.Root r ∷ state) root at = ap modules_of (same_Some (payload.Root r) root at)
+first_modules [] root at = absurd (let z : None ≡ Some root = at in cc)
+first_modules (x ∷ state) root at = ap modules_of (same_Some x root at)
 
 -- ---- the errors of a state
 
-other_place : (a b : ℕ) → (a ≡ b → ⊥) → (errors_place b == errors_place a) ≡ false
-other_place a b differ = ne_eqb (errors_place b) (errors_place a) (λ same. differ (omega arith))
+room_there : (n : ℕ) (ms : List RootRow) (x : ℕ) (m : RootRow) → AllByRecursion (λ m. errors_entity m.row < n) ms → slice_get ms x ≡ Some m → errors_entity m.row < n
+room_there n [] x m room at = absurd (let z : None ≡ Some m = at in cc)
+room_there n (k ∷ ms) zero m room at = let is : k ≡ m = same_Some k m at in subst (λ (j : RootRow). errors_entity j.row < n) is room.0
+room_there n (k ∷ ms) (suc x) m room at = room_there n ms x m room.1 at
 
-errors_first : (m : RootRow) (ms : List RootRow) → payload_in (m ∷ ms) (errors_place m.row) ≡ payload.Errs (record { faults = errors1 m.text })
-errors_first m ms = cond-true (errors_place m.row == errors_place m.row) _ _ (eq-eqb (errors_place m.row) (errors_place m.row) refl)
+-- beyond the root's entity, it is what the modules have
+beyond : (root : Root) (results : List Results) (e : ℕ) → 0 < e → payload_at root results e ≡ payload_in root.modules results e
+beyond root results zero low = absurd (omega arith)
+beyond root results (suc e) low = refl
 
-errors_behind : (n : RootRow) (ms : List RootRow) (m : RootRow) → (n.row ≡ m.row → ⊥) → payload_in (n ∷ ms) (errors_place m.row) ≡ payload_in ms (errors_place m.row)
-errors_behind n ms m differ = cond-false (errors_place m.row == errors_place n.row) _ _ (other_place n.row m.row differ)
+-- each of these modules has the errors of these results in the state
+abbrev HaveErrors : List Payload → List RootRow → List Results → Type 0
+HaveErrors state [] [] = Unit {0}
+HaveErrors state (m ∷ ms) (r ∷ rs) = (faults_at state m.row ≡ r.errors) × HaveErrors state ms rs
+HaveErrors state ms rs = ⊥
 
--- each of these modules has its errors among the payloads of more modules
-abbrev AreAmong : List RootRow → List RootRow → Type 0
-AreAmong all ms = AllByRecursion (λ m. payload_in all (errors_place m.row) ≡ payload.Errs (record { faults = errors1 m.text })) ms
+have_all : (state : List Payload) (ms : List RootRow) (rs : List Results) → length rs ≡ length ms →
+    ((x : ℕ) (m : RootRow) (r : Results) → slice_get ms x ≡ Some m → slice_get rs x ≡ Some r → faults_at state m.row ≡ r.errors) → HaveErrors state ms rs
+have_all state [] [] same each = tt
+have_all state [] (r ∷ rs) same each = absurd (omega (arith, same))
+have_all state (m ∷ ms) [] same each = absurd (omega (arith, same))
+have_all state (m ∷ ms) (r ∷ rs) same each = (each 0 m r refl refl, have_all state ms rs (omega (arith, same)) (λ x n s at of. each (suc x) n s at of))
 
-among_more : (n : RootRow) (all ms : List RootRow) → AllByRecursion (λ m. n.row ≡ m.row → ⊥) ms → AreAmong all ms → AreAmong (n ∷ all) ms
-among_more n all [] differ among = tt
-among_more n all (m ∷ ms) differ among = (errors_behind n all m differ.0 ∙ among.0, among_more n all ms differ.1 among.1)
+count_by : (state : List Payload) (ms : List RootRow) (rs : List Results) → HaveErrors state ms rs → count_in state ms ≡ error_count rs
+count_by state [] [] have = refl
+count_by state [] (r ∷ rs) have = absurd have
+count_by state (m ∷ ms) [] have = absurd have
+count_by state (m ∷ ms) (r ∷ rs) have =
+    let first = have.0 in
+    let rest = count_by state ms rs have.1 in
+    λ i. length (first i) + rest i
 
-among_own : (ms : List RootRow) → HaveOwnRows ms → AreAmong ms ms
-among_own [] own = tt
-among_own (m ∷ ms) own = (errors_first m ms, among_more m ms ms own.0 (among_own ms own.1))
+lines_by : (state : List Payload) (ms : List RootRow) (rs : List Results) → HaveErrors state ms rs → lines_in state ms ≡ error_lines (program_with ms) rs
+lines_by state [] [] have = refl
+lines_by state [] (r ∷ rs) have = absurd have
+lines_by state (m ∷ ms) [] have = absurd have
+lines_by state (m ∷ ms) (r ∷ rs) have =
+    let first = have.0 in
+    let rest = lines_by state ms rs have.1 in
+    λ i. flat_map (error_line m.path m.text) (first i) ++ rest i
 
-payload_there : (state : List Payload) (e : ℕ) → e < length state → (x : Payload) × (slice_get state e ≡ Some x)
-payload_there [] e within = absurd (omega arith)
-payload_there (x ∷ state) zero within = (x, refl)
-payload_there (x ∷ state) (suc e) within = payload_there state e (omega arith)
+many_in : (ms : List RootRow) → length (program_with ms) ≡ length ms
+many_in [] = refl
+many_in (m ∷ ms) = ap (λ n. suc n) (many_in ms)
 
-module _ (state : List Payload) (few : length state < 2 ^ 32) (root : Root) (fit : (e : ℕ) (x : Payload) → slice_get state e ≡ Some x → fits (length state) (payload.Root root) e x) where
-  errors_stand : (m : RootRow) → errors_place m.row < length state → payload_in root.modules (errors_place m.row) ≡ payload.Errs (record { faults = errors1 m.text }) → HasErrors state m
-  errors_stand m within is =
-      let there = payload_there state (errors_place m.row) within in
-      let next : suc (4 * m.row + 3) ≡ errors_place m.row = omega arith in
-      let at : payload_at root (suc (4 * m.row + 3)) ≡ payload_in root.modules (suc (4 * m.row + 3)) = refl in
-      let same : payload_at root (errors_place m.row) ≡ payload_in root.modules (errors_place m.row) = subst (λ e. payload_at root e ≡ payload_in root.modules e) next at in
-      record { numbered = omega arith; stands = there.1 ∙ ap Some ((fit (errors_place m.row) there.0 there.1).1 ∙ same ∙ is) }
+module _ (one : OneFull) (state : List Payload) (root : Root) (is_root : IsRoot (length state) root)
+    (fit : (e : ℕ) (x : Payload) → slice_get state e ≡ Some x → ∥ StandsIn root e x ∥₁) (results : List Results) (full : IsFull (program_of root) results) where
+  faults_there : (x : ℕ) (m : RootRow) (r : Results) → slice_get root.modules x ≡ Some m → slice_get results x ≡ Some r → faults_at state m.row ≡ r.errors
+  faults_there x m r at of =
+      let there = get_there state (errors_entity m.row) (room_there (length state) root.modules x m is_root.room at) in
+      ap faults_in there.1 ∙ ∥∥₁_elim (fit (errors_entity m.row) there.0 there.1) (≡_prop (coded_list fault_type.the_row.coded) (faults_of there.0) r.errors) (λ (stood : StandsIn root (errors_entity m.row) there.0).
+      let other = same_errors stood.0 results x r (one (program_of root) stood.0 results stood.1 full) of in
+      let here = stand_here root.modules stood.0 x m other.0 is_root.rows at other.1 in
+      ap faults_of (stood.2 ∙ (beyond root stood.0 (errors_entity m.row) (omega arith) ∙ here.errors)) ∙ other.2)
 
-  all_stand : (ms : List RootRow) → AllByRecursion (λ m. errors_place m.row < length state) ms → AreAmong root.modules ms → AllByRecursion (HasErrors state) ms
-  all_stand [] room among = tt
-  all_stand (m ∷ ms) room among = (errors_stand m room.0 among.0, all_stand ms room.1 among.1)
+  have_errors : HaveErrors state root.modules results
+  have_errors = have_all state root.modules results (each_module (program_of root) results full ∙ many_in root.modules) faults_there
 
--- the errors of each module of a state stand in it
-pub errors_there : (state : List Payload) (root : Payload) → length state < 2 ^ 32 → (0 < length state) × AllFit fits state → slice_get state 0 ≡ Some root → AllByRecursion (HasErrors state) (modules_of root)
-errors_there state payload.Absent few fit first = tt
-errors_there state (payload.Errs errs) few fit first = tt
-errors_there state (payload.Root root) few fit first =
-    let here = fit.1 (payload.Root root) first 0 (payload.Root root) first in
-    all_stand state few root (fit.1 (payload.Root root) first) root.modules here.0.room (among_own root.modules here.0.rows)
+module _ (one : OneFull) (state : List Payload) (fit : (0 < length state) × AllFit fits state) where
+  module _ (count : ℕ) where
+    count_of_root : (root : Payload) → slice_get state 0 ≡ Some root → count ≡ count_in state (modules_of root) → HasErrorCount (program_with (modules_of root)) count
+    count_of_root payload.Absent first is = absurd (fit.1 payload.Absent first 0 payload.Absent first)
+    count_of_root (payload.Parse parse) first is = absurd (fit.1 (payload.Parse parse) first 0 (payload.Parse parse) first)
+    count_of_root (payload.Deps deps) first is = absurd (fit.1 (payload.Deps deps) first 0 (payload.Deps deps) first)
+    count_of_root (payload.Sig sig) first is = absurd (fit.1 (payload.Sig sig) first 0 (payload.Sig sig) first)
+    count_of_root (payload.Errs errs) first is = absurd (fit.1 (payload.Errs errs) first 0 (payload.Errs errs) first)
+    count_of_root (payload.Root root) first is =
+        let here = fit.1 (payload.Root root) first 0 (payload.Root root) first in
+        ∥∥₁_map here.1 (λ (stood : StandsIn root 0 (payload.Root root)).
+        (stood.0, stood.1, is ∙ count_by state root.modules stood.0 (have_errors one state root here.0 (λ e x at. (fit.1 (payload.Root root) first e x at).1) stood.0 stood.1)))
 
-pub errors_read : (state state' : List Payload) (root : Payload) (modules : List RootRow) → length state < 2 ^ 32 → (0 < length state) × AllFit fits state → slice_get state 0 ≡ Some root
-    → state' ≡ state → modules ≡ modules_of root → AllByRecursion (HasErrors state') modules
-errors_read state state' root modules few fit first same is =
-    subst (λ ms. AllByRecursion (HasErrors state') ms) (sym is) (subst (λ st. AllByRecursion (HasErrors st) (modules_of root)) (sym same) (errors_there state root few fit first))
+    pub counted : (root : Payload) (modules : List RootRow) → slice_get state 0 ≡ Some root → modules ≡ modules_of root → count ≡ count_in state modules → HasErrorCount (program_in state) count
+    counted root modules first same is =
+        subst (λ ms. HasErrorCount (program_with ms) count) (sym (first_modules state root first)) (count_of_root root first (is ∙ ap (count_in state) same))
+
+  module _ (version : ℕ) (text : Bytes) where
+    answer_of_root : (root : Payload) → slice_get state 0 ≡ Some root → text ≡ status_line version (count_in state (modules_of root)) ++ lines_in state (modules_of root)
+        → IsStatusAnswer version (program_with (modules_of root)) text
+    answer_of_root payload.Absent first is = absurd (fit.1 payload.Absent first 0 payload.Absent first)
+    answer_of_root (payload.Parse parse) first is = absurd (fit.1 (payload.Parse parse) first 0 (payload.Parse parse) first)
+    answer_of_root (payload.Deps deps) first is = absurd (fit.1 (payload.Deps deps) first 0 (payload.Deps deps) first)
+    answer_of_root (payload.Sig sig) first is = absurd (fit.1 (payload.Sig sig) first 0 (payload.Sig sig) first)
+    answer_of_root (payload.Errs errs) first is = absurd (fit.1 (payload.Errs errs) first 0 (payload.Errs errs) first)
+    answer_of_root (payload.Root root) first is =
+        let here = fit.1 (payload.Root root) first 0 (payload.Root root) first in
+        ∥∥₁_map here.1 (λ (stood : StandsIn root 0 (payload.Root root)).
+        let have = have_errors one state root here.0 (λ e x at. (fit.1 (payload.Root root) first e x at).1) stood.0 stood.1 in
+        let count = count_by state root.modules stood.0 have in
+        let lines = lines_by state root.modules stood.0 have in
+        (stood.0, stood.1, is ∙ (λ i. status_line version (count i) ++ lines i)))
+
+    pub answered : (root : Payload) (modules : List RootRow) → slice_get state 0 ≡ Some root → modules ≡ modules_of root → text ≡ status_line version (count_in state modules) ++ lines_in state modules
+        → IsStatusAnswer version (program_in state) text
+    answered root modules first same is =
+        subst (λ ms. IsStatusAnswer version (program_with ms) text) (sym (first_modules state root first))
+        (answer_of_root root first (is ∙ ap (λ ms. status_line version (count_in state ms) ++ lines_in state ms) same))
+
+-- the answer by a heap is that of a session over it
+pub status_there : {T E : Type 0} (r : Result T E) (text : T → Bytes) (m n : Meaning Payload) (w : Pending) (h : Held) → held m w ≡ h → n ≡ m → IfOk r (λ t. IsStatusAnswer n.version (program_in n.committed) (text t))
+    → IfOk r (λ t. IsStatusAnswer (standing_in h).version (standing_in h).program (text t))
+status_there (Ok t) text m n w h at same answer =
+    subst (λ (k : Held). IsStatusAnswer (standing_in k).version (standing_in k).program (text t)) at (subst (λ (k : Meaning Payload). IsStatusAnswer k.version (program_in k.committed) (text t)) same answer)
+status_there (Err e) text m n w h at same answer = tt
+
+-- ---- the places of the errors
+
+all_placed : (state : List Payload) (ms : List RootRow) → length state < 2 ^ 32 → AllByRecursion (λ m. errors_entity m.row < length state) ms → AllByRecursion (HasPlace state) ms
+all_placed state [] few room = tt
+all_placed state (m ∷ ms) few room = let here = room.0 in (record { numbered = omega (arith, here, few); within = here }, all_placed state ms few room.1)
+
+root_placed : (state : List Payload) (root : Payload) → length state < 2 ^ 32 → AllFit fits state → slice_get state 0 ≡ Some root → AllByRecursion (HasPlace state) (modules_of root)
+root_placed state payload.Absent few fit first = tt
+root_placed state (payload.Parse parse) few fit first = tt
+root_placed state (payload.Deps deps) few fit first = tt
+root_placed state (payload.Sig sig) few fit first = tt
+root_placed state (payload.Errs errs) few fit first = tt
+root_placed state (payload.Root root) few fit first = all_placed state root.modules few (fit (payload.Root root) first 0 (payload.Root root) first).0.room
+
+pub placed : (state state' : List Payload) (root : Payload) (modules : List RootRow) → length state < 2 ^ 32 → (0 < length state) × AllFit fits state → slice_get state 0 ≡ Some root
+    → state' ≡ state → modules ≡ modules_of root → AllByRecursion (HasPlace state') modules
+placed state state' root modules few fit first same is =
+    subst (λ ms. AllByRecursion (HasPlace state') ms) (sym is) (subst (λ st. AllByRecursion (HasPlace st) (modules_of root)) (sym same) (root_placed state root few fit.1 first))
 
 -- ---- rechecks
 
-same_standing : (p q : Program) (v w : ℕ) (r t : Rows) → p ≡ q → v ≡ w → r ≡ t →
-    (let a : Standing = record { program = p; version = v; rows = r } in a) ≡ (let b : Standing = record { program = q; version = w; rows = t } in b)
+same_standing : (p q : Program) (v w : ℕ) (r t : Rows Edit) → p ≡ q → v ≡ w → r ≡ t →
+    (let a : Standing = record { program = p; version = v; waiting = r } in a) ≡ (let b : Standing = record { program = q; version = w; waiting = t } in b)
 same_standing p q v w r t ps vs rs = cc
 
-rechecks_done : (s s' : Standing) (program : Program) (line : Bytes) (before now : FolderSeen) → MayBecome before.told s.rows program →
-    (let t : Standing = record { program = program; version = s.version + 1; rows = unedited program } in t) ≡ s' →
-    done_line (s.version + 1) (length program) (length program) (error_count (full1 program)) ≡ line → before.faults < 2 ^ 64 → now.faults ≡ before.faults → HasRechecked s s' line before now
-rechecks_done s s' program line before now may is prints bounded same = record {
+rechecks_done : (s s' : Standing) (program : Program) (errors : ℕ) (line : Bytes) (before now : FolderSeen) → MayBecome before.told s.program s.waiting program → HasErrorCount program errors →
+    (let t : Standing = record { program = program; version = s.version + 1; waiting = [] } in t) ≡ s' →
+    done_line (s.version + 1) (length program) (length program) errors ≡ line → before.faults < 2 ^ 64 → now.faults ≡ before.faults → HasRechecked s s' line before now
+rechecks_done s s' program errors line before now may counts is prints bounded same = record {
   faults = 0;
-  rechecks = subst (λ t. Rechecks before.told s t 0 line) is (subst (λ l. Rechecks before.told s (record { program = program; version = s.version + 1; rows = unedited program }) 0 l) prints (done s program may));
+  rechecks = subst (λ t. Rechecks before.told s t 0 line) is
+      (subst (λ l. Rechecks before.told s (record { program = program; version = s.version + 1; waiting = [] }) 0 l) prints (done s program errors may counts));
   counted = rose_none before.faults now.faults bounded same;
 }
 
-rechecks_not : (s s' : Standing) (path : Bytes) (line : Bytes) (before now : FolderSeen) → IsTouched s.rows path → s ≡ s' → fault_line path s'.version ≡ line → now.faults ≡ raised before.faults
+rechecks_not : (s s' : Standing) (path : Bytes) (line : Bytes) (before now : FolderSeen) → IsTouched s.waiting path → s ≡ s' → fault_line path s'.version ≡ line → now.faults ≡ raised before.faults
     → HasRechecked s s' line before now
 rechecks_not s s' path line before now touched is prints rose = record {
   faults = 1;
@@ -116,31 +204,35 @@ rechecks_not s s' path line before now touched is prints rose = record {
   counted = rose;
 }
 
--- a heap without a module has the empty program
-pub empty_program : (m : Meaning Payload) (modules : ℕ) → IsEmptyHeap m modules → program_in m.committed ≡ []
-empty_program m modules empty = ap program_with (first_modules m.committed (payload.Root empty.commits.0) empty.commits.1) ∙ empty.commits.2
+-- the program of a heap, by its root
+committed_program : (m : Meaning Payload) (root : Root) → Commits m root → program_in m.committed ≡ program_of root
+committed_program m root is = ap program_with (first_modules m.committed (payload.Root root) is)
 
--- a session over it, with these paths to be read, stands at the start
-pub begins_empty : (m : Meaning Payload) (modules : ℕ) (waiting : Waiting) (listed : List Bytes) → IsEmptyHeap m modules → waiting ≡ record { rows = to_read listed; capacity = modules } → standing_of m waiting ≡ start listed
+-- a session over a heap without a module, with these paths to be read, stands at the start
+pub begins_empty : (m : Meaning Payload) (modules : ℕ) (waiting : Pending) (listed : List Bytes) → IsEmptyHeap m modules → waiting.edits ≡ to_touch listed → standing_of m waiting ≡ start listed
 begins_empty m modules waiting listed empty is =
-    same_standing (program_in m.committed) [] m.version 0 waiting.rows (to_read listed) (empty_program m modules empty) empty.version (ap (λ (w : Waiting). w.rows) is)
+    same_standing (program_in m.committed) [] m.version 0 waiting.edits (to_touch listed) (committed_program m (record { modules = [] }) empty.commits) empty.version is
 
 -- a recheck of the heap is one of the walk
 heap_rechecked : (before now : RecheckState) (o : Outcome) (version : ℕ) (line : Bytes) → Rechecked before now o → CountsReads before.folder now.folder o → before.folder.faults < 2 ^ 64 → version ≡ now.heap.version
     → Prints o version line → HasRechecked (standing_of before.heap before.edits) (standing_of now.heap now.edits) line before.folder now.folder
-heap_rechecked before now (outcome.Done v modules errors) version line recheck reads bounded is prints =
-    rechecks_done (standing_of before.heap before.edits) (standing_of now.heap now.edits) recheck.program line before.folder now.folder recheck.edited
-    (same_standing recheck.program (program_in now.heap.committed) (before.heap.version + 1) now.heap.version (unedited recheck.program) now.edits.rows
-    (sym recheck.commits.2 ∙ sym (ap program_with (first_modules now.heap.committed (payload.Root recheck.commits.0) recheck.commits.1))) (sym recheck.next) (sym recheck.rest))
-    (ap (λ n. done_line n (length recheck.program) (length recheck.program) (error_count (full1 recheck.program))) (sym recheck.next ∙ sym recheck.answers)
-    ∙ ap (λ n. done_line v n n (error_count (full1 recheck.program))) (sym recheck.counts.0)
-    ∙ ap (λ n. done_line v modules modules n) (sym recheck.counts.1)
+heap_rechecked before now (outcome.Done v parsed checked errors) version line recheck reads bounded is prints =
+    let new = program_of recheck.new in
+    let many : length recheck.results ≡ length new = each_module new recheck.results recheck.full in
+    rechecks_done (standing_of before.heap before.edits) (standing_of now.heap now.edits) new errors line before.folder now.folder
+    (subst (λ p. MayBecome before.folder.told p before.edits.edits new) (sym (committed_program before.heap recheck.old recheck.was)) recheck.edited)
+    ∣ (recheck.results, recheck.full, recheck.counts.2) ∣₁
+    (same_standing new (program_in now.heap.committed) (before.heap.version + 1) now.heap.version [] now.edits.edits
+    (sym (committed_program now.heap recheck.new recheck.is)) (sym recheck.next.0) (sym recheck.rest))
+    (ap (λ n. done_line n (length new) (length new) errors) (sym recheck.next.0 ∙ sym recheck.next.1)
+    ∙ ap (λ n. done_line v n (length new) errors) (sym (recheck.counts.0 ∙ many))
+    ∙ ap (λ n. done_line v parsed n errors) (sym (recheck.counts.1 ∙ many))
     ∙ sym prints)
     bounded reads
 heap_rechecked before now (outcome.ReadFault path) version line recheck reads bounded is prints =
     rechecks_not (standing_of before.heap before.edits) (standing_of now.heap now.edits) path line before.folder now.folder recheck.1
-    (same_standing (program_in before.heap.committed) (program_in now.heap.committed) before.heap.version now.heap.version before.edits.rows now.edits.rows
-    (ap (λ (n : Meaning Payload). program_in n.committed) (sym recheck.0.0)) (ap (λ (n : Meaning Payload). n.version) (sym recheck.0.0)) (sym recheck.0.1))
+    (same_standing (program_in before.heap.committed) (program_in now.heap.committed) before.heap.version now.heap.version before.edits.edits now.edits.edits
+    (ap (λ (n : Meaning Payload). program_in n.committed) (sym recheck.0.0)) (ap (λ (n : Meaning Payload). n.version) (sym recheck.0.0)) (ap (λ (w : Pending). w.edits) (sym recheck.0.1)))
     (ap (fault_line path) (sym is) ∙ sym prints)
     reads.0
 heap_rechecked before now outcome.NoMemory version line recheck reads bounded is prints = absurd prints
@@ -149,6 +241,23 @@ pub rechecked : (before now : RecheckState) (h : Held) (o : Outcome) (version : 
     → before.folder.faults < 2 ^ 64 → version ≡ now.heap.version → Prints o version line → HasRechecked (standing_in h) (standing_of now.heap now.edits) line before.folder now.folder
 rechecked before now h o version line at recheck reads bounded is prints =
     subst (λ (g : Held). HasRechecked (standing_in g) (standing_of now.heap now.edits) line before.folder now.folder) at (heap_rechecked before now o version line recheck reads bounded is prints)
+
+-- ---- edits
+
+module _ (before after : Pending) (m : Meaning Payload) (path new printed : Bytes) where
+  edited_with : {T : Type 0} (put : Result T EditFault) → OnOk put (after.edits ≡ pending.with_edit before.edits path (Put new)) → OnErr put (after.edits ≡ before.edits)
+      → Limits before.capacity (modules_counted (with_edit (standing_of m before) path new)) put → PrintsEdit put printed → HasEdited before.capacity path new (standing_of m before) (standing_of m after) printed
+  edited_with (Ok x) ok err few prints = inl (few, same_standing (program_in m.committed) (program_in m.committed) m.version m.version after.edits (pending.with_edit before.edits path (Put new)) refl refl ok, prints)
+  edited_with (Err (TooManyModules count)) ok err many prints =
+      inr (many.0, same_standing (program_in m.committed) (program_in m.committed) m.version m.version after.edits before.edits refl refl err, prints ∙ ap refused_line many.1)
+  edited_with (Err NoMemory) ok err few prints = absurd prints
+
+pub edited_there : {T V E : Type 0} (put : Result T EditFault) (line : Result V E) (text : V → Bytes) (m : Meaning Payload) (before after : Pending) (h : Held) (path new : Bytes) → held m before ≡ h
+    → OnOk put (after.edits ≡ pending.with_edit before.edits path (Put new)) → OnErr put (after.edits ≡ before.edits) → Limits before.capacity (modules_counted (with_edit (standing_of m before) path new)) put
+    → IfOk line (λ v. PrintsEdit put (text v)) → IfOk line (λ v. HasEdited h.waiting.capacity path new (standing_in h) (standing_of m after) (text v))
+edited_there put (Ok v) text m before after h path new at ok err limits prints =
+    subst (λ (k : Held). HasEdited k.waiting.capacity path new (standing_in k) (standing_of m after) (text v)) at (edited_with before after m path new (text v) put ok err limits prints)
+edited_there put (Err e) text m before after h path new at ok err limits prints = tt
 
 -- ---- turns
 
@@ -168,15 +277,15 @@ pub turned_edit : (most : ℕ) (said : Line) (path text : Bytes) (s s' : Standin
 turned_edit most said path text s s' printed now bounded is (inl (few, same, none)) =
     of_turn most said (line.Edit path text) s s' [] printed 0 now now is none (subst (λ t. Turns most now.told (line.Edit path text) s t 0 []) (sym same) (edits s path text few)) (rose_none now.faults now.faults bounded refl)
 turned_edit most said path text s s' printed now bounded is (inr (many, same, refused)) =
-    of_turn most said (line.Edit path text) s s' (refused_line (length (with_edit s path text).rows)) printed 0 now now is refused
-    (subst (λ t. Turns most now.told (line.Edit path text) s t 0 (refused_line (length (with_edit s path text).rows))) (sym same) (refuses s path text many)) (rose_none now.faults now.faults bounded refl)
+    of_turn most said (line.Edit path text) s s' (refused_line (modules_counted (with_edit s path text))) printed 0 now now is refused
+    (subst (λ t. Turns most now.told (line.Edit path text) s t 0 (refused_line (modules_counted (with_edit s path text)))) (sym same) (refuses s path text many)) (rose_none now.faults now.faults bounded refl)
 
 pub turned_recheck : (most : ℕ) (said : Line) (s s' : Standing) (text printed : Bytes) (before now : FolderSeen) → said ≡ line.Recheck → printed ≡ text → HasRechecked s s' text before now
     → HasTurned most said s s' printed before now
 turned_recheck most said s s' text printed before now is same recheck =
     of_turn most said line.Recheck s s' text printed recheck.faults before now is same (rechecks s s' recheck.faults text recheck.rechecks) recheck.counted
 
-pub turned_status : (most : ℕ) (said : Line) (s : Standing) (printed : Bytes) (now : FolderSeen) → now.faults < 2 ^ 64 → said ≡ line.Ask ask.Status → printed ≡ status_answer s.version s.program
+pub turned_status : (most : ℕ) (said : Line) (s : Standing) (printed : Bytes) (now : FolderSeen) → now.faults < 2 ^ 64 → said ≡ line.Ask ask.Status → IsStatusAnswer s.version s.program printed
     → HasTurned most said s s printed now now
-turned_status most said s printed now bounded is same =
-    of_turn most said (line.Ask ask.Status) s s (status_answer s.version s.program) printed 0 now now is same (answers s) (rose_none now.faults now.faults bounded refl)
+turned_status most said s printed now bounded is answer =
+    of_turn most said (line.Ask ask.Status) s s printed printed 0 now now is refl (answers s printed answer) (rose_none now.faults now.faults bounded refl)

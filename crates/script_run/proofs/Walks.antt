@@ -6,15 +6,17 @@ use Rattle.flow_base.specs.Program.{Bytes, Program}
 use Rattle.flow_base.specs.Causes.{RoseBy}
 use Rattle.flow_base.specs.Outside.{WhereTold, appended, HoldsFront}
 use Rattle.flow_base.specs.Seen.{FolderSeen, SourceSeen, SinkSeen, Outside}
-use Rattle.flow_model.specs.Errors.{full1, error_count}
+use Rattle.full_law.specs.Law.{EachFull}
 use Rattle.script_line.specs.declared.line.Line.{Line}
 use Rattle.script_reader.specs.Lines.{lines_left, TakesLine}
+use Rattle.script_run.specs.Checked.{HasErrorCount}
 use Rattle.script_run.specs.declared.ending.WalkEnd.{WalkEnd}
-use Rattle.script_run.specs.Transcript.{Standing, start, Rechecks, done, cannot_read, Turns, blank, edits, refuses, rechecks, answers, loads, goes, Ends, last_line, IsRun, IsRunSoFar}
+use Rattle.script_run.specs.Transcript.{Standing, start, Rechecks, done, cannot_read, Turns, blank, edits, refuses, rechecks, answers, Walked, loads, goes, Ends, last_line, IsRun, IsRunSoFar}
 use Rattle.script_run.specs.Session.{HasRechecked, HasTurned}
 use Rattle.script_run.specs.declared.command.Command.{Command}
 use Rattle.script_run.specs.declared.command.Command.TheVariants as command
 use Rattle.script_run.specs.Steps.{WalkState, Reads, IsTaken, HasEnd, RoseByAtLeast, Takes, Closes, Breaks, silent, in_turn, in_end, BreaksOff, unsaid, begun, HasLoaded, BreaksLoad, unsaid_load, begun_load, HasWalked, HasRun, TookAllGiven, HasStopped, HasFront}
+use Rattle.script_run.proofs.Checks.{no_errors}
 use Rattle.script_run.proofs.Completing.{front_longer, goes_on, some_run}
 use Rattle.script_run.proofs.Fronts.{front_none, front_all, front_behind}
 use Rattle.script_run.proofs.Writing.{appended_twice}
@@ -34,7 +36,7 @@ rose_more f before between now rose later = omega (arith, rose, later)
 -- ---- versions
 
 recheck_version : {told : Option Program} {s t : Standing} {f : ℕ} {printed : Bytes} → Rechecks told s t f printed → t.version ≤ s.version + 1
-recheck_version (done s program may) = omega arith
+recheck_version (done s program errors may counts) = omega arith
 recheck_version (cannot_read s path touched) = omega arith
 
 turn_version : {most : ℕ} {told : Option Program} {said : Line} {s t : Standing} {f : ℕ} {printed : Bytes} → Turns most told said s t f printed → t.version ≤ s.version + 1
@@ -42,7 +44,28 @@ turn_version (blank s) = omega arith
 turn_version (edits s path text few) = omega arith
 turn_version (refuses s path text many) = omega arith
 turn_version (rechecks s t f printed recheck) = recheck_version recheck
-turn_version (answers s) = omega arith
+turn_version (answers s answer is) = omega arith
+
+-- ---- errors
+
+-- the number of errors of the program at which a walk stands
+abbrev pub SomeCount : Standing → Type 0
+SomeCount s = (errors : ℕ) × HasErrorCount s.program errors
+
+recheck_counts : {told : Option Program} {s t : Standing} {f : ℕ} {printed : Bytes} → Rechecks told s t f printed → SomeCount s → SomeCount t
+recheck_counts (done s program errors may counts) before = (errors, counts)
+recheck_counts (cannot_read s path touched) before = before
+
+turn_counts : {most : ℕ} {told : Option Program} {said : Line} {s t : Standing} {f : ℕ} {printed : Bytes} → Turns most told said s t f printed → SomeCount s → SomeCount t
+turn_counts (blank s) before = before
+turn_counts (edits s path text few) before = before
+turn_counts (refuses s path text many) before = before
+turn_counts (rechecks s t f printed recheck) before = recheck_counts recheck before
+turn_counts (answers s answer is) before = before
+
+pub walk_counts : {most : ℕ} {told : Option Program} {listed taken : List Bytes} {s : Standing} {f : ℕ} {printed : Bytes} → Walked most told listed taken s f printed → SomeCount s
+walk_counts (loads s f printed load) = recheck_counts load (0, no_errors)
+walk_counts (goes taken s f printed bytes said t g more walk few short says turn) = turn_counts turn (walk_counts walk)
 
 -- ---- lines
 
@@ -151,7 +174,7 @@ module _ (most : ℕ) (listed : List Bytes) (script : Option (List Bytes)) (befo
     taken = walked.lines;
     rest = end.rest;
     lines = told_lines script left walked.lines end.rest walked.leaves end.lines;
-    rows = now.standing.rows;
+    waiting = now.standing.waiting;
     before = walked.printed;
     walk = walked.walk;
     ends = subst (λ k. Ends k end.rest how) (sym walked.number) end.ends;
@@ -171,7 +194,7 @@ module _ (most : ℕ) (listed : List Bytes) (before : WalkState) (source : Sourc
   abbrev first : Outside
   first = outside_at before source
 
-  pub finishes : (left : Option (List Bytes)) (n : ℕ) (mid now : WalkState) (source' : SourceSeen) (how : WalkEnd) (errors : ℕ) → errors ≡ error_count (full1 now.standing.program) →
+  pub finishes : (left : Option (List Bytes)) (n : ℕ) (mid now : WalkState) (source' : SourceSeen) (how : WalkEnd) (errors : ℕ) → HasErrorCount now.standing.program errors →
       HasWalked most listed lines left n before mid → Closes how n left mid now → HasRun most listed how errors now.standing.program now.standing.version first (outside_at now source')
   finishes left n mid now source' how errors counts walked closes = record {
     read_faults = walked.read_faults;
@@ -184,7 +207,7 @@ module _ (most : ℕ) (listed : List Bytes) (before : WalkState) (source : Sourc
     counts = counts;
   }
 
-  pub front_of_run : (how : WalkEnd) (errors : ℕ) (program : Program) (version : ℕ) (now : Outside) → HasRun most listed how errors program version first now → HasFront most listed first now
+  front_of_run : (how : WalkEnd) (errors : ℕ) (program : Program) (version : ℕ) (now : Outside) → HasRun most listed how errors program version first now → HasFront most listed first now
   front_of_run how errors program version now run = record {
     read_faults = run.read_faults;
     printed = run.printed;
@@ -196,10 +219,18 @@ module _ (most : ℕ) (listed : List Bytes) (before : WalkState) (source : Sourc
     counted = rose_least run.read_faults before.folder.faults now.folder.faults run.counted;
   }
 
+  -- the last line of a walk was printed
+  pub front_of_close : (left : Option (List Bytes)) (n : ℕ) (mid now : WalkState) (source' : SourceSeen) (how : WalkEnd) → HasWalked most listed lines left n before mid → Closes how n left mid now
+      → HasFront most listed first (outside_at now source')
+  front_of_close left n mid now source' how walked closes =
+      let count = walk_counts walked.walk in
+      let counts : HasErrorCount now.standing.program count.0 = subst (λ (s : Standing). HasErrorCount s.program count.0) (sym closes.standing) count.1 in
+      front_of_run how count.0 now.standing.program now.standing.version (outside_at now source') (finishes left n mid now source' how count.0 counts walked closes)
+
   -- a front of what was printed up to a line
-  front_so_far : (now : Outside) (faults : ℕ) (printed : Bytes) → IsRunSoFar most before.folder.told listed lines faults printed → HoldsFront before.out.written now.out.written printed
+  front_so_far : EachFull → (now : Outside) (faults : ℕ) (printed : Bytes) → IsRunSoFar most before.folder.told listed lines faults printed → HoldsFront before.out.written now.out.written printed
       → RoseByAtLeast faults before.folder.faults now.folder.faults → HasFront most listed first now
-  front_so_far now faults printed run front counted = let on = goes_on most before.folder.told listed lines faults printed run in record {
+  front_so_far each now faults printed run front counted = let on = goes_on each most before.folder.told listed lines faults printed run in record {
     read_faults = faults;
     printed = printed ++ on.more;
     how = on.how;
@@ -210,18 +241,18 @@ module _ (most : ℕ) (listed : List Bytes) (before : WalkState) (source : Sourc
     counted = counted;
   }
 
-  pub front_of_walk : (left : Option (List Bytes)) (n : ℕ) (mid : WalkState) (now : Outside) → now.out.written ≡ mid.out.written → mid.folder.faults ≤ now.folder.faults → HasWalked most listed lines left n before mid
+  pub front_of_walk : EachFull → (left : Option (List Bytes)) (n : ℕ) (mid : WalkState) (now : Outside) → now.out.written ≡ mid.out.written → mid.folder.faults ≤ now.folder.faults → HasWalked most listed lines left n before mid
       → HasFront most listed first now
-  front_of_walk left n mid now same later walked =
-      front_so_far now walked.read_faults walked.printed (so_far_of most listed lines before left n mid walked) (front_all before.out.written now.out.written walked.printed (same ∙ walked.written))
+  front_of_walk each left n mid now same later walked =
+      front_so_far each now walked.read_faults walked.printed (so_far_of most listed lines before left n mid walked) (front_all before.out.written now.out.written walked.printed (same ∙ walked.written))
       (rose_more walked.read_faults before.folder.faults mid.folder.faults now.folder.faults walked.counted later)
 
-  front_of_turn : (left left' : Option (List Bytes)) (n : ℕ) (mid : WalkState) (now : Outside) (said : Line) → mid.folder.told ≡ before.folder.told → mid.folder.faults ≤ now.folder.faults
+  front_of_turn : EachFull → (left left' : Option (List Bytes)) (n : ℕ) (mid : WalkState) (now : Outside) (said : Line) → mid.folder.told ≡ before.folder.told → mid.folder.faults ≤ now.folder.faults
       → HasWalked most listed lines left n before mid → IsTaken said n left left' → BreaksOff most said mid now.folder now.out.written → HasFront most listed first now
-  front_of_turn left left' n mid now said told later walked is (unsaid same) = front_of_walk left n mid now same later walked
-  front_of_turn left left' n mid now said told later walked is (begun s printed turned front) =
+  front_of_turn each left left' n mid now said told later walked is (unsaid same) = front_of_walk each left n mid now same later walked
+  front_of_turn each left left' n mid now said told later walked is (begun s printed turned front) =
       let rest = some_rest left' in
-      front_so_far now (walked.read_faults + turned.faults) (walked.printed ++ printed) (record {
+      front_so_far each now (walked.read_faults + turned.faults) (walked.printed ++ printed) (record {
         taken = walked.lines ++ is.bytes ∷ [];
         rest = rest.0;
         lines = told_lines lines left' (walked.lines ++ is.bytes ∷ []) rest.0 (one_more lines left left' walked.lines is.bytes walked.leaves is.takes) rest.1;
@@ -233,11 +264,11 @@ module _ (most : ℕ) (listed : List Bytes) (before : WalkState) (source : Sourc
       (rose_least (walked.read_faults + turned.faults) before.folder.faults now.folder.faults
       (rose_both walked.read_faults turned.faults before.folder.faults mid.folder.faults now.folder.faults walked.counted turned.counted))
 
-  pub front_of_break : (left : Option (List Bytes)) (n : ℕ) (mid : WalkState) (now : Outside) → mid.folder.told ≡ before.folder.told → mid.folder.faults ≤ now.folder.faults → HasWalked most listed lines left n before mid
+  pub front_of_break : EachFull → (left : Option (List Bytes)) (n : ℕ) (mid : WalkState) (now : Outside) → mid.folder.told ≡ before.folder.told → mid.folder.faults ≤ now.folder.faults → HasWalked most listed lines left n before mid
       → Breaks most n left mid now.folder now.out.written → HasFront most listed first now
-  front_of_break left n mid now told later walked (silent same) = front_of_walk left n mid now same later walked
-  front_of_break left n mid now told later walked (in_turn said left' is off) = front_of_turn left left' n mid now said told later walked is off
-  front_of_break left n mid now told later walked (in_end how end front) = record {
+  front_of_break each left n mid now told later walked (silent same) = front_of_walk each left n mid now same later walked
+  front_of_break each left n mid now told later walked (in_turn said left' is off) = front_of_turn each left left' n mid now said told later walked is off
+  front_of_break each left n mid now told later walked (in_end how end front) = record {
     read_faults = walked.read_faults;
     printed = walked.printed ++ last_line (n + 1) how;
     how = how;
@@ -248,8 +279,8 @@ module _ (most : ℕ) (listed : List Bytes) (before : WalkState) (source : Sourc
     counted = rose_more walked.read_faults before.folder.faults mid.folder.faults now.folder.faults walked.counted later;
   }
 
-  pub front_of_load : (now : Outside) → before.standing ≡ start listed → before.folder.faults ≤ now.folder.faults → BreaksLoad before now.folder now.out.written → HasFront most listed first now
-  front_of_load now is later (unsaid_load same) = let run = some_run most before.folder.told listed lines in let on = run.3 in record {
+  pub front_of_load : EachFull → (now : Outside) → before.standing ≡ start listed → before.folder.faults ≤ now.folder.faults → BreaksLoad before now.folder now.out.written → HasFront most listed first now
+  front_of_load each now is later (unsaid_load same) = let run = some_run each most before.folder.told listed lines in let on = run.3 in record {
     read_faults = run.0;
     printed = run.2 ++ on.more;
     how = on.how;
@@ -259,9 +290,9 @@ module _ (most : ℕ) (listed : List Bytes) (before : WalkState) (source : Sourc
     front = front_none before.out.written now.out.written (run.2 ++ on.more) same;
     counted = omega (arith, later, run.1);
   }
-  front_of_load now is later (begun_load s printed load front) =
+  front_of_load each now is later (begun_load s printed load front) =
       let rest = some_rest lines in
-      front_so_far now load.faults printed (record {
+      front_so_far each now load.faults printed (record {
         taken = [];
         rest = rest.0;
         lines = rest.1;

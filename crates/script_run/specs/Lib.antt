@@ -1,3 +1,4 @@
-pub mod Session
-pub mod Steps
+pub mod Checked
 pub mod Transcript
+pub mod Steps
+pub mod Session

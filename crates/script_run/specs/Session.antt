@@ -1,42 +1,46 @@
 -- What a heap of modules and the edits that wait are to the walk.
-use Rattle.std.specs.Prelude.{◌≡◌, ◌<◌, ◌⊎◌, ℕ, ◌^◌, ◌≤◌, List, [], ◌∷◌, length, slice_get, false, Some}
+use Rattle.std.specs.Prelude.{◌≡◌, ◌<◌, ◌⊎◌, ℕ, ◌+◌, ◌^◌, ◌≤◌, Bool, false, List, [], ◌∷◌, ◌++◌, length, slice_get, Option, Some, None, Result, Ok, Err, refl}
+use Rattle.std.specs.Coded.{Coded, code_by, coded×, coded_ℕ, coded_bool, coded_list}
+use Rattle.std.specs.List.{flat_map}
 use Rattle.flow_base.specs.Causes.{RoseBy}
 use Rattle.flow_base.specs.Program.{Bytes, Program}
 use Rattle.flow_base.specs.Seen.{FolderSeen}
-use Rattle.flow_model.specs.Errors.{errors1}
-use Rattle.flow_model.specs.declared.fault.Fault.{Fault}
+use Rattle.check_values.specs.Roots.{paths_of_rows}
+use Rattle.check_values.specs.declared.faults.Fault.{Fault}
+use Rattle.check_values.specs.declared.root.RootRow.{RootRow}
 use Rattle.heap_core.specs.Meaning.{Meaning, AllFit, IsSound}
-use Rattle.flow_state.specs.State.{program_of, errors_place}
-use Rattle.flow_state.specs.declared.payload.RootRow.{RootRow}
-use Rattle.flow_state.specs.declared.payload.Payload.{Payload}
-use Rattle.flow_state.specs.declared.payload.Payload.TheVariants as payload
-use Rattle.recheck_run.specs.Waiting.{Waiting}
-use Rattle.recheck_run.specs.Recheck.{HasRoom}
-use Rattle.recheck_run.specs.declared.recheck.Outcome.{Outcome}
-use Rattle.recheck_run.specs.declared.recheck.Outcome.TheVariants as outcome
-use Rattle.source_place.specs.Place.{IsPlace}
+use Rattle.program_check.specs.Status.{error_line}
+use Rattle.payloads.specs.Entities.{errors_entity}
+use Rattle.payloads.specs.State.{program_of}
+use Rattle.payloads.specs.contracts.payload.Payload as payload_type
+use Rattle.payloads.specs.declared.payload.Payload.{Payload}
+use Rattle.payloads.specs.declared.payload.Payload.TheVariants as payload
+use Rattle.pending_edits.specs.Pending.{Pending}
+use Rattle.pending_edits.specs.Counting.{StandsOn}
+use Rattle.pending_edits.specs.contracts.edit.Edit as edit_type
+use Rattle.pending_edits.specs.declared.edit.Edit.{Edit}
+use Rattle.pending_edits.specs.declared.edit.EditFault.{EditFault}
+use Rattle.pending_edits.specs.declared.edit.EditFault.TheVariants.{TooManyModules, NoMemory}
+use Rattle.program_recheck.specs.Recheck.{Commits, HasRoom}
+use Rattle.program_recheck.specs.declared.outcome.Outcome.{Outcome}
+use Rattle.program_recheck.specs.declared.outcome.Outcome.TheVariants as outcome
 use Rattle.script_line.specs.declared.line.Line.{Line}
-use Rattle.script_run.specs.Transcript.{Standing, with_edit, Rechecks, Turns}
+use Rattle.script_run.specs.Transcript.{Standing, with_edit, modules_counted, Rechecks, Turns}
 use Rattle.script_print.specs.Printed.{done_line, fault_line, refused_line}
 
--- the rows of the root of a state
-abbrev pub modules_in : List Payload → List RootRow
-modules_in [] = []
-modules_in (payload.Absent ∷ state) = []
-modules_in (payload.Errs errs ∷ state) = []
-modules_in (payload.Root root ∷ state) = root.modules
-
--- the rows of a root
+-- the modules of a root
 abbrev pub modules_of : Payload → List RootRow
 modules_of payload.Absent = []
-modules_of (payload.Errs errs) = []
 modules_of (payload.Root root) = root.modules
+modules_of (payload.Parse parse) = []
+modules_of (payload.Deps deps) = []
+modules_of (payload.Sig sig) = []
+modules_of (payload.Errs errs) = []
 
--- the faults of an entity
-abbrev pub faults_of : Payload → List Fault
-faults_of payload.Absent = []
-faults_of (payload.Errs errs) = errs.faults
-faults_of (payload.Root root) = []
+-- the modules of the root of a state
+abbrev pub modules_in : List Payload → List RootRow
+modules_in [] = []
+modules_in (root ∷ state) = modules_of root
 
 -- the program of these modules
 abbrev pub program_with : List RootRow → Program
@@ -47,38 +51,95 @@ abbrev pub program_in : List Payload → Program
 program_in state = program_with (modules_in state)
 
 -- where the walk stands, by the heap and the edits that wait
-abbrev pub standing_of : Meaning Payload → Waiting → Standing
-standing_of m waiting = record { program = program_in m.committed; version = m.version; rows = waiting.rows }
+abbrev pub standing_of : Meaning Payload → Pending → Standing
+standing_of m waiting = record { program = program_in m.committed; version = m.version; waiting = waiting.edits }
 
 -- what a session holds: what its heap means, and the edits that wait
 pub record Held : Type 0 where
   pub heap : Meaning Payload
-  pub waiting : Waiting
+  pub waiting : Pending
 
-abbrev pub held : Meaning Payload → Waiting → Held
+-- it is told apart from others by its parts
+abbrev meaning_code : Coded (Meaning Payload)
+meaning_code =
+    code_by (ℕ × (Bool × (List Payload × (List Payload × (List ℕ × List Bool)))))
+    (coded× coded_ℕ (coded× coded_bool (coded× (coded_list payload_type.the_row.coded) (coded× (coded_list payload_type.the_row.coded) (coded× (coded_list coded_ℕ) (coded_list coded_bool))))))
+    (λ m. (m.version, (m.is_open, (m.committed, (m.latest, (m.versions, m.staged))))))
+    (λ p. record { version = p.0; is_open = p.1.0; committed = p.1.1.0; latest = p.1.1.1.0; versions = p.1.1.1.1.0; staged = p.1.1.1.1.1 }) (λ _. refl)
+
+abbrev waiting_code : Coded Pending
+waiting_code =
+    code_by (List (List ℕ × Edit) × (ℕ × (ℕ × List (List ℕ))))
+    (coded× (coded_list (coded× (coded_list coded_ℕ) edit_type.the_row.coded)) (coded× coded_ℕ (coded× coded_ℕ (coded_list (coded_list coded_ℕ)))))
+    (λ w. (w.edits, (w.capacity, (w.found, w.unseen)))) (λ p. record { edits = p.0; capacity = p.1.0; found = p.1.1.0; unseen = p.1.1.1 }) (λ _. refl)
+
+abbrev pub held_code : Coded Held
+held_code = code_by (Meaning Payload × Pending) (coded× meaning_code waiting_code) (λ h. (h.heap, h.waiting)) (λ p. record { heap = p.0; waiting = p.1 }) (λ _. refl)
+
+abbrev pub held : Meaning Payload → Pending → Held
 held heap waiting = record { heap = heap; waiting = waiting }
 
 -- where the walk of a session stands
 abbrev pub standing_in : Held → Standing
 standing_in h = standing_of h.heap h.waiting
 
--- no transaction is open, and there is room for as many modules as there may be
+-- edits stand on the program that is committed
+abbrev pub StandOnCommitted : Meaning Payload → Pending → Type 0
+StandOnCommitted m waiting = StandsOn (paths_of_rows (modules_in m.committed)) waiting
+
+-- no transaction is open, there is room for as many modules as there may be, and the edits stand on the program
 pub record IsReady (h : Held) : Type 0 where
   pub closed : h.heap.is_open ≡ false
   pub room : HasRoom h.heap h.waiting.capacity
+  pub stands : StandOnCommitted h.heap h.waiting
+
+-- a heap for this many modules at version 0, before any recheck: it has no module
+pub record IsEmptyHeap (m : Meaning Payload) (modules : ℕ) : Type 0 where
+  pub commits : Commits m (record { modules = [] })
+  pub version : m.version ≡ 0
+  pub closed : m.is_open ≡ false
+  pub room : HasRoom m modules
 
 -- what is committed has a root, and fits it
 pub may_be_read : {P : Type 0} {fits : ℕ → P → ℕ → P → Type 0} {m : Meaning P} → IsSound fits m → (0 < length m.committed) × AllFit fits m.committed
 may_be_read sound = (sound.some_entity, sound.fit)
 
--- the errors of this module stand in the state, at a place that has a number
-pub record HasErrors (state : List Payload) (m : RootRow) : Type 0 where
-  pub numbered : errors_place m.row < 2 ^ 32
-  pub stands : slice_get state (errors_place m.row) ≡ Some (payload.Errs (record { faults = errors1 m.text }))
+-- ---- the errors that stand in a state
 
--- the fault has a line and a column in this text
-abbrev pub IsPlaced : Bytes → Fault → Type 0
-IsPlaced text fault = fault.span.end < 2 ^ 32 → IsPlace text fault.span.start
+-- the faults of an entity
+abbrev pub faults_of : Payload → List Fault
+faults_of payload.Absent = []
+faults_of (payload.Root root) = []
+faults_of (payload.Parse parse) = []
+faults_of (payload.Deps deps) = []
+faults_of (payload.Sig sig) = []
+faults_of (payload.Errs errs) = errs.faults
+
+-- the faults of an entity, if there is one
+abbrev pub faults_in : Option Payload → List Fault
+faults_in None = []
+faults_in (Some x) = faults_of x
+
+-- the faults of the module of a row
+abbrev pub faults_at : List Payload → ℕ → List Fault
+faults_at state row = faults_in (slice_get state (errors_entity row))
+
+-- the number of faults of all modules
+abbrev pub count_in : List Payload → List RootRow → ℕ
+count_in state [] = 0
+count_in state (m ∷ ms) = length (faults_at state m.row) + count_in state ms
+
+-- the lines of the faults of all modules
+abbrev pub lines_in : List Payload → List RootRow → Bytes
+lines_in state [] = []
+lines_in state (m ∷ ms) = flat_map (error_line m.path m.text) (faults_at state m.row) ++ lines_in state ms
+
+-- the errors of a module have a place in the state, and it has a number
+pub record HasPlace (state : List Payload) (m : RootRow) : Type 0 where
+  pub numbered : errors_entity m.row < 2 ^ 32
+  pub within : errors_entity m.row < length state
+
+-- ---- what the calls of a session do
 
 -- a recheck, what it prints, and that the folder counted as many faults in it as it prints read faults
 pub record HasRechecked (s s' : Standing) (printed : Bytes) (before now : FolderSeen) : Type 0 where
@@ -92,14 +153,26 @@ pub record HasTurned (most : ℕ) (line : Line) (s s' : Standing) (printed : Byt
   pub turns : Turns most before.told line s s' faults printed
   pub counted : RoseBy faults before.faults now.faults
 
--- an edit joined the others, or was refused since the modules would be more than these and changed nothing; what this prints
+-- an edit after which so many modules would be counted is refused for their number exactly where they are too many
+abbrev pub Limits : {T : Type 0} → ℕ → ℕ → Result T EditFault → Type 0
+Limits capacity modules (Ok _) = modules ≤ capacity
+Limits capacity modules (Err (TooManyModules count)) = (capacity < modules) × (count ≡ modules)
+Limits capacity modules (Err NoMemory) = Unit {0}
+
+-- an edit joined the others, or was refused since more modules than these would be counted, and changed nothing; what this prints
 abbrev pub HasEdited : ℕ → Bytes → Bytes → Standing → Standing → Bytes → Type 0
 HasEdited most path text s s' printed =
-    ((length (with_edit s path text).rows ≤ most) × (s' ≡ with_edit s path text) × (printed ≡ []))
-    ⊎ ((most < length (with_edit s path text).rows) × (s' ≡ s) × (printed ≡ refused_line (length (with_edit s path text).rows)))
+    ((modules_counted (with_edit s path text) ≤ most) × (s' ≡ with_edit s path text) × (printed ≡ []))
+    ⊎ ((most < modules_counted (with_edit s path text)) × (s' ≡ s) × (printed ≡ refused_line (modules_counted (with_edit s path text))))
 
 -- what a recheck prints, after which the version is this one
 abbrev pub Prints : Outcome → ℕ → Bytes → Type 0
-Prints (outcome.Done version modules errors) now line = line ≡ done_line version modules modules errors
+Prints (outcome.Done version parsed checked errors) now line = line ≡ done_line version parsed checked errors
 Prints (outcome.ReadFault path) now line = line ≡ fault_line path now
 Prints outcome.NoMemory now line = ⊥
+
+-- what an edit prints
+abbrev pub PrintsEdit : {T : Type 0} → Result T EditFault → Bytes → Type 0
+PrintsEdit (Ok _) line = line ≡ []
+PrintsEdit (Err (TooManyModules count)) line = line ≡ refused_line count
+PrintsEdit (Err NoMemory) line = ⊥

@@ -5,11 +5,11 @@ use Rattle.flow_base.specs.Program.{Bytes, Program}
 use Rattle.flow_base.specs.Causes.{RoseBy}
 use Rattle.flow_base.specs.Outside.{WhereTold, appended, HoldsFront}
 use Rattle.flow_base.specs.Seen.{FolderSeen, SinkSeen, Outside}
-use Rattle.flow_model.specs.Errors.{full1, error_count}
 use Rattle.script_line.specs.declared.line.Line.{Line}
 use Rattle.script_line.specs.declared.line.Line.TheVariants as line
 use Rattle.script_line.specs.Says.{Says}
 use Rattle.script_reader.specs.Lines.{LINE_LIMIT, script_lines, lines_left, HasNoFeed, TakesLine}
+use Rattle.script_run.specs.Checked.{HasErrorCount}
 use Rattle.script_run.specs.declared.ending.WalkEnd.{WalkEnd}
 use Rattle.script_run.specs.declared.command.Command.{Command}
 use Rattle.script_run.specs.declared.command.Command.TheVariants as command
@@ -114,7 +114,7 @@ pub record HasRun (most : ℕ) (listed : List Bytes) (how : WalkEnd) (errors : �
   pub run : IsRun most before.folder.told listed (lines_left [] before.script.left) read_faults printed how program version
   pub written : now.out.written ≡ appended before.out.written printed
   pub counted : RoseBy read_faults before.folder.faults now.folder.faults
-  pub counts : errors ≡ error_count (full1 program)
+  pub counts : HasErrorCount program errors
 
 -- All whole lines that the script gave before it failed were taken: the last that it gave is a part of a line, with no LF in it, and
 -- the script's lines are those that were taken, and then those of this part and what is left. The part may be empty.

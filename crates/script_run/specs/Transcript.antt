@@ -1,27 +1,31 @@
 -- What a run with a script prints: the load, and then the walk over the script's lines. The most modules that there may be, `most`, are a
 -- parameter of all of it.
-use Rattle.std.specs.Prelude.{◌≡◌, ◌<◌, ◌≤◌, ℕ, ◌+◌, List, [], ◌∷◌, ◌++◌, length, Option, Some}
+use Rattle.std.specs.Prelude.{◌≡◌, ◌<◌, ◌≤◌, ℕ, ◌+◌, List, [], ◌∷◌, ◌++◌, length, map, Option, Some}
 use Rattle.std.specs.List.{AllByRecursion}
 use Rattle.flow_base.specs.Path.{IsNormalPath}
 use Rattle.flow_base.specs.Program.{Bytes, Program, paths_of, IsRising}
 use Rattle.flow_base.specs.Outside.{WhereTold}
-use Rattle.flow_model.specs.Errors.{full1, error_count}
-use Rattle.recheck_run.specs.Wanted.{Rows, edited, unedited, to_read, MayBecome, IsTouched}
-use Rattle.recheck_run.specs.declared.edits.Wanted.TheVariants as take
+use Rattle.check_values.specs.Rows.{Rows}
+use Rattle.pending_edits.specs.Pending as pending
+use Rattle.pending_edits.specs.Pending.{MayBecome, IsTouched}
+use Rattle.pending_edits.specs.Counting.{counted}
+use Rattle.pending_edits.specs.declared.edit.Edit.{Edit}
+use Rattle.pending_edits.specs.declared.edit.Edit.TheVariants.{Put, Touch}
 use Rattle.script_line.specs.declared.line.Line.{Line}
 use Rattle.script_line.specs.declared.line.Line.TheVariants as line
 use Rattle.script_line.specs.declared.line.Ask.TheVariants as ask
 use Rattle.script_line.specs.Says.{Says}
 use Rattle.script_reader.specs.Lines.{LINE_LIMIT}
-use Rattle.script_print.specs.Printed.{done_line, fault_line, refused_line, bad_line, long_line, many_lines, status_answer}
+use Rattle.script_print.specs.Printed.{done_line, fault_line, refused_line, bad_line, long_line, many_lines}
+use Rattle.script_run.specs.Checked.{HasErrorCount, IsStatusAnswer}
 use Rattle.script_run.specs.declared.ending.WalkEnd.{WalkEnd}
 use Rattle.script_run.specs.declared.ending.WalkEnd.TheVariants as ending
 
--- where the walk stands: the committed program, its version, and the edited program that the next recheck takes
+-- where the walk stands: the committed program, its version, and the edits that wait for the next recheck
 pub record Standing : Type 0 where
   pub program : Program
   pub version : ℕ
-  pub rows : Rows
+  pub waiting : Rows Edit
 
 -- the most lines of a script, blank ones counted
 abbrev pub MOST_LINES : ℕ
@@ -33,30 +37,38 @@ pub record MayList (told : Option Program) (listed : List Bytes) : Type 0 where
   pub rising : IsRising listed
   pub same : WhereTold told (λ program. listed ≡ paths_of program)
 
+-- edits by which the folder is to be read for each of these paths, which rise
+abbrev pub to_touch : List Bytes → Rows Edit
+to_touch listed = map (λ path. (path, Touch)) listed
+
 -- the empty program, and a folder of which each listed path is to be read
 abbrev pub start : List Bytes → Standing
-start listed = record { program = []; version = 0; rows = to_read listed }
+start listed = record { program = []; version = 0; waiting = to_touch listed }
+
+-- how many modules are counted, while these edits wait
+abbrev pub modules_counted : Standing → ℕ
+modules_counted s = counted (paths_of s.program) s.waiting
 
 -- A recheck from one standing to the next, with the number of read faults and what it prints: it commits the edited program, or it
 -- can't read a path for which the folder is wanted, and nothing changes.
 pub data Rechecks (told : Option Program) : Standing → Standing → ℕ → Bytes → Type 0 where
-  done : (s : Standing) (program : Program) → MayBecome told s.rows program →
-      Rechecks told s (record { program = program; version = s.version + 1; rows = unedited program }) 0
-      (done_line (s.version + 1) (length program) (length program) (error_count (full1 program)))
-  cannot_read : (s : Standing) (path : Bytes) → IsTouched s.rows path → Rechecks told s s 1 (fault_line path s.version)
+  done : (s : Standing) (program : Program) (errors : ℕ) → MayBecome told s.program s.waiting program → HasErrorCount program errors →
+      Rechecks told s (record { program = program; version = s.version + 1; waiting = [] }) 0
+      (done_line (s.version + 1) (length program) (length program) errors)
+  cannot_read : (s : Standing) (path : Bytes) → IsTouched s.waiting path → Rechecks told s s 1 (fault_line path s.version)
 
 -- the standing after an edit of this path to this text, which the next recheck takes
 abbrev pub with_edit : Standing → Bytes → Bytes → Standing
-with_edit s path text = record { program = s.program; version = s.version; rows = edited s.rows path (take.Text text) }
+with_edit s path text = record { program = s.program; version = s.version; waiting = pending.with_edit s.waiting path (Put text) }
 
 -- what one line of the script does and prints
 pub data Turns (most : ℕ) (told : Option Program) : Line → Standing → Standing → ℕ → Bytes → Type 0 where
   blank : (s : Standing) → Turns most told line.Blank s s 0 []
-  edits : (s : Standing) (path text : Bytes) → length (with_edit s path text).rows ≤ most → Turns most told (line.Edit path text) s (with_edit s path text) 0 []
-  refuses : (s : Standing) (path text : Bytes) → most < length (with_edit s path text).rows →
-      Turns most told (line.Edit path text) s s 0 (refused_line (length (with_edit s path text).rows))
+  edits : (s : Standing) (path text : Bytes) → modules_counted (with_edit s path text) ≤ most → Turns most told (line.Edit path text) s (with_edit s path text) 0 []
+  refuses : (s : Standing) (path text : Bytes) → most < modules_counted (with_edit s path text) →
+      Turns most told (line.Edit path text) s s 0 (refused_line (modules_counted (with_edit s path text)))
   rechecks : (s s' : Standing) (faults : ℕ) (printed : Bytes) → Rechecks told s s' faults printed → Turns most told line.Recheck s s' faults printed
-  answers : (s : Standing) → Turns most told (line.Ask ask.Status) s s 0 (status_answer s.version s.program)
+  answers : (s : Standing) (answer : Bytes) → IsStatusAnswer s.version s.program answer → Turns most told (line.Ask ask.Status) s s 0 answer
 
 -- The load was done and these lines of the script were taken, one after the other: where the walk stands, how many read faults there
 -- were, and what was printed.
@@ -88,9 +100,9 @@ pub record IsRun (most : ℕ) (told : Option Program) (listed : List Bytes) (scr
   pub taken : List Bytes
   pub rest : List Bytes
   pub lines : WhereTold script (λ its. its ≡ taken ++ rest)
-  pub rows : Rows
+  pub waiting : Rows Edit
   pub before : Bytes
-  pub walk : Walked most told listed taken (record { program = program; version = version; rows = rows }) faults before
+  pub walk : Walked most told listed taken (record { program = program; version = version; waiting = waiting }) faults before
   pub ends : Ends (length taken) rest how
   pub prints : printed ≡ before ++ last_line (length taken + 1) how
 

@@ -3,8 +3,8 @@ ghost use Rattle.std.specs.Prelude.{◌≡◌, false};
 ghost use Rattle.script_run.specs.Session.{may_be_read};
 
 use flow_base::NoMemory;
-use flow_state::Payload;
 use heap_core::{HeapReader, HeapWriter};
+use payloads::Payload;
 use std::sync::Arc;
 
 /// The committed state of a writer without an open transaction.

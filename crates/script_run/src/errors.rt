@@ -1,22 +1,23 @@
 ghost use Rattle.std.specs.Prelude.{◌≡◌, ◌+◌, ◌<◌, ◌^◌, ◌++◌, length, IfOk, OnOk};
 ghost use Rattle.std.specs.List.{AllByRecursion, flat_map};
-ghost use Rattle.flow_model.specs.Errors.{errors1, full1, error_count};
-ghost use Rattle.script_print.specs.Printed.{error_line, error_lines, status_answer};
-ghost use Rattle.script_run.specs.Session.{HasErrors, IsPlaced, program_in, program_with, modules_of, faults_of};
+ghost use Rattle.program_check.specs.Status.{error_line, status_line};
+ghost use Rattle.script_run.specs.Checked.{HasErrorCount, IsStatusAnswer};
+ghost use Rattle.script_run.specs.Session.{HasPlace, program_in, modules_of, faults_of, faults_at, count_in, lines_in};
 
-use crate::places::each_fault_has_a_place;
+use check_values::{Fault, RootRow};
 use flow_base::NoMemory;
-use flow_model::Fault;
-use flow_state::{Payload, RootRow};
 use heap_core::HeapReader;
-use script_print::{push_error, status_line};
+use payloads::{Payload, errors_entity};
+use program_check::one_full;
+use script_print::{push_errors, status_line};
 use std::alloc::Global;
 
 /// The number of errors of the program that a reader reads.
 pub fn count_errors<R: HeapReader<Payload>>(reader: &mut R) -> Result<u64, NoMemory>
     requires { length (R.state reader.old) < 2 ^ 32 }
-    ensures { IfOk result (λ count. count ≡ error_count (full1 (program_in (R.state reader.old)))) }
+    ensures { IfOk result (HasErrorCount (program_in (R.state reader.old))) }
 {
+    one_full();
     let root = reader.root()?;
     count_all(reader, modules_of(&root))
 }
@@ -27,10 +28,22 @@ pub fn status_answer<R: HeapReader<Payload>>(
     reader: &mut R,
 ) -> Result<Vec<u8>, NoMemory>
     requires { length (R.state reader.old) < 2 ^ 32 }
-    ensures { IfOk result (λ text. text.items ≡ status_answer (R.at reader.old) (program_in (R.state reader.old))) }
+    ensures { IfOk result (λ text. IsStatusAnswer (R.at reader.old) (program_in (R.state reader.old)) text.items) }
 {
+    one_full();
     let root = reader.root()?;
-    let modules = modules_of(&root);
+    answer_of(alloc, reader, modules_of(&root))
+}
+
+// The same, where these are the modules.
+fn answer_of<R: HeapReader<Payload>>(
+    alloc: Global,
+    reader: &mut R,
+    modules: &[RootRow],
+) -> Result<Vec<u8>, NoMemory>
+    requires { AllByRecursion (HasPlace (R.state reader.old)) modules.now }
+    ensures { IfOk result (λ text. text.items ≡ status_line (R.at reader.old) (count_in (R.state reader.old) modules.now) ++ lines_in (R.state reader.old) modules.now) }
+{
     let version = reader.version();
     let errors = count_all(reader, modules)?;
     let mut answer = status_line(alloc, version, errors)?.into_bytes();
@@ -43,8 +56,12 @@ fn modules_of(payload: &Payload) -> &[RootRow]
     ensures { result.now ≡ modules_of payload.now }
 {
     match payload {
-        Payload::Root(root) => root.modules.as_slice(),
-        Payload::Absent | Payload::Errs(_) => &[],
+        Payload::Root(root) => root.get().modules.as_slice(),
+        Payload::Absent
+        | Payload::Parse(_)
+        | Payload::Deps(_)
+        | Payload::Sig(_)
+        | Payload::Errs(_) => &[],
     }
 }
 
@@ -53,25 +70,29 @@ fn faults_of(payload: &Payload) -> &[Fault]
     ensures { result.now ≡ faults_of payload.now }
 {
     match payload {
-        Payload::Errs(errs) => errs.faults.as_slice(),
-        Payload::Absent | Payload::Root(_) => &[],
+        Payload::Errs(errs) => errs.get().faults.as_slice(),
+        Payload::Absent
+        | Payload::Root(_)
+        | Payload::Parse(_)
+        | Payload::Deps(_)
+        | Payload::Sig(_) => &[],
     }
 }
 
 // The number of errors of a module.
 fn count_of<R: HeapReader<Payload>>(reader: &mut R, row: &RootRow) -> Result<u64, NoMemory>
-    requires { HasErrors (R.state reader.old) row.now }
-    ensures count { IfOk result (λ count. count ≡ length (errors1 row.now.text)) }
+    requires { HasPlace (R.state reader.old) row.now }
+    ensures count { IfOk result (λ count. count ≡ length (faults_at (R.state reader.old) row.now.row)) }
     ensures same { R.state reader.new ≡ R.state reader.old }
 {
-    let payload = reader.read(row.row * 4 + 4)?;
+    let payload = reader.read(errors_entity(row.row))?;
     Ok(faults_of(&payload).len() as u64)
 }
 
 // The number of errors of modules.
 fn count_all<R: HeapReader<Payload>>(reader: &mut R, modules: &[RootRow]) -> Result<u64, NoMemory>
-    requires { AllByRecursion (HasErrors (R.state reader.old)) modules.now }
-    ensures count { IfOk result (λ count. count ≡ error_count (full1 (program_with modules.now))) }
+    requires { AllByRecursion (HasPlace (R.state reader.old)) modules.now }
+    ensures count { IfOk result (λ count. count ≡ count_in (R.state reader.old) modules.now) }
     ensures same { R.state reader.new ≡ R.state reader.old }
 {
     let mut count: u64 = 0;
@@ -85,53 +106,30 @@ fn count_all<R: HeapReader<Payload>>(reader: &mut R, modules: &[RootRow]) -> Res
     Ok(count)
 }
 
-// Puts the line of a fault behind the others.
-fn push_fault(
-    alloc: Global,
-    lines: &mut Vec<u8>,
-    row: &RootRow,
-    fault: &Fault,
-) -> Result<(), NoMemory>
-    requires { IsPlaced row.now.text fault.now }
-    ensures { OnOk result (lines.new.items ≡ lines.old.items ++ error_line row.now.path row.now.text fault.now) }
-{
-    // Its end has a number, as each place of a span.
-    let _end = fault.span.end;
-    push_error(alloc, lines, &row.path, row.text.as_bytes(), fault)
-}
-
-// Puts the line of each fault of a text behind the others.
+// Puts the line of each fault of a module behind the others.
 fn push_faults(
     alloc: Global,
     lines: &mut Vec<u8>,
     row: &RootRow,
     faults: &[Fault],
 ) -> Result<(), NoMemory>
-    requires { AllByRecursion (IsPlaced row.now.text) faults.now }
     ensures { OnOk result (lines.new.items ≡ lines.old.items ++ flat_map (error_line row.now.path row.now.text) faults.now) }
 {
-    let mut rest = faults;
-    while let [fault, more @ ..] = rest {
-        push_fault(alloc, lines, row, fault)?;
-        rest = more;
-    }
-    Ok(())
+    push_errors(alloc, lines, &row.path, row.text.as_bytes(), faults)
 }
 
 // Puts the line of each error of a module behind the others.
-#[tactic(auto, using(crate::proofs::FaultPlaces::faults_placed))]
 fn push_module<R: HeapReader<Payload>>(
     alloc: Global,
     reader: &mut R,
     row: &RootRow,
     lines: &mut Vec<u8>,
 ) -> Result<(), NoMemory>
-    requires { HasErrors (R.state reader.old) row.now }
-    ensures lines { OnOk result (lines.new.items ≡ lines.old.items ++ flat_map (error_line row.now.path row.now.text) (errors1 row.now.text)) }
+    requires { HasPlace (R.state reader.old) row.now }
+    ensures lines { OnOk result (lines.new.items ≡ lines.old.items ++ flat_map (error_line row.now.path row.now.text) (faults_at (R.state reader.old) row.now.row)) }
     ensures same { R.state reader.new ≡ R.state reader.old }
 {
-    let payload = reader.read(row.row * 4 + 4)?;
-    each_fault_has_a_place();
+    let payload = reader.read(errors_entity(row.row))?;
     push_faults(alloc, lines, row, faults_of(&payload))
 }
 
@@ -142,8 +140,8 @@ fn push_all<R: HeapReader<Payload>>(
     modules: &[RootRow],
     lines: &mut Vec<u8>,
 ) -> Result<(), NoMemory>
-    requires { AllByRecursion (HasErrors (R.state reader.old)) modules.now }
-    ensures { OnOk result (lines.new.items ≡ lines.old.items ++ error_lines (program_with modules.now)) }
+    requires { AllByRecursion (HasPlace (R.state reader.old)) modules.now }
+    ensures { OnOk result (lines.new.items ≡ lines.old.items ++ lines_in (R.state reader.old) modules.now) }
 {
     let mut rest = modules;
     while let [row, more @ ..] = rest {

@@ -9,7 +9,9 @@ ghost use Rattle.script_run.specs.declared.ending.WalkEnd.{WalkEnd};
 pub fn a_front_goes_on()
     ensures { (most : ℕ) (told : Option Program) (listed : List Bytes) (script : Option (List Bytes)) (faults : ℕ) (printed : Bytes) →
         IsRunSoFar most told listed script faults printed → GoesOn most told listed script faults printed }
-{}
+{
+    full_law::each_full();
+}
 
 /// Where the folder and the script tell their content, there is a run without a read fault, and one only.
 pub fn one_quiet_run()
@@ -17,4 +19,7 @@ pub fn one_quiet_run()
         (printed : Bytes) × (how : WalkEnd) × (program : Program) × (version : ℕ) × IsQuietRun most folder listed script printed how program version }
     ensures one { (most : ℕ) (folder : Program) (listed script : List Bytes) (p q : Bytes) (h k : WalkEnd) (a b : Program) (v w : ℕ) →
         IsQuietRun most folder listed script p h a v → IsQuietRun most folder listed script q k b w → (p ≡ q) × (h ≡ k) × (a ≡ b) × (v ≡ w) }
-{}
+{
+    full_law::each_full();
+    program_check::one_full();
+}

@@ -6,13 +6,14 @@ mod committed;
 mod ending;
 mod errors;
 mod laws;
-mod places;
+mod opening;
 mod session;
 mod sinks;
+mod waiting;
 mod walk;
 
 pub use ending::{Ended, RunFault, WalkEnd};
 pub use laws::{a_front_goes_on, one_quiet_run};
-pub use places::each_fault_has_a_place;
+pub use opening::empty_heap;
 pub use sinks::write_all;
 pub use walk::run;

@@ -1,60 +1,69 @@
 ghost use Rattle.std.specs.Prelude.{◌≡◌, ◌+◌, ◌<◌, ◌≤◌, ◌^◌, length, string_bytes, IfOk};
 ghost use Rattle.flow_base.specs.Program.{IsRising};
-ghost use Rattle.flow_model.specs.Errors.{full1, error_count};
-ghost use Rattle.script_print.specs.Printed.{status_answer};
+ghost use Rattle.script_run.specs.Checked.{HasErrorCount, IsStatusAnswer};
 ghost use Rattle.script_run.specs.Transcript.{start};
-ghost use Rattle.recheck_run.specs.Recheck.{IsEmptyHeap};
-ghost use Rattle.recheck_run.specs.Wanted.{to_read};
-ghost use Rattle.script_run.specs.Session.{standing_in, Prints, HasEdited, HasRechecked, HasTurned};
+ghost use Rattle.script_run.specs.Session.{IsEmptyHeap, standing_in, Prints, PrintsEdit, HasEdited, HasRechecked, HasTurned};
 
 use crate::committed::Committed;
 use crate::errors::{count_errors, status_answer};
+use crate::waiting::{put_text, recheck_edited, touched};
+use analyst::Analyst;
 use flow_base::{Folder, List, NoMemory, Path, Text};
-use flow_state::Payload;
 use heap_core::HeapWriter;
-use recheck_run::{EditFault, Edits, Outcome, recheck_all};
+use payloads::Payload;
+use pending_edits::{EditFault, Edits};
+use program_recheck::Outcome;
 use script_line::{Ask, Line};
 use script_print::{done_line, fault_line, refused_line};
 use std::alloc::Global;
 use std::marker::Model;
 
-/// The heap of modules and the edits that wait for the next recheck. Contracts see what the heap
-/// means and the edits.
+/// The heap of modules, the edits that wait for the next recheck, and who checks. Contracts see what the
+/// heap means and the edits.
 #[derive(Drop)]
-pub struct Session<W: HeapWriter<Payload> + Drop> {
+pub struct Session<W: HeapWriter<Payload> + Drop, A: Analyst + Drop> {
     alloc: Global,
     heap: W,
     edits: Edits,
+    analyst: A,
 }
 
-impl<W: HeapWriter<Payload> + Drop> Model for Session<W> {
-    ghost use Rattle.script_run.specs.Session.{Held, held, IsReady};
+impl<W: HeapWriter<Payload> + Drop, A: Analyst + Drop> Model for Session<W, A> {
+    ghost use Rattle.script_run.specs.Session.{Held, held, held_code, IsReady};
 
     ghost Value = { Held };
+
+    ghost coded = { held_code };
 
     ghost view = { λ s. held (W.meaning s.heap) s.edits };
 
     ghost invariant = { λ s. IsReady (held (W.meaning s.heap) s.edits) };
 }
 
-impl<W: HeapWriter<Payload> + Drop> Session<W> {
+impl<W: HeapWriter<Payload> + Drop, A: Analyst + Drop> Session<W, A> {
     /// The empty program at version 0, for so many modules, and these paths, which rise, to be read by
     /// the first recheck.
-    #[tactic(auto, using(crate::proofs::Sessions::begins_empty))]
+    #[tactic(auto, using(crate::proofs::Sessions::begins_empty, crate::proofs::PendingEdits::ready_empty))]
     pub fn open(
         alloc: Global,
         heap: W,
         modules: u32,
-        listed: List<Path>,
-    ) -> Result<Session<W>, NoMemory>
+        listed: &[Path],
+        analyst: A,
+    ) -> Result<Session<W, A>, NoMemory>
         requires empty { IsEmptyHeap (W.meaning heap) modules }
-        requires rising { IsRising listed }
-        requires few { length listed ≤ modules }
-        ensures standing { IfOk result (λ session. standing_in session ≡ start listed) }
+        requires rising { IsRising listed.now }
+        requires few { length listed.now ≤ modules }
+        ensures standing { IfOk result (λ session. standing_in session ≡ start listed.now) }
         ensures modules { IfOk result (λ session. session.waiting.capacity ≡ modules) }
     {
-        let edits = edits_of(alloc, modules, listed)?;
-        Ok(Session { alloc, heap, edits })
+        let edits = touched(alloc, modules, listed)?;
+        Ok(Session {
+            alloc,
+            heap,
+            edits,
+            analyst,
+        })
     }
 
     /// Rechecks, and gives the line that this prints.
@@ -65,7 +74,13 @@ impl<W: HeapWriter<Payload> + Drop> Session<W> {
         ensures told { (F.seen folder.new).told ≡ (F.seen folder.old).told }
         ensures later { (F.seen folder.old).faults ≤ (F.seen folder.new).faults }
     {
-        let outcome = recheck_all(self.alloc, &mut self.heap, &mut self.edits, folder);
+        let outcome = recheck_edited(
+            self.alloc,
+            &mut self.heap,
+            &mut self.edits,
+            folder,
+            &mut self.analyst,
+        );
         Ok(outcome_line(self.alloc, &outcome, self.heap.version())?)
     }
 
@@ -74,25 +89,20 @@ impl<W: HeapWriter<Payload> + Drop> Session<W> {
         ensures edited { IfOk result (λ printed. HasEdited self.old.waiting.capacity path text (standing_in self.old) (standing_in self.new) printed.items) }
         ensures modules { self.new.waiting.capacity ≡ self.old.waiting.capacity }
     {
-        match self.edits.put(path, text) {
-            Ok(()) => Ok(Vec::new(self.alloc)),
-            Err(EditFault::TooManyModules { count }) => {
-                Ok(refused_line(self.alloc, count)?.into_bytes())
-            }
-            Err(EditFault::NoMemory) => Err(NoMemory),
-        }
+        let put = put_text(&self.heap, &mut self.edits, path, text);
+        edit_line(self.alloc, put)
     }
 
     /// The answer to a question for the status.
     fn status(&self) -> Result<Vec<u8>, NoMemory>
-        ensures { IfOk result (λ text. text.items ≡ status_answer (standing_in self.now).version (standing_in self.now).program) }
+        ensures { IfOk result (λ text. IsStatusAnswer (standing_in self.now).version (standing_in self.now).program text.items) }
     {
         status_answer(self.alloc, &mut Committed::of(&self.heap))
     }
 
     /// The number of errors of the committed program.
     pub fn errors(&self) -> Result<u64, NoMemory>
-        ensures { IfOk result (λ count. count ≡ error_count (full1 (standing_in self.now).program)) }
+        ensures { IfOk result (HasErrorCount (standing_in self.now).program) }
     {
         count_errors(&mut Committed::of(&self.heap))
     }
@@ -124,15 +134,13 @@ impl<W: HeapWriter<Payload> + Drop> Session<W> {
     }
 }
 
-// The edits before the load.
-fn edits_of(alloc: Global, modules: u32, listed: List<Path>) -> Result<Edits, NoMemory>
-    requires rising { IsRising listed }
-    requires few { length listed ≤ modules }
-    ensures { IfOk result (λ edits. edits ≡ record { rows = to_read listed; capacity = modules }) }
+// What an edit prints: nothing, or that it was refused.
+fn edit_line(alloc: Global, put: Result<(), EditFault>) -> Result<Vec<u8>, NoMemory>
+    ensures { IfOk result (λ printed. PrintsEdit put printed.items) }
 {
-    match Edits::reading(alloc, modules, listed) {
-        Ok(edits) => Ok(edits),
-        Err(EditFault::TooManyModules { .. }) => unreachable!(),
+    match put {
+        Ok(()) => Ok(Vec::new(alloc)),
+        Err(EditFault::TooManyModules { count }) => Ok(refused_line(alloc, count)?.into_bytes()),
         Err(EditFault::NoMemory) => Err(NoMemory),
     }
 }
@@ -144,9 +152,10 @@ fn outcome_line(alloc: Global, outcome: &Outcome, version: u32) -> Result<String
     match outcome {
         Outcome::Done {
             version,
-            modules,
+            parsed,
+            checked,
             errors,
-        } => done_line(alloc, *version, *modules, *modules, *errors),
+        } => done_line(alloc, *version, *parsed, *checked, *errors),
         Outcome::ReadFault { path } => fault_line(alloc, path, version),
         Outcome::NoMemory => Err(NoMemory),
     }

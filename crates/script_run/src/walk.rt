@@ -4,9 +4,8 @@ ghost use Rattle.flow_base.specs.Outside.{appended, HoldsFront};
 ghost use Rattle.flow_base.specs.Causes.{Counts};
 ghost use Rattle.flow_base.specs.Seen.{outside};
 ghost use Rattle.script_reader.specs.Lines.{bytes_left, lines_left, TakesFront, BreaksLine};
-ghost use Rattle.recheck_run.specs.Recheck.{IsEmptyHeap};
 ghost use Rattle.script_run.specs.Transcript.{start, last_line};
-ghost use Rattle.script_run.specs.Session.{program_in, standing_in};
+ghost use Rattle.script_run.specs.Session.{IsEmptyHeap, program_in, standing_in};
 ghost use Rattle.script_run.specs.Steps.{walk_state, Takes, Closes, Breaks, HasAnswered, BreaksOff, HasLoaded, BreaksLoad, HasRun, HasStopped, HasFront};
 
 use crate::command::{Command, read_command};
@@ -14,9 +13,11 @@ use crate::ending::last_line;
 use crate::session::Session;
 use crate::sinks::write_all;
 use crate::{Ended, RunFault, WalkEnd};
-use flow_base::{Folder, List, Path, Sink, SinkFault, Source};
-use flow_state::Payload;
+use analyst::Analyst;
+use flow_base::{Folder, Path, Sink, SinkFault, Source};
+use full_law::each_full;
 use heap_core::HeapWriter;
+use payloads::Payload;
 use script_line::Line;
 use script_reader::LineReader;
 use std::alloc::Global;
@@ -31,30 +32,32 @@ use std::alloc::Global;
 /// and `NoMemory` where memory is refused. After `ScriptFault` all whole lines that the script gave are answered,
 /// and what they print is written; after the others a front of what a whole run prints, with no more read faults than
 /// the folder counted.
-pub fn run<W: HeapWriter<Payload> + Drop, F: Folder, S: Source, K: Sink>(
+pub fn run<W: HeapWriter<Payload> + Drop, F: Folder, S: Source, K: Sink, A: Analyst + Drop>(
     alloc: Global,
     heap: W,
     modules: u32,
-    listed: List<Path>,
+    listed: &[Path],
+    analyst: A,
     folder: &mut F,
     script: &mut S,
     out: &mut K,
 ) -> Result<Ended<W>, RunFault>
     requires empty { IsEmptyHeap (W.meaning heap) modules }
-    requires rising { IsRising listed }
-    requires few { length listed ≤ modules }
-    ensures ended { IfOk result (λ ended. HasRun modules listed ended.ending ended.errors (program_in (W.meaning ended.heap).committed) (W.meaning ended.heap).version
+    requires rising { IsRising listed.now }
+    requires few { length listed.now ≤ modules }
+    ensures ended { IfOk result (λ ended. HasRun modules listed.now ended.ending ended.errors (program_in (W.meaning ended.heap).committed) (W.meaning ended.heap).version
         (outside (F.seen folder.old) (S.seen script.old) (K.seen out.old)) (outside (F.seen folder.new) (S.seen script.new) (K.seen out.new))) }
-    ensures stopped { IsErrOf result RunFault.ScriptFault → HasStopped modules listed
+    ensures stopped { IsErrOf result RunFault.ScriptFault → HasStopped modules listed.now
         (outside (F.seen folder.old) (S.seen script.old) (K.seen out.old)) (outside (F.seen folder.new) (S.seen script.new) (K.seen out.new)) }
-    ensures front { OnErr result (HasFront modules listed
+    ensures front { OnErr result (HasFront modules listed.now
         (outside (F.seen folder.old) (S.seen script.old) (K.seen out.old)) (outside (F.seen folder.new) (S.seen script.new) (K.seen out.new))) }
     ensures script_counts { Counts (IsErrOf result RunFault.ScriptFault) (S.seen script.old).faults (S.seen script.new).faults }
     ensures sink_counts { Counts (IsErrOf result RunFault.SinkFault) (K.seen out.old).faults (K.seen out.new).faults }
     ensures told { (F.seen folder.new).told ≡ (F.seen folder.old).told }
     ensures later { (F.seen folder.old).faults ≤ (F.seen folder.new).faults }
 {
-    let mut session = load(alloc, heap, modules, listed, folder, out)?;
+    each_full();
+    let mut session = load(alloc, heap, modules, listed, analyst, folder, out)?;
     let mut reader = LineReader::new(alloc)?;
     let mut taken = 0;
     loop {
@@ -75,26 +78,27 @@ pub fn run<W: HeapWriter<Payload> + Drop, F: Folder, S: Source, K: Sink>(
 
 // The load: the first recheck, and its line.
 #[tactic(auto, using(crate::proofs::Walks::loaded_from))]
-fn load<W: HeapWriter<Payload> + Drop, F: Folder, K: Sink>(
+fn load<W: HeapWriter<Payload> + Drop, F: Folder, K: Sink, A: Analyst + Drop>(
     alloc: Global,
     heap: W,
     modules: u32,
-    listed: List<Path>,
+    listed: &[Path],
+    analyst: A,
     folder: &mut F,
     out: &mut K,
-) -> Result<Session<W>, RunFault>
+) -> Result<Session<W, A>, RunFault>
     requires empty { IsEmptyHeap (W.meaning heap) modules }
-    requires rising { IsRising listed }
-    requires few { length listed ≤ modules }
-    ensures loaded { IfOk result (λ session. HasLoaded (walk_state (start listed) (F.seen folder.old) (K.seen out.old)) (walk_state (standing_in session) (F.seen folder.new) (K.seen out.new))) }
+    requires rising { IsRising listed.now }
+    requires few { length listed.now ≤ modules }
+    ensures loaded { IfOk result (λ session. HasLoaded (walk_state (start listed.now) (F.seen folder.old) (K.seen out.old)) (walk_state (standing_in session) (F.seen folder.new) (K.seen out.new))) }
     ensures modules { IfOk result (λ session. session.waiting.capacity ≡ modules) }
-    ensures front { OnErr result (BreaksLoad (walk_state (start listed) (F.seen folder.old) (K.seen out.old)) (F.seen folder.new) (K.seen out.new).written) }
+    ensures front { OnErr result (BreaksLoad (walk_state (start listed.now) (F.seen folder.old) (K.seen out.old)) (F.seen folder.new) (K.seen out.new).written) }
     ensures counts { Counts (IsErrOf result RunFault.SinkFault) (K.seen out.old).faults (K.seen out.new).faults }
     ensures no_script { IsErrOf result RunFault.ScriptFault → ⊥ }
     ensures told { (F.seen folder.new).told ≡ (F.seen folder.old).told }
     ensures later { (F.seen folder.old).faults ≤ (F.seen folder.new).faults }
 {
-    let mut session = Session::open(alloc, heap, modules, listed)?;
+    let mut session = Session::open(alloc, heap, modules, listed, analyst)?;
     let line = session.recheck(folder)?;
     print(out, line.as_bytes())?;
     Ok(session)
@@ -102,10 +106,10 @@ fn load<W: HeapWriter<Payload> + Drop, F: Folder, K: Sink>(
 
 // Takes the next line of a script of which so many were taken, and answers it. Where the walk ends
 // there, it prints its last line, and tells how it ended.
-fn step<W: HeapWriter<Payload> + Drop, F: Folder, S: Source, K: Sink>(
+fn step<W: HeapWriter<Payload> + Drop, F: Folder, S: Source, K: Sink, A: Analyst + Drop>(
     alloc: Global,
     taken: u32,
-    session: &mut Session<W>,
+    session: &mut Session<W, A>,
     reader: &mut LineReader,
     folder: &mut F,
     script: &mut S,
@@ -141,8 +145,8 @@ fn step<W: HeapWriter<Payload> + Drop, F: Folder, S: Source, K: Sink>(
 }
 
 // Answers a line that does not end the script.
-fn answer<W: HeapWriter<Payload> + Drop, F: Folder, K: Sink>(
-    session: &mut Session<W>,
+fn answer<W: HeapWriter<Payload> + Drop, F: Folder, K: Sink, A: Analyst + Drop>(
+    session: &mut Session<W, A>,
     folder: &mut F,
     out: &mut K,
     line: Line,

@@ -1,1 +1,1 @@
-let x = 1;
+let y: number = "s";

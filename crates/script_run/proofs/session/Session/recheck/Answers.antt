@@ -3,5 +3,5 @@ use Rattle.script_run.proofs.session.Session.recheck.Goals as goal
 
 pub returns-clause-rechecked : goal.returns-clause-rechecked
 returns-clause-rechecked g c =
-    rechecked _ _ c.args.self.now c.recheck_all-outcome.result c.version.result _ c.self.view_is c.recheck_all-outcome.ensures.result c.recheck_all-outcome.ensures.reads
+    rechecked _ _ c.args.self.now c.recheck_edited-outcome.result c.version.result _ c.self.view_is c.recheck_edited-outcome.ensures.result c.recheck_edited-outcome.ensures.reads
     (g.met.F.Folder.bounded c.args.folder.now) c.version.ensures c.in_ok-outcome_line.ensures

@@ -1,0 +1,176 @@
+#!/usr/bin/env python3
+"""Times flowd beside TypeScript's compiler over the same modules: the time and the peak of memory of both.
+
+    bench/modules.py                       300 and 1,000 generated modules, and 300 dense ones of about 180 lines
+    bench/modules.py SHAPE COUNT..         modules of one shape alone; SHAPE is generated or dense
+    bench/modules.py top SHAPE COUNT       the ten functions of flowd that take most time, by perf
+    bench/modules.py write FOLDER SHAPE COUNT [ts]      writes the modules, for TypeScript where ts is said
+
+A generated module has a type that leads to another module's, a value and a function, as those of `flowd --gen` have. A
+dense one has types, functions with bodies, refinements, loops, object literals, and calls into the module before it.
+TypeScript reads the same modules in its own words: `T | null | undefined` for `?T`, `readonly` for `+`. It checks them
+alone: no declarations of a browser, and none of the library's own. What it takes to start is told by an empty module.
+
+FLOWD names another program in the place of ./flowd. TypeScript is that of Debian's node-typescript.
+"""
+
+import os
+import subprocess
+import sys
+import tempfile
+import time
+
+TOP = os.path.dirname(os.path.dirname(os.path.abspath(__file__)))
+FLOWD = os.environ.get("FLOWD", f"{TOP}/flowd")
+TSC = ["tsc", "--noEmit", "--strict", "--target", "es2020", "--lib", "es2020", "--skipLibCheck"]
+PARTS = 10  # of a dense module
+
+
+class Draws:
+    """The generator's draws."""
+
+    def __init__(self, seed):
+        self.state = seed
+
+    def below(self, bound):
+        self.state = (self.state * 6364136223846793005 + 1442695040888963407) % 2**64
+        return (self.state >> 33) % bound
+
+
+def maybe(name, is_ts):
+    return f"{name} | null | undefined" if is_ts else f"?{name}"
+
+
+def generated(count, is_ts, seed=1):
+    """The generator's modules, as they are before the first edit: each name and text."""
+    draws = Draws(seed)
+    leads = [None] + [draws.below(i) for i in range(1, count)]
+    for i, j in enumerate(leads):
+        other = "" if j is None else f"import type {{T{j}}} from './m{j}';\n"
+        prop, value = ("", "") if j is None else (f", b: {maybe(f'T{j}', is_ts)}", ", b: null")
+        yield f"m{i}", (
+            f"{other}export type T{i} = {{a: number{prop}}};\n"
+            f"export const v{i}: T{i} = {{a: {i}{value}}};\n"
+            f"export function f{i}(x: T{i}): number {{ return x.a + 0; }}\n"
+        )
+
+
+def part(i, n, is_ts):
+    """Seventeen lines of a dense module: a type, a value, and a function that narrows, loops and calls."""
+    row, text = maybe(f"Row{n}", is_ts), maybe("string", is_ts)
+    return (
+        f"type Row{n} = {{{'readonly ' if is_ts else '+'}id: number, label: {text}, tags: Array<string>, next: {row}}};\n"
+        f"const row{n}: Row{n} = {{id: {n}, label: 'row {n}', tags: ['a', 'b'], next: null}};\n"
+        f"export function walk{n}(start: {row}, limit: number): number {{\n"
+        f"  let found: number = 0;\n"
+        f"  let row: {row} = start;\n"
+        f"  while (row != null && found < limit) {{\n"
+        f"    const label: {text} = row.label;\n"
+        f"    if (label != null && label !== 'none') {{\n"
+        f"      found = found + row.id;\n"
+        f"    }} else if (row.id > 10) {{\n"
+        f"      found = found + size{i}(row.tags, {n});\n"
+        f"    }}\n"
+        f"    row = row.next;\n"
+        f"  }}\n"
+        f"  return found > {n} ? found : size{i}(['x'], found);\n"
+        f"}}\n"
+        f"export const total{n}: number = walk{n}(row{n}, 100);\n"
+    )
+
+
+def dense(count, is_ts):
+    """Modules of about 180 lines, each of which calls functions of the one before: each name and text."""
+    for i in range(count):
+        other = f"import {{size{i - 1}, area{i - 1}}} from './d{i - 1}';\nimport type {{Shape{i - 1}}} from './d{i - 1}';\n" if i else ""
+        inner = f"size{i - 1}(tags, depth - 1)" if i else "depth"
+        more = f"const before: Shape{i - 1} = {{kind: 'square', side: 2}};\nexport const all: number = area{i - 1}(before);\n" if i else ""
+        yield f"d{i}", (
+            f"{other}export type Shape{i} = {{kind: 'round', radius: number}} | {{kind: 'square', side: number}};\n"
+            f"export function size{i}(tags: Array<string>, depth: number): number {{\n"
+            f"  if (depth <= 0) {{ return 0; }}\n"
+            f"  return depth > tags.length ? {inner} : depth + 1;\n"
+            f"}}\n"
+            f"export function area{i}(shape: Shape{i}): number {{\n"
+            f"  if (shape.kind === 'round') {{ return shape.radius * shape.radius * 3; }}\n"
+            f"  return shape.side * shape.side;\n"
+            f"}}\n{more}" + "".join(part(i, n, is_ts) for n in range(PARTS))
+        )
+
+
+SHAPES = {"generated": generated, "dense": dense}
+
+
+def write(folder, shape, count, is_ts):
+    """Writes the modules, and returns how many bytes and lines they have."""
+    os.makedirs(folder, exist_ok=True)
+    size = lines = 0
+    for name, text in SHAPES[shape](count, is_ts):
+        with open(f"{folder}/{name}.{'ts' if is_ts else 'js'}", "w", encoding="utf-8") as file:
+            file.write(text)
+        size, lines = size + len(text), lines + text.count("\n")
+    return size, lines
+
+
+def spent(words, wanted, **how):
+    """The seconds, those of processors, and the peak of memory in MB of a program, which must print what is wanted."""
+    begin = time.monotonic()
+    child = subprocess.Popen(words, stdin=subprocess.DEVNULL, stdout=subprocess.PIPE, stderr=subprocess.STDOUT, **how)
+    printed = child.stdout.read()
+    _, status, usage = os.wait4(child.pid, 0)
+    seconds = time.monotonic() - begin
+    if (os.waitstatus_to_exitcode(status), printed) != (0, wanted):
+        sys.exit(f"{words[0]} ended with status {status} and printed {printed[:200]}")
+    return seconds, usage.ru_utime + usage.ru_stime, usage.ru_maxrss / 1024
+
+
+def said(who, taken):
+    print(f"  {who:15} {taken[0]:7.2f} s {taken[1]:7.2f} s of processors {taken[2]:6.0f} MB", flush=True)
+
+
+def start_of_tsc():
+    """What TypeScript takes for an empty module."""
+    with tempfile.TemporaryDirectory() as room:
+        with open(f"{room}/a.ts", "w", encoding="utf-8") as file:
+            file.write("export {};\n")
+        taken = spent([*TSC, "a.ts"], b"", cwd=room)
+    said("tsc, its start", taken)
+    return taken
+
+
+def compare(shape, count, start):
+    with tempfile.TemporaryDirectory() as room:
+        size, lines = write(f"{room}/js", shape, count, False)
+        write(f"{room}/ts", shape, count, True)
+        print(f"{shape}: {count} modules, {lines} lines, {size / 1e6:.2f} MB")
+        ours = spent([FLOWD, f"{room}/js"], b"recheck 1: %d parsed, %d checked, 0 errors\n" % (count, count))
+        said("flowd", ours)
+        theirs = spent([*TSC, *sorted(os.listdir(f"{room}/ts"))], b"", cwd=f"{room}/ts")
+        said("tsc", theirs)
+        parts = ours[0] / theirs[0], ours[1] / theirs[1], ours[1] / (theirs[1] - start[1]), ours[2] / theirs[2]
+        print("  of TypeScript's: %.3f of the time, %.3f of processors, %.3f without its start, %.3f of the memory" % parts, flush=True)
+
+
+def top(shape, count):
+    with tempfile.TemporaryDirectory() as room:
+        write(f"{room}/js", shape, count, False)
+        subprocess.run(["perf", "record", "-q", "-o", f"{room}/perf", FLOWD, f"{room}/js"], stdin=subprocess.DEVNULL, check=True)
+        report = ["perf", "report", "-i", f"{room}/perf", "--stdio", "-q", "--sort", "symbol"]
+        rows = subprocess.run(report, stdout=subprocess.PIPE, check=True).stdout.decode().splitlines()
+        print("\n".join([row for row in rows if row.strip()][:10]))
+
+
+def main(words):
+    if words[:1] == ["write"]:
+        write(words[1], words[2], int(words[3]), words[4:] == ["ts"])
+    elif words[:1] == ["top"]:
+        top(words[1], int(words[2]))
+    else:
+        start = start_of_tsc()
+        shape, counts = words[:1], [int(count) for count in words[1:]]
+        for row in [(*shape, count) for count in counts] or [("generated", 300), ("generated", 1000), ("dense", 300)]:
+            compare(*row, start)
+
+
+if __name__ == "__main__":
+    main(sys.argv[1:])

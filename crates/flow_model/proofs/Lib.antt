@@ -1,5 +1,0 @@
-pub mod DistinctNames
-pub mod LineReading
-pub mod Loops
-pub mod SourceLines
-pub mod SourceReading

@@ -1,4 +1,0 @@
-pub mod Editing
-pub mod Finishing
-pub mod States
-pub mod Takes

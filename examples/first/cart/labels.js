@@ -1,2 +1,0 @@
-export const title: string = "Your cart";
-export const empty: string = "Nothing here yet";

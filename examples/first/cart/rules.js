@@ -1,2 +1,0 @@
-export const most: number = 99;
-export const gifts: boolean = false;

@@ -1,0 +1,314 @@
+#!/usr/bin/env python3
+"""Runs ./flowd on sources that were made to hurt it: as long, as deep and as wide as the limit of a source lets them be.
+
+    tests/hostile.py [WORD]       (only the cases whose name has this word)
+
+Each run must print what the rules say, end by itself, and stay within a bound of time and of memory that goes by the
+bytes that it reads and prints. The last line is 'N passed, M failed'.
+"""
+
+import os
+import resource
+import subprocess
+import sys
+
+sys.path.insert(0, os.path.dirname(os.path.abspath(__file__)))
+import real_folders
+from real_folders import CLEAN, ERRORS, FLOWD, recheck, write
+
+MOST = 1_048_576  # bytes of a source
+DEEPEST = 200  # brackets in one another
+STACK = 1 << 30  # what the thread that does all work asks for
+SECONDS = 20  # of a processor
+START, EACH = 32 << 20, 300  # bytes of memory at the most: those at the start, and those for each byte
+CASES = real_folders.CASES = []
+STATUS = b'{"do":"ask","ask":{"what":"status"}}\n'
+
+
+def case(test):
+    CASES.append(test)
+    return test
+
+
+def limits():
+    resource.setrlimit(resource.RLIMIT_CPU, (SECONDS, SECONDS))
+    resource.setrlimit(resource.RLIMIT_AS, (STACK + START + EACH * 8 * MOST,) * 2)
+    resource.setrlimit(resource.RLIMIT_CORE, (0, 0))
+
+
+def run(root, script):
+    """Runs ./flowd with a script, and returns its status, what it wrote, and the peak of its memory in bytes."""
+    with open(f"{root}/script", "wb") as file:
+        file.write(script)
+    with open(f"{root}/script", "rb") as lines, open(f"{root}/out", "wb") as out:
+        child = subprocess.Popen([FLOWD, f"{root}/d"], stdin=lines, stdout=out, stderr=out, preexec_fn=limits)
+        _, status, usage = os.wait4(child.pid, 0)
+        child.returncode = os.waitstatus_to_exitcode(status)
+    with open(f"{root}/out", "rb") as out:
+        return child.returncode, out.read(), usage.ru_maxrss << 10
+
+
+def brief(text):
+    return text if len(text) < 400 else text[:200] + b" .. " + text[-200:]
+
+
+def expect_told(root, sources, script, status, text):
+    """What ./flowd prints of these modules, and what it takes for that."""
+    for name, source in sources.items():
+        if len(source) > MOST:
+            raise AssertionError(f"{name}.js has {len(source)} bytes, which is past the limit")
+        write(f"{root}/d/{name}.js", source.encode())
+    ended, told, memory = run(root, script)
+    if (ended, told) != (status, text):
+        raise AssertionError(f"it ended with {ended} and printed {brief(told)}, and not with {status} and {brief(text)}")
+    bound = START + EACH * (sum(map(len, sources.values())) + len(script) + len(text))
+    if memory > bound:
+        raise AssertionError(f"it took {memory} bytes of memory, which is more than {bound}")
+
+
+def expect(root, errors, **sources):
+    """The errors of these modules, each as PATH:LINE:COLUMN CODE DETAILS."""
+    lines = "".join(f"  {error}\n" for error in errors)
+    told = recheck(len(sources), len(errors)) + f"1 status: {len(errors)} errors\n{lines}".encode()
+    expect_told(root, sources, STATUS, ERRORS if errors else CLEAN, told)
+
+
+def filled(part, before="", after="", size=MOST):
+    """A source of this size at the most, with the part as often as it goes in; and how often that is."""
+    times = (size - len(before) - len(after)) // len(part)
+    return before + part * times + after, times
+
+
+def cut(shown):
+    """A type as errors print it."""
+    return shown if len(shown) <= 80 else shown[:77] + "..."
+
+
+# Brackets and marks: past the deepest nesting it is no module, at the mark that passes it.
+
+
+@case
+def parentheses(root):
+    expect(root, [f"a.js:1:{DEEPEST + 1} parse"], a="(" * MOST)
+
+
+@case
+def the_deepest_parentheses(root):
+    text = "(" * DEEPEST + "a" + ")" * DEEPEST
+    errors = [f"a.js:1:{DEEPEST + 1} cannot-resolve-name a", f"b.js:1:{DEEPEST + 1} parse"]
+    expect(root, errors, a=f"{text};", b=f"({text});")
+
+
+@case
+def braces(root):
+    """No item begins with a brace; in a function each one begins a block."""
+    head = "function f() "
+    expect(root, ["a.js:1:1 parse", f"b.js:1:{len(head) + DEEPEST + 1} parse"], a="{" * MOST, b=filled("{", head)[0])
+
+
+@case
+def square_brackets(root):
+    expect(root, [f"a.js:1:{DEEPEST + 1} parse"], a="[" * MOST)
+
+
+@case
+def brackets_in_types(root):
+    head = "type T = "
+    parts = {"a": "(", "b": "[", "c": "{a:", "d": "Array<", "e": "? ", "f": "()=>"}
+    marks = {name: part.index(part.strip("Array")[0]) for name, part in parts.items()}
+    errors = [f"{name}.js:1:{len(head) + DEEPEST * len(part) + marks[name] + 1} parse" for name, part in parts.items()]
+    expect(root, errors, **{name: filled(part, head)[0] for name, part in parts.items()})
+
+
+@case
+def conditionals(root):
+    """Each `?` waits for the end of its statement."""
+    expect(root, [f"a.js:1:{4 * DEEPEST + 2} parse"], a=filled("1?1:", "", "1;")[0])
+
+
+# Chains, which no nesting limits.
+
+
+@case
+def properties_of_properties(root):
+    text, times = filled(".a", "a", ";")
+    errors = ["a.js:1:1 cannot-resolve-name a", f"b.js:1:{2 * times + 2} parse"]
+    expect(root, errors, a=text, b=text[:-1])
+
+
+@case
+def calls_and_elements(root):
+    expect(root, [], a=filled("()[0]", "Math", ";")[0])
+
+
+@case
+def marks_before_a_value(root):
+    expect(root, [], a=filled("!", "const a: boolean = ", "1;")[0])
+
+
+@case
+def sums(root):
+    expect(root, [], a=filled("+1", "const a: number = 1", ";")[0])
+
+
+@case
+def tests_in_a_row(root):
+    """The right side of each is read from the facts that its left side leaves."""
+    head = "function f(a: ?number) {return a"
+    expect(root, [], a=filled("&&a", head, ";}")[0], b=filled("||a", head, ";}")[0], c=filled("??a", head, ";}")[0])
+
+
+@case
+def arms_of_an_if(root):
+    expect(root, [], a=filled("else if(a)b;", "function f(a: mixed, b: mixed) {if(a)b;", "}")[0])
+
+
+@case
+def members_of_a_union(root):
+    expect(root, [], a=filled("|1", "const a: 1", "=1;")[0])
+
+
+@case
+def one_comment(root):
+    """Where it doesn't end, its marks are tokens; no item begins with one."""
+    expect(root, ["b.js:1:1 parse"], a=filled("*", "/*", "*/")[0], b=filled("*", "/*")[0])
+
+
+# Functions in one another, and many branches.
+
+
+@case
+def functions_in_one_another(root):
+    depth = DEEPEST - 2
+    expect(root, [], a=filled("a=1;", "let a: number = 0;" + "function f() {" * depth, "}" * depth)[0])
+
+
+@case
+def branches_that_assign(root):
+    """Many variables, each of which is assigned in a branch of its own."""
+    count = 15_000
+    lets = "".join(f"let a{i}:?number=1;" for i in range(count))
+    expect(root, [], a=f"function f(c: boolean) {{{lets}{''.join(f'if(c)a{i}=null;' for i in range(count))}}}")
+
+
+# Types that are deep, though no bracket stands in another.
+
+
+@case
+def arrays_of_arrays(root):
+    text, depth = filled("[]", "const x: number", "='a';")
+    expect(root, [f"a.js:1:{len(text) - 3} incompatible-type \"a\" {cut('Array<' * depth)}"], a=text)
+
+
+@case
+def values_of_deep_types(root):
+    """Two values of types that are deep in the same way, one assigned to the other."""
+    depth = 10_000
+    lines = "".join(f"let x{i + 1}=[x{i}];let y{i + 1}=[y{i}];\n" for i in range(depth))
+    shown = cut("Array<" * depth + "number" + ">" * depth)
+    error = f'a.js:{depth + 3}:{len(f"x{depth}=") + 1} incompatible-type "a" {shown}'
+    expect(root, [error], a=f"let x0=1;let y0=2;\n{lines}x{depth}=y{depth};\nx{depth}='a';\n")
+
+
+# Types that are large, though their source is short.
+
+
+@case
+def types_that_double(root):
+    """Thirty lines, each of which has the type of the one before twice, and one that prints the last."""
+    lines = "".join(f"const x{i} = {{a: x{i - 1}, b: x{i - 1}}};\n" for i in range(1, 31))
+    line = "const y: number = "
+    error = f"a.js:32:{len(line) + 1} incompatible-type {'{a: ' * 19}{{... number"
+    expect(root, [error], a=f"const x0 = 1;\n{lines}{line}x30;\n")
+
+
+@case
+def aliases_in_a_row(root):
+    """Names that lead to one another: to a type in the end, or round."""
+    count = 40_000
+    row = "".join(f"type T{i}=T{i + 1};\n" for i in range(count))
+    line = "const x: T0 = "
+    errors = [f'a.js:{count + 2}:{len(line) + 1} incompatible-type "a" T0']
+    errors += [f"b.js:{i + 1}:6 recursive-alias T{i}" for i in range(count + 1)]
+    expect(root, errors, a=f"{row}type T{count}=number;\n{line}'a';", b=f"{row}type T{count}=T0;")
+
+
+# Long names and texts, and many of one kind.
+
+
+@case
+def one_name(root):
+    name = "a" * (MOST - 1)
+    expect(root, [f"a.js:1:1 cannot-resolve-name {name}"], a=f"{name};")
+
+
+@case
+def one_string(root):
+    line = "const a: number = "
+    text, times = filled("a", f'{line}"', '";')
+    string = '"' + "a" * times
+    errors = [f"a.js:1:{len(line) + 1} incompatible-type {cut(string)} number", "b.js:1:1 bad-token"]
+    expect(root, errors, a=text, b=string)
+
+
+@case
+def a_source_past_the_limit(root):
+    write(f"{root}/d/b.js", b" " * (MOST + 1))
+    told = recheck(2, 1) + b"1 status: 1 errors\n  b.js:1:1 source-too-long\n"
+    expect_told(root, {"a": " " * MOST}, STATUS, ERRORS, told)
+
+
+@case
+def an_object_of_many_properties(root):
+    """It is below its type but for its last property; and one that is asked for is missing."""
+    props = ",".join(f"p{i}:1" for i in range(100_000))
+    line = f"const x:T={{{props[:-1]}2}};x.q;"
+    place = len(line) - len("2};x.q;") + 1
+    errors = [f"b.js:2:{place} incompatible-type 2 1", f"b.js:2:{len(line) - 1} prop-missing q"]
+    expect(root, errors, a=f"export type T={{{props}}};", b=f"import type {{T}} from './a';\n{line}")
+
+
+@case
+def a_key_that_is_repeated(root):
+    head, count = "const x={", 100_000
+    errors = [f"a.js:1:{len(head) + 1 + 4 * i} name-already-bound a" for i in range(1, count)]
+    expect(root, errors, a=head + "a:1," * count + "};")
+
+
+@case
+def many_functions(root):
+    count = 20_000
+    lines = (f"function f{i}(a:number):number{{return f{(i + 1) % count}(a);}}" for i in range(count))
+    expect(root, [], a="".join(lines))
+
+
+@case
+def many_exports(root):
+    count = 10_000
+    exports = "".join(f"export function f{i}(a: ?string):number{{return {i};}}\n" for i in range(count))
+    names = ",".join(f"f{i}" for i in range(count))
+    uses = "".join(f"f{i}({i});\n" for i in range(count))
+    errors = [f"b.js:{i + 2}:{len(f'f{i}(') + 1} incompatible-type {i} null | void | string" for i in range(count)]
+    expect(root, errors, a=exports, b=f"import {{{names}}} from './a';\n{uses}")
+
+
+@case
+def many_errors(root):
+    count = 100_000
+    expect(root, [f"a.js:{i + 1}:1 cannot-resolve-name a" for i in range(count)], a="a;\n" * count)
+
+
+@case
+def many_errors_on_a_line(root):
+    count = 100_000
+    expect(root, [f"a.js:1:{2 * i + 1} cannot-resolve-name a" for i in range(count)], a="a;" * count)
+
+
+@case
+def many_types_in_errors(root):
+    count = 80_000
+    expect(root, [f"a.js:{i + 1}:1 incompatible-type 1 string" for i in range(count)], a="1 as string;\n" * count)
+
+
+if __name__ == "__main__":
+    sys.exit(real_folders.main())

@@ -1,0 +1,88 @@
+#!/usr/bin/env python3
+"""Runs ./flowd on the programs of crates/program_cases, each as a real folder with a script that asks for the status.
+
+    tests/programs.py [WORD]       (only the cases whose name has this word)
+
+The stored run of that crate has one program a line, as its main.rt says, and the lines of its errors: they are read
+here, not written again. What can't be a line of a file follows below. The last line is 'N passed, M failed'.
+"""
+
+import os
+import sys
+from concurrent.futures import ThreadPoolExecutor
+
+import real_folders
+from real_folders import CLEAN, ERRORS, TOP, expect, recheck, run, write
+
+CASES = real_folders.CASES = []
+STATUS = b'{"do":"ask","ask":{"what":"status"}}\n'
+END_OF_LINE = "⏎".encode()
+
+# Sources that can't be a line of a file: one that ends with a carriage return, and two that are not UTF-8.
+FURTHER = {
+    "every blank character": ("\ufeffconst\u00a0a\u000b=\u000c1\u2028;\u2029\r".encode(), b""),
+    "a byte that begins no character": (b"const a = 1; \xff", b"  a.js:1:1 not-utf8\n"),
+    "a surrogate": (b"\xed\xa0\x80", b"  a.js:1:1 not-utf8\n"),
+}
+
+
+def case(test):
+    CASES.append(test)
+    return test
+
+
+def expect_program(root, modules, errors):
+    """The modules are paths and texts; the errors are the lines of their status."""
+    for path, text in modules:
+        write(f"{root}/{path.decode()}", text)
+    count = errors.count(b"\n")
+    told = recheck(len(modules), count) + b"1 status: %d errors\n" % count + errors
+    expect(run(root, stdin=None, input=STATUS), ERRORS if count else CLEAN, told)
+
+
+def modules_of(line):
+    """The modules of a line: paths and texts, with a TAB between any two."""
+    fields = line.replace(END_OF_LINE, b"\n").split(b"\t")
+    return list(zip(fields[::2], fields[1::2], strict=True))
+
+
+def stored():
+    """The lines of the stored run, and what each prints, which an empty line ends."""
+    folder = f"{TOP}/crates/program_cases"
+    with open(f"{folder}/stdin", "rb") as asked, open(f"{folder}/stdout", "rb") as told:
+        lines, answers, answer = asked.read().split(b"\n")[:-1], [], b""
+        for row in told:
+            if row == b"\n":
+                answers.append(answer)
+                answer = b""
+            else:
+                answer += row
+    return list(zip(lines, answers, strict=True))
+
+
+def fault_of(root, number, line, errors):
+    """What is wrong with the program of a line, if anything is."""
+    try:
+        expect_program(f"{root}/{number}", modules_of(line), errors)
+    except AssertionError as why:
+        return f"line {number}: {why}"
+
+
+@case
+def the_stored_programs(root):
+    rows = stored()
+    with ThreadPoolExecutor(os.cpu_count()) as pool:
+        told = pool.map(lambda it: fault_of(root, it[0], *it[1]), enumerate(rows, 1))
+        wrong = [it for it in told if it]
+    if wrong or not rows:
+        raise AssertionError(f"{len(wrong)} of {len(rows)} programs: " + "; ".join(wrong))
+
+
+@case
+def sources_that_cannot_be_a_line_of_a_file(root):
+    for name, (source, errors) in FURTHER.items():
+        expect_program(f"{root}/{name}", [(b"a.js", source)], errors)
+
+
+if __name__ == "__main__":
+    sys.exit(real_folders.main())
