@@ -174,6 +174,12 @@ def one_comment(root):
     expect(root, ["b.js:1:1 parse"], a=filled("*", "/*", "*/")[0], b=filled("*", "/*")[0])
 
 
+@case
+def comments_that_do_not_end(root):
+    """The end of none is looked for again."""
+    expect(root, ["a.js:1:1 parse", "b.js:1:1 parse"], a=filled("/*a")[0], b=filled("/*\u00e9", size=MOST * 3 // 4)[0])
+
+
 # Functions in one another, and many branches.
 
 

@@ -1,12 +1,12 @@
-ghost use Rattle.std.specs.Prelude.{◌≡◌, ◌≤◌, ◌<◌, ◌+◌, ◌^◌, ◌++◌, [], length, drop, IfOk, OnOk};
+ghost use Rattle.std.specs.Prelude.{◌≡◌, ◌≤◌, ◌<◌, ◌+◌, ◌^◌, ◌++◌, ◌||◌, ◌&&◌, ◌==◌, [], length, drop, IfOk, OnOk};
 ghost use Rattle.std.specs.Str.{chars, encode_utf8_all};
 ghost use Rattle.js_lexer.specs.Cut.{byte_len, token_of};
 ghost use Rattle.js_lexer.specs.Answers.{Answers, TextAnswers};
-ghost use Rattle.js_lexer.specs.Step.{StepAnswers, IsPut, IsDecoded};
+ghost use Rattle.js_lexer.specs.Step.{StepAnswers, IsPut, IsDecoded, begins_blank, opens_block, slash};
 
 use crate::{LexFault, SOURCE_LIMIT};
 use flow_values::{List, NoMemory, Span};
-use js_token::{Token, TokenKind};
+use js_token::{Punct, Token, TokenKind};
 use lex_pieces::{Piece, Texts, read_bytes, read_piece};
 use std::alloc::Global;
 
@@ -31,7 +31,8 @@ pub fn lex(alloc: Global, source: &[u8]) -> Result<List<Token>, LexFault>
 }
 
 // The text is read by its bytes. Its characters are decoded where a piece first needs them. There is room for a token at each
-// byte at once: the room that no token takes is not touched.
+// byte at once: the room that no token takes is not touched. Behind a comment that is not closed none is: its end is not
+// looked for again.
 #[tactic(auto, using(crate::proofs::Steps::some_left))]
 fn lex_text(alloc: Global, text: &str) -> Result<List<Token>, LexFault>
     requires { length text.now < 2 ^ 32 }
@@ -42,12 +43,88 @@ fn lex_text(alloc: Global, text: &str) -> Result<List<Token>, LexFault>
     let mut tokens = with_room(alloc, text.len())?;
     let mut from = 0;
     let mut at = 0;
+    let mut unclosed = false;
     while (at as usize) < text.len() {
+        if is_blank(text, at) {
+            from += 1;
+            at += 1;
+            continue;
+        }
+        if is_bare(unclosed, text, at) {
+            put_slash(at, &mut tokens)?;
+            from += 1;
+            at += 1;
+            continue;
+        }
         let (len, bytes) = lex_piece(alloc, text, from, at, &mut texts, &mut decoded, &mut tokens)?;
+        unclosed = is_unclosed(unclosed, text, at, len);
         from += len;
         at += bytes;
     }
     Ok(tokens)
+}
+
+// Whether the marks that begin a block's comment stand at a byte.
+fn opens_block(text: &str, at: u32) -> bool
+    requires { at < length text.now }
+    ensures { result ≡ opens_block (drop at text.now) }
+{
+    begins_block(&text.as_bytes()[at as usize..])
+}
+
+fn begins_block(bytes: &[u8]) -> bool
+    ensures { result ≡ opens_block bytes.now }
+{
+    match bytes {
+        [first, next, ..] => *first == b'/' && *next == b'*',
+        _ => false,
+    }
+}
+
+// Whether a blank character of one byte stands at a byte.
+fn is_blank(text: &str, at: u32) -> bool
+    requires { at < length text.now }
+    ensures { result ≡ begins_blank (drop at text.now) }
+{
+    begins_blank(&text.as_bytes()[at as usize..])
+}
+
+#[inline]
+fn begins_blank(bytes: &[u8]) -> bool
+    ensures { result ≡ begins_blank bytes.now }
+{
+    match bytes {
+        [] => false,
+        [first, ..] => *first == b' ' || *first == b'\n' || *first == b'\t' || *first == b'\r',
+    }
+}
+
+// Whether the marks at a byte begin a block's comment that is not closed, where it is known whether the rest of the text closes one.
+fn is_bare(unclosed: bool, text: &str, at: u32) -> bool
+    requires { at < length text.now }
+    ensures { result ≡ (unclosed && opens_block (drop at text.now)) }
+{
+    unclosed && opens_block(text, at)
+}
+
+// Whether it is known behind a piece of so many characters that nothing closes a block's comment any more.
+fn is_unclosed(unclosed: bool, text: &str, at: u32, len: usize) -> bool
+    requires { at < length text.now }
+    ensures { result ≡ (unclosed || ((len == 1) && opens_block (drop at text.now))) }
+{
+    unclosed || (len == 1 && opens_block(text, at))
+}
+
+// Puts the slash of a comment that is not closed behind the tokens.
+fn put_slash(at: u32, tokens: &mut List<Token>) -> Result<(), NoMemory>
+    requires { at + 1 < 2 ^ 32 }
+    ensures { OnOk result (tokens.new ≡ tokens.old ++ token_of at (at + 1) slash) }
+{
+    let span = Span {
+        start: at,
+        end: at + 1,
+    };
+    push_token(tokens, Some(TokenKind::Punct(Punct::Slash)), span)
 }
 
 // No token, with room for so many.

@@ -2,7 +2,7 @@ use Rattle.std.proofs.Common.{◌≡◌, ℕ, ◌+◌, ◌-◌, ◌≤◌, List,
 use Rattle.std.specs.Str.{chars, encode_utf8_all}
 use Rattle.js_token.specs.declared.token.Token.{Token}
 use Rattle.js_lexer.specs.Cut.{byte_len, HasTokens, IsStuck}
-use Rattle.js_lexer.specs.Step.{IsDecoded}
+use Rattle.js_lexer.specs.Step.{IsDecoded, IsUnclosed}
 use Rattle.js_lexer.proofs.lexing.lex_text.Given as goal
 
 -- whatever tokens the rest has complete those so far, and where the rest is stuck the text is
@@ -14,6 +14,7 @@ invariant-loop-at l = record {
   bytes : l.at + byte_len (drop l.from (chars l.text)) ≡ byte_len (chars l.text);
   place : encode_utf8_all (drop l.from (chars l.text)) ≡ drop l.at l.text;
   known : IsDecoded l.text l.decoded.items;
+  unclosed : IsUnclosed l.unclosed l.from (chars l.text);
 }
 
 abbrev pub decreases-loop-at : goal.decreases-loop-at
