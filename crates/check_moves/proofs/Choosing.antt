@@ -1,12 +1,11 @@
 -- `&&` and `||` as one, by which of them it is.
-use Rattle.std.proofs.Common.{◌≡◌, Bool, true, false, List, Option, Some, None, sym, ap, ◌∙◌}
+use Rattle.std.proofs.Common.{◌≡◌, Bool, true, false, List, Option, Some, sym, ap, ◌∙◌}
 use Rattle.type_values.specs.declared.types.FlowType.{FlowType}
 use Rattle.flow_facts.specs.Known.{Known}
 use Rattle.refine_flow.specs.Standing.{known}
 use Rattle.fact_ways.specs.declared.fork.Fork.{Fork}
 use Rattle.fact_ways.specs.Ways.{yes_of, way_of, ways_of, all_joined}
 use Rattle.check_moves.specs.declared.state.State.{State}
-use Rattle.check_moves.specs.declared.state.Read.{Read}
 use Rattle.check_moves.specs.View.{now, told}
 use Rattle.check_moves.specs.Moves.{goes_on, leaving, met}
 use Rattle.check_moves.proofs.Ways.{parts_and, parts_or, leaves_and, leaves_or, met_and, met_or}

@@ -4,7 +4,7 @@ use Rattle.refine_flow.specs.Standing.{KeepsMarks}
 use Rattle.scopes.specs.View.{KeepsHeights}
 use Rattle.scopes.specs.declared.scope.Scope.{Scope}
 use Rattle.fact_ways.specs.declared.fork.Fork.{Fork}
-use Rattle.fact_ways.specs.Ways.{Fits, Goes, Leads, AreNested, outermost, way_of, ways_of}
+use Rattle.fact_ways.specs.Ways.{Fits, Goes, Leads, outermost, way_of, ways_of}
 use Rattle.fact_ways.proofs.Marks.{goes_through, leads_through, leads_under, way_again, goes_nowhere, keeps_leads}
 use Rattle.fact_ways.proofs.Nests.{nested_on, ways_on, outermost_on, fits_stands}
 use Rattle.check_moves.specs.declared.state.State.{State}

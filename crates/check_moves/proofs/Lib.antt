@@ -8,3 +8,4 @@ pub mod Choosing
 pub mod Operating
 pub mod Stepping
 pub mod Prefixing
+pub mod Wanted

@@ -1,10 +1,10 @@
 -- Ways that meet one by one.
-use Rattle.std.proofs.Common.{◌≡◌, ℕ, List, [], ◌∷◌, ◌++◌, map, reverse, Option, Some, None, refl, sym, ap, ◌∙◌, subst}
+use Rattle.std.proofs.Common.{◌≡◌, ℕ, List, [], ◌∷◌, ◌++◌, map, reverse, Some, None, refl, ◌∙◌, subst}
 use Rattle.refine_flow.specs.declared.facts.Facts.{Facts}
 use Rattle.refine_flow.specs.Standing.{known}
 use Rattle.flow_facts.specs.Known.{joined}
 use Rattle.scopes.specs.View.{KeepsHeights}
-use Rattle.typing.specs.States.{World, Out}
+use Rattle.typing.specs.States.{World}
 use Rattle.typing.specs.Forms.{choices_out}
 use Rattle.fact_ways.specs.declared.fork.Fork.{Fork}
 use Rattle.fact_ways.specs.Ways.{Fits, Goes, AreNested, outermost, way_of, ways_of, all_joined}

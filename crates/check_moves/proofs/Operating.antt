@@ -1,11 +1,11 @@
 -- Operators and conditionals, once all parts were read.
-use Rattle.std.proofs.Common.{◌≡◌, ℕ, suc, Bool, true, false, List, [], ◌∷◌, Option, Some, None, refl, sym, ap, ◌∙◌}
+use Rattle.std.proofs.Common.{◌≡◌, ℕ, true, [], ◌∷◌, Option, Some, None, refl, sym, ap, ◌∙◌}
 use Rattle.js_grammar.specs.Code.{Operator, nullish, or, and, strict_equal, strict_not_equal, loose_equal, loose_not_equal, less, greater, less_or_equal, greater_or_equal, add, subtract, multiply, divide, remainder}
 use Rattle.type_values.specs.declared.types.FlowType.{FlowType}
 use Rattle.type_terms.specs.Join.{join_of}
 use Rattle.flow_facts.specs.declared.place.Place.{Place}
 use Rattle.flow_facts.specs.declared.test.Test as test
-use Rattle.flow_facts.specs.Known.{Known, joined}
+use Rattle.flow_facts.specs.Known.{joined}
 use Rattle.flow_facts.specs.Narrowing.{narrowed}
 use Rattle.refine_flow.specs.Standing.{known}
 use Rattle.check_world.specs.View.{notes_view}

@@ -1,5 +1,5 @@
 -- Functions that are entered and left.
-use Rattle.std.proofs.Common.{◌≡◌, ℕ, suc, arith, Bool, true, false, not, ◌&&◌, if◌then◌else◌, List, [], ◌∷◌, ◌++◌, Option, Some, None, length, take, drop, refl, sym, ap, ◌∙◌, subst}
+use Rattle.std.proofs.Common.{◌≡◌, ℕ, suc, arith, Bool, true, false, not, ◌&&◌, if◌then◌else◌, List, [], ◌++◌, Option, Some, None, take, refl, ap, ◌∙◌, subst}
 use Rattle.std.specs.Option.{option_to_list}
 use Rattle.std.proofs.lemmas.List.{take_all, drop_all}
 use Rattle.type_values.specs.declared.types.FlowType.{FlowType}
@@ -12,18 +12,17 @@ use Rattle.scopes.specs.declared.scope.Scope.{Scope}
 use Rattle.typing.specs.Names as typing
 use Rattle.typing.specs.Names.{is_constant_number}
 use Rattle.check_world.specs.View.{notes_view}
-use Rattle.typing.specs.States.{Now, Env}
 use Rattle.typing.specs.Functions.{kept_facts}
 use Rattle.check_moves.specs.declared.state.State.{State}
 use Rattle.check_moves.specs.declared.functions.Outside.{Outside}
-use Rattle.check_moves.specs.View.{Around, around, now, env, broken_facts}
+use Rattle.check_moves.specs.View.{around, now, env, broken_facts}
 use Rattle.check_moves.specs.Follows.{Follows, IsOutside}
 use Rattle.check_moves.specs.Moves.{function_env, entered_env}
 use Rattle.check_moves.proofs.Following.{heights_twice, follows_scope}
 
--- the facts that a function keeps, by the numbers of constants
-pub kept_constants : (numbers : ℕ → Bool) (scope : typing.Scope) (facts : Known) → ((number : ℕ) → numbers number ≡ is_constant_number scope number) → entered_function numbers facts ≡ kept_facts true scope facts
-kept_constants numbers scope facts alike = ap (λ (test : ℕ → Bool). entered_function test facts) (λ i number. alike number i)
+-- the facts that a function keeps: those on constants
+pub kept_constants : (scope : typing.Scope) (facts inner : Known) → inner ≡ entered_function (is_constant_number scope) facts → inner ≡ kept_facts true scope facts
+kept_constants scope facts inner is = is
 
 -- and none
 pub kept_none : (scope : typing.Scope) (facts : Known) → Some no_facts ≡ kept_facts false scope facts

@@ -1,10 +1,10 @@
 -- Marks before an expression, the last one first.
-use Rattle.std.proofs.Common.{◌≡◌, ◌≤◌, ◌<◌, ◌+◌, ℕ, List, [], ◌∷◌, ◌++◌, length, take, get_or, Option, refl, sym, ap, ◌∙◌, subst, arith}
+use Rattle.std.proofs.Common.{◌≡◌, ◌≤◌, ◌<◌, ◌+◌, ℕ, List, [], ◌∷◌, ◌++◌, length, take, get_or, refl, sym, ap, ◌∙◌, arith}
 use Rattle.std.proofs.lemmas.List.{take_all, take_more}
 use Rattle.js_grammar.specs.Code.{Prefixes, no_prefix, more_prefix}
 use Rattle.code_tree.specs.Flat.{prefix_view, prefixes_from, prefixes_view}
 use Rattle.code_tree.specs.declared.types.PrefixMark.{PrefixMark}
-use Rattle.typing.specs.States.{World, Out, noted_out}
+use Rattle.typing.specs.States.{World, noted_out}
 use Rattle.typing.specs.Forms.{prefix_out, prefixes_out}
 use Rattle.fact_ways.specs.Ways.{Fits}
 use Rattle.check_moves.specs.declared.state.State.{State}

@@ -1,5 +1,5 @@
 -- Ways that left, while what stands inside them is read and ends.
-use Rattle.std.proofs.Common.{◌≡◌, List, [], ◌∷◌, Option, Some, None, refl, sym, ap, ◌∙◌}
+use Rattle.std.proofs.Common.{◌≡◌, List, [], ◌∷◌, Option, Some, None, ◌∙◌}
 use Rattle.fact_ways.specs.declared.fork.Fork.{Fork}
 use Rattle.fact_ways.specs.Ways.{Fits, AreNested, outermost, way_of, ways_of}
 use Rattle.fact_ways.proofs.Marks.{goes_through}

@@ -8,8 +8,8 @@ use Rattle.flow_facts.specs.declared.place.Killed.{Killed}
 use Rattle.typing.specs.Changes.{Change}
 use Rattle.js_grammar.specs.Code.{Binder, Ex}
 use Rattle.typing.specs.Names.{Scope, declares_type, number_at}
-use Rattle.typing.specs.States.{World, Want, Notes, Now, Out, Env, after, now_of, add_fault, add_faults, fault_at, reach, stop, stop_if_dead, dead, returns, with_now, asked_want, change_facts}
-use Rattle.typing.specs.Statements.{Goal, binder_type, declared_env, declared_facts, declared_type, is_shared, returned_bare, returned_value, assigned_env, broken, killed_by, loop_env, target_set, asked_each, first_of, end_of}
+use Rattle.typing.specs.States.{World, Want, Notes, Now, Out, Env, after, add_fault, add_faults, fault_at, reach, stop, stop_if_dead, dead, returns, with_now, asked_want, change_facts}
+use Rattle.typing.specs.Statements.{Goal, binder_type, declared_env, declared_facts, is_shared, returned_bare, returned_value, assigned_env, broken, killed_by, loop_env, target_set, asked_each, first_of, end_of}
 use Rattle.part_steps.specs.Goals.{asked_every}
 use Rattle.type_values.specs.declared.types.FlowType as made
 use Rattle.refine_flow.specs.Standing.{known}

@@ -1,5 +1,5 @@
 -- Variables, properties, indices and calls, once their parts were read.
-use Rattle.std.proofs.Common.{◌≡◌, ℕ, suc, ◌-◌, List, [], ◌∷◌, map, Bool, true, false, Option, Some, None, cond, if◌then◌else◌, refl, sym, ap, ◌∙◌}
+use Rattle.std.proofs.Common.{◌≡◌, ℕ, suc, ◌-◌, List, map, Bool, true, false, Option, Some, None, cond, if◌then◌else◌, refl, sym, ap, ◌∙◌}
 use Rattle.check_values.specs.Rows.{Bytes}
 use Rattle.check_values.specs.declared.codes.Code.{Code}
 use Rattle.type_values.specs.declared.types.FlowType.{FlowType}
@@ -8,7 +8,7 @@ use Rattle.type_terms.specs.Show.{brief}
 use Rattle.flow_facts.specs.declared.place.Place.{Place}
 use Rattle.flow_facts.specs.declared.test.Test.{Test}
 use Rattle.flow_facts.specs.declared.test.Test as test
-use Rattle.flow_facts.specs.Known.{Known, live, without_properties, variable_place, type_at}
+use Rattle.flow_facts.specs.Known.{live, without_properties, variable_place, type_at}
 use Rattle.refine_flow.specs.Standing.{known}
 use Rattle.refine_flow.specs.declared.facts.Facts.{Facts}
 use Rattle.scopes.specs.Rows.{kind_view}
@@ -18,9 +18,9 @@ use Rattle.scopes.specs.declared.binding.Variable.{Variable}
 use Rattle.scopes.specs.declared.binding.Meaning.TheVariants as meaning
 use Rattle.check_world.specs.View.{notes_view}
 use Rattle.typing.specs.Names.{Scope, Binding, Meaning, variable_of, no_variable, meaning_of, has_facts_kind}
-use Rattle.typing.specs.States.{World, Notes, Now, Out, after, on_yes, plainly, change_facts, change_notes, assume, name_fault, fault_at, add_faults}
+use Rattle.typing.specs.States.{World, Now, Out, after, on_yes, plainly, change_facts, change_notes, assume, name_fault, fault_at, add_faults}
 use Rattle.typing.specs.Members.{Arg, Step, levels, property_read, index_read, steps_type, steps_faults}
-use Rattle.typing.specs.Forms.{Args, variable_place_of, maybe_place_out, variable_meant, variable_out, property_out, index_out, call_out, stepped, compared_out, signed_out, number_asked}
+use Rattle.typing.specs.Forms.{variable_place_of, maybe_place_out, variable_meant, variable_out, property_out, index_out, call_out, compared_out, signed_out, number_asked}
 use Rattle.typing.specs.Tests.{assume_on_property}
 use Rattle.place_tests.specs.View.{comparison_view}
 use Rattle.place_tests.specs.declared.comparison.Comparison.{Comparison}

@@ -1,5 +1,5 @@
 -- What ways are, in the words of the definition of typing.
-use Rattle.std.proofs.Common.{◌≡◌, ℕ, Bool, true, false, List, ◌∷◌, Option, Some, None, refl, sym, ap, ◌∙◌, subst}
+use Rattle.std.proofs.Common.{◌≡◌, Bool, true, false, List, ◌∷◌, Option, Some, None, refl, sym, ap, ◌∙◌, subst}
 use Rattle.type_values.specs.declared.types.FlowType.{FlowType}
 use Rattle.type_values.specs.declared.types.FlowType as made
 use Rattle.flow_facts.specs.Known.{Known, joined}
@@ -46,12 +46,10 @@ follows_plain r s none = subst (λ (k : Option Fork). Follows None s k s) (sym n
 -- ---- behind an expression
 
 -- both ways meet
-pub after_met : (r : Read) (k : Fork) (a mid b : State) → now mid ≡ now a → way_of mid.facts k ≡ yes_of r.fork a.facts →
-    now b ≡ record (now mid) { facts = joined (way_of mid.facts k) (known mid.facts) } → now b ≡ after (told r a)
+pub after_both : (r : Read) (a b : State) → now b ≡ record (now a) { facts = joined (yes_of r.fork a.facts) (known a.facts) } → now b ≡ after (told r a)
 unfolding told now
-after_met r k a mid b same way is =
-    is ∙ (λ i. record { facts = joined (way i) (same i).facts; notes = (same i).notes })
-    ∙ ap (λ (f : Known). record { facts = joined (yes_of r.fork a.facts) f; notes = notes_view a.notes }) (sym (falsy_here r.ty r.fork a.facts (notes_view a.notes)))
+after_both r a b is =
+    is ∙ ap (λ (f : Known). record { facts = joined (yes_of r.fork a.facts) f; notes = notes_view a.notes }) (sym (falsy_here r.ty r.fork a.facts (notes_view a.notes)))
 
 -- the truthy one is taken
 pub yes_taken : (r : Read) (k : Fork) (a mid b : State) → now mid ≡ now a → way_of mid.facts k ≡ yes_of r.fork a.facts →

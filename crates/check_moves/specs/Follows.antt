@@ -1,10 +1,8 @@
 -- What stays behind a state: the marks, and the heights of its names.
-use Rattle.std.specs.Prelude.{◌≡◌, List, [], Option, Some, None}
-use Rattle.flow_facts.specs.Known.{Known}
-use Rattle.refine_flow.specs.Standing.{known}
+use Rattle.std.specs.Prelude.{◌≡◌, List, Option, None}
 use Rattle.scopes.specs.View.{IsTop, KeepsHeights}
 use Rattle.fact_ways.specs.declared.fork.Fork.{Fork}
-use Rattle.fact_ways.specs.Ways.{Fits, Goes, Leads, AreNested, outermost, way_of}
+use Rattle.fact_ways.specs.Ways.{Fits, Goes, Leads, AreNested, outermost}
 use Rattle.check_moves.specs.View.{now}
 use Rattle.check_moves.specs.declared.state.State.{State}
 use Rattle.check_moves.specs.declared.functions.Outside.{Outside}

@@ -10,7 +10,7 @@ use Rattle.flow_facts.specs.declared.test.Test as test
 use Rattle.typing.specs.Tests.{assume_on_property}
 use Rattle.flow_facts.specs.Known.{Known}
 use Rattle.typing.specs.Names.{Binding}
-use Rattle.typing.specs.States.{World, Now, Out, Env, no_of, on_yes, on_no, change_facts, assume}
+use Rattle.typing.specs.States.{World, Want, Now, Out, Env, no_of, on_yes, on_no, change_facts, assume}
 use Rattle.typing.specs.Functions.{kept_facts}
 use Rattle.typing.specs.Forms as forms
 use Rattle.fact_ways.specs.Ways.{all_joined, way_of}
@@ -23,6 +23,11 @@ is_plain nullish = false
 is_plain or = false
 is_plain and = false
 is_plain op = true
+
+-- a type is below what it is read against, if that is told
+abbrev pub is_met : World → Want → FlowType → Bool
+is_met w None ty = true
+is_met w (Some want) ty = w.below ty want
 
 -- what the right side of `&&` (true) or `||` is read from
 abbrev pub goes_on : Bool → Out → Now

@@ -10,8 +10,9 @@ ghost use Rattle.fact_ways.specs.Ways.{Fits, AreNested, outermost, ways_of, all_
 
 use crate::state::{Read, State};
 use check_world::World;
-use fact_ways::Fork;
+use fact_ways::{Fork, outermost_live};
 use flow_values::{List, NoMemory};
+use refine_flow::Joins;
 use type_terms::join;
 use type_values::FlowType;
 
@@ -56,7 +57,7 @@ impl State {
     {
         let Chosen { first, ty, fork } = branch;
         let rest = self.after(rest)?;
-        self.meet(fork)?;
+        self.meet(fork, Joins::Made)?;
         let ty = self.join_two(ty, rest)?;
         self.noted(world, first, end, Read { ty, fork: None })
     }
@@ -101,9 +102,11 @@ impl State {
         ensures around { OnOk result (around self.new ≡ around self.old) }
         ensures follows { OnOk result (Follows (outermost (reverse arms.items) None) self.old None self.new) }
     {
+        let outermost = outermost_live(arms.as_slice());
         let mut arms = arms;
         while let Some(arm) = arms.pop() {
-            self.meet(arm)?;
+            let joins = Joins::waiting_if(arms.len() > outermost);
+            self.meet(arm, joins)?;
         }
         Ok(())
     }

@@ -7,10 +7,11 @@ ghost use Rattle.refine_flow.specs.Standing.{known};
 ghost use Rattle.scopes.specs.Rows.{binding_view};
 ghost use Rattle.scopes.specs.View.{scope_view, names_at, IsTop, KeepsHeights};
 ghost use Rattle.typing.specs.Functions.{kept_facts};
+ghost use Rattle.typing.specs.Names.{is_constant_number};
 
 use crate::state::State;
 use flow_values::{List, NoMemory};
-use refine_flow::Facts;
+use refine_flow::{Facts, Keeps};
 use scopes::{Binding, Height, Scope};
 use std::mem;
 use type_values::FlowType;
@@ -25,6 +26,20 @@ pub struct Outside {
     pub returned: List<FlowType>,
     pub breaks: Option<Facts>,
     pub stopped: bool,
+}
+
+// The constants of a scope, which keep their facts in a function inside.
+#[derive(Drop)]
+struct Constants<'a> {
+    scope: &'a Scope,
+}
+
+impl<'a> Keeps for Constants<'a> {
+    ghost kept = { λ constants number. is_constant_number (scope_view constants.scope.now) number };
+
+    fn keeps(&self, binding: u32) -> bool {
+        self.scope.is_constant(binding)
+    }
 }
 
 // Goes back to the names of a height, in a function at a depth that is to return a type.
@@ -51,9 +66,7 @@ impl State {
         if !keeps {
             return Ok(Facts::new(self.alloc));
         }
-        let mut facts = self.facts.copy()?;
-        facts.enter_function(self.scope.constants());
-        Ok(facts)
+        self.facts.inner(&Constants { scope: &self.scope })
     }
 
     // Binds the name of a function expression round its scope, if it has one.

@@ -19,6 +19,7 @@ use flow_facts::{Place, Test};
 use flow_values::{List, NoMemory};
 use narrowing::narrow;
 use part_steps::operator_type;
+use refine_flow::Joins;
 use type_terms::join;
 use type_values::FlowType;
 
@@ -182,7 +183,7 @@ impl State {
         ensures follows { IfOk result (λ r. Follows (Some fork) self.old r.fork self.new) }
     {
         let right = self.after(right)?;
-        self.meet(fork)?;
+        self.meet(fork, Joins::Made)?;
         let ty = self.left_or(world, left, &Test::NotNullish, right)?;
         Ok(Read { ty, fork: None })
     }

@@ -7,8 +7,9 @@ ghost use Rattle.refine_flow.specs.Standing.{known};
 ghost use Rattle.fact_ways.specs.Ways.{Fits, AreNested, outermost, way_of, ways_of, yes_of, all_joined};
 
 use crate::state::State;
-use fact_ways::{Fork, meet, meet_all, split, stand, swap, take};
+use fact_ways::{Fork, meet, meet_all, meet_same, split, stand, swap, take};
 use flow_values::NoMemory;
+use refine_flow::Joins;
 
 impl State {
     ghost use Rattle.check_moves.specs.View.{around, now};
@@ -64,15 +65,39 @@ impl State {
         take(&mut self.facts, fork)
     }
 
-    // The way of the arm meets the one that went on.
+    // The way of the arm meets the one that went on. Joins may wait for those with a way around.
     #[tactic(auto, using(crate::proofs::Following::follows_facts), unfolding(crate::specs::View::around, crate::specs::View::now))]
-    pub(crate) fn meet(&mut self, fork: Fork) -> Result<(), NoMemory>
+    pub(crate) fn meet(&mut self, fork: Fork, joins: Joins) -> Result<(), NoMemory>
         requires { Fits (Some fork) self.old.facts }
         ensures now { OnOk result (now self.new ≡ record (now self.old) { facts = joined (way_of self.old.facts fork) (known self.old.facts) }) }
         ensures around { OnOk result (around self.new ≡ around self.old) }
         ensures follows { OnOk result (Follows (Some fork) self.old None self.new) }
     {
-        meet(&mut self.facts, fork)
+        meet(&mut self.facts, fork, joins)
+    }
+
+    // The facts meet themselves, as two ways do that are the same.
+    #[tactic(auto, using(crate::proofs::Following::follows_facts), unfolding(crate::specs::View::around, crate::specs::View::now))]
+    pub(crate) fn meet_same(&mut self) -> Result<(), NoMemory>
+        ensures now { OnOk result (now self.new ≡ record (now self.old) { facts = joined (known self.old.facts) (known self.old.facts) }) }
+        ensures around { OnOk result (around self.new ≡ around self.old) }
+        ensures follows { OnOk result (Follows None self.old None self.new) }
+    {
+        meet_same(&mut self.facts)
+    }
+
+    // The ways behind an expression meet, be they the same or not.
+    #[tactic(auto, unfolding(crate::specs::View::around, crate::specs::View::now))]
+    pub(crate) fn meet_both(&mut self, fork: Option<Fork>) -> Result<(), NoMemory>
+        requires { Fits fork self.old.facts }
+        ensures now { OnOk result (now self.new ≡ record (now self.old) { facts = joined (yes_of fork self.old.facts) (known self.old.facts) }) }
+        ensures around { OnOk result (around self.new ≡ around self.old) }
+        ensures follows { OnOk result (Follows fork self.old None self.new) }
+    {
+        match fork {
+            Some(fork) => self.meet(fork, Joins::Made),
+            None => self.meet_same(),
+        }
     }
 
     // Ways that left before all meet the one that went on, the last one first; the arm stays what it is.

@@ -8,10 +8,12 @@ ghost use Rattle.flow_facts.specs.Known.{no_facts};
 ghost use Rattle.refine_flow.specs.Standing.{open_marks};
 ghost use Rattle.typing.specs.States.{after, plainly, against, noted_out};
 ghost use Rattle.fact_ways.specs.Ways.{Fits};
+ghost use Rattle.check_moves.specs.Moves.{is_met};
 
 use check_world::{Notes, World};
 use fact_ways::Fork;
 use flow_values::{List, NoMemory};
+use plainly_below::is_below;
 use refine_flow::Facts;
 use scopes::Scope;
 use std::alloc::Global;
@@ -35,6 +37,17 @@ pub struct State {
     pub notes: Notes,
     pub returned: List<FlowType>,
     pub breaks: Option<Facts>,
+}
+
+// Whether a type is below what it is read against, if that is told.
+#[tactic(auto, unfolding(check_world::specs::View::world_view))]
+fn is_met(world: &World<'_>, want: Option<&FlowType>, ty: &FlowType) -> Result<bool, NoMemory>
+    ensures { IfOk result (λ yes. yes ≡ is_met (world_view world.now) (option_copied want.entry) ty.now) }
+{
+    match want {
+        Some(want) => is_below(world.alloc, world.table, ty, want),
+        None => Ok(true),
+    }
 }
 
 impl State {
@@ -71,7 +84,7 @@ impl State {
     /// # Errors
     ///
     /// `NoMemory` where memory is refused.
-    #[tactic(auto, using(crate::proofs::Ways::after_met, crate::proofs::Following::follows_through), unfolding(crate::specs::View::around, crate::specs::View::now, crate::specs::View::told))]
+    #[tactic(auto, using(crate::proofs::Ways::after_both), unfolding(crate::specs::View::around, crate::specs::View::now, crate::specs::View::told))]
     pub fn after(&mut self, read: Read) -> Result<FlowType, NoMemory>
         requires { Fits read.fork self.old.facts }
         ensures now { OnOk result (now self.new ≡ after (told read self.old)) }
@@ -80,8 +93,7 @@ impl State {
         ensures follows { OnOk result (Follows read.fork self.old None self.new) }
     {
         let Read { ty, fork } = read;
-        let fork = self.split(fork)?;
-        self.meet(fork)?;
+        self.meet_both(fork)?;
         Ok(ty)
     }
 
@@ -112,7 +124,7 @@ impl State {
     /// # Errors
     ///
     /// `NoMemory` where memory is refused.
-    #[tactic(auto, using(crate::proofs::Following::follows_notes), unfolding(crate::specs::View::around, crate::specs::View::now, crate::specs::View::told))]
+    #[tactic(auto, using(crate::proofs::Following::follows_notes, crate::proofs::Wanted::met_stays), unfolding(crate::specs::View::around, crate::specs::View::now, crate::specs::View::told))]
     pub fn against(
         &mut self,
         world: &World<'_>,
@@ -126,6 +138,9 @@ impl State {
         ensures around { OnOk result (around self.new ≡ around self.old) }
         ensures follows { IfOk result (λ r. Follows read.fork self.old r.fork self.new) }
     {
+        if is_met(world, want, &read.ty)? {
+            return Ok(read);
+        }
         self.notes.ask_want(world, first, end, want, &read.ty)?;
         Ok(read)
     }

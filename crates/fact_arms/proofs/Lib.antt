@@ -4,3 +4,4 @@ pub mod Listing
 pub mod Making
 pub mod Meeting
 pub mod Between
+pub mod Taking

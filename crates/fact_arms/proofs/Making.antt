@@ -6,6 +6,7 @@ use Rattle.fact_trail.specs.declared.fact.Fact.{Fact}
 use Rattle.fact_trail.specs.declared.trail.Trail.{Trail}
 use Rattle.fact_trail.specs.declared.slot.Slot.TheVariants.{Variable, Property}
 use Rattle.fact_trail.specs.declared.slot.Slot.{Slot}
+use Rattle.fact_trail.specs.Types.{ty_of}
 use Rattle.fact_trail.specs.Slots.{Map, at_slot, is_slot, is_property}
 use Rattle.fact_trail.specs.Moments.{map_of, KeepsMoments, IsNew, Adds, Drops}
 use Rattle.fact_trail.proofs.Same.{same_slot}
@@ -17,7 +18,7 @@ use Rattle.fact_arms.specs.Joining.{said_at}
 -- ---- one slot
 
 -- a fact of the same type
-pub given_fact : (slot : Slot) (fact own : Fact) (m n : Map) → own.ty ≡ fact.ty → n ≡ at_slot slot (Some own) m → SameTypes n (at_slot slot (Some fact) m)
+pub given_fact : (slot : Slot) (fact own : Fact) (m n : Map) → ty_of own ≡ ty_of fact → n ≡ at_slot slot (Some own) m → SameTypes n (at_slot slot (Some fact) m)
 given_fact slot fact own m n ty made s = ap (λ (l : Map). type_of (l s)) made ∙ at (is_slot slot s)
   where
     at : (t : Bool) → type_of (if t then Some own else m s) ≡ type_of (if t then Some fact else m s)
@@ -50,7 +51,7 @@ left_none d slot s fact says leaves is =
     ap is_some (sym (ap (λ o. said_else o None) (ap (said_of d) (sym (same_slot slot s is)) ∙ says)) ∙ leaves)
 
 -- the same, whatever the result
-pub given_at : {T E : Type 0} (r : Result T E) (slot : Slot) (fact own : Fact) (m n : Map) → own.ty ≡ fact.ty → OnOk r (n ≡ at_slot slot (Some own) m) → OnOk r (SameTypes n (at_slot slot (Some fact) m))
+pub given_at : {T E : Type 0} (r : Result T E) (slot : Slot) (fact own : Fact) (m n : Map) → ty_of own ≡ ty_of fact → OnOk r (n ≡ at_slot slot (Some own) m) → OnOk r (SameTypes n (at_slot slot (Some fact) m))
 given_at (Ok x) slot fact own m n ty made = given_fact slot fact own m n ty made
 given_at (Err x) slot fact own m n ty made = tt
 
@@ -61,8 +62,15 @@ pub put_at : {T E : Type 0} (r : Result T E) (slot : Slot) (fact : Option Fact) 
 put_at (Ok x) slot fact f m n there made = λ s. made s ∙ (λ i. type_of (if is_slot slot s then sym there i else m s))
 put_at (Err x) slot fact f m n there made = tt
 
+pub put_own : {T E : Type 0} (r : Result T E) (slot : Slot) (fact : Option Fact) (f : Fact) (m n : Map) → fact ≡ Some f → OnOk r (n ≡ at_slot slot (Some f) m) → OnOk r (n ≡ at_slot slot fact m)
+put_own (Ok x) slot fact f m n there made = made ∙ ap (λ o. at_slot slot o m) (sym there)
+put_own (Err x) slot fact f m n there made = tt
+
+pub removed_own : (slot : Slot) (fact : Option Fact) (old new : Trail) → fact ≡ None → Drops (is_slot slot) old new → map_of new ≡ at_slot slot fact (map_of old)
+removed_own slot fact old new none drops = drops.facts ∙ (λ i s. if is_slot slot s then sym none i else map_of old s)
+
 pub removed_at : (slot : Slot) (fact : Option Fact) (old new : Trail) → fact ≡ None → Drops (is_slot slot) old new → SameTypes (map_of new) (at_slot slot fact (map_of old))
-removed_at slot fact old new none drops s = ap (λ (m : Map). type_of (m s)) drops.facts ∙ (λ i. type_of (if is_slot slot s then sym none i else map_of old s))
+removed_at slot fact old new none drops s = ap (λ (m : Map). type_of (m s)) (removed_own slot fact old new none drops)
 
 pub made_said : {T E : Type 0} (r : Result T E) (d : Difference) (slot : Slot) (fact : Option Fact) (m n : Map) → said_of d slot ≡ Some fact → OnOk r (SameTypes n (at_slot slot fact m)) → OnOk r (SameTypes n (said_at d slot m))
 made_said (Ok x) d slot fact m n says made = λ s. made s ∙ ap type_of (made_at d slot fact m says s)

@@ -18,13 +18,13 @@ use Rattle.fact_arms.specs.Differences.{said_else, said_of, is_said, is_gone, ov
 
 -- ---- no rows
 
-wrong : false ≡ true → ⊥
+pub wrong : false ≡ true → ⊥
 wrong both = cc
 
 pub none_in : {K X : Type 0} (cmp : K → K → Ordering) (rows : BTreeMap K X) → rows.entries ≡ [] → (k : K) → get cmp rows k ≡ None
 none_in {K} {X} cmp rows empty k = ap (lookup (is_at (cmp k))) empty
 
-no_entries : {K X : Type 0} (rows : BTreeMap K X) → (0 < btree_map_len rows → ⊥) → rows.entries ≡ []
+pub no_entries : {K X : Type 0} (rows : BTreeMap K X) → (0 < btree_map_len rows → ⊥) → rows.entries ≡ []
 no_entries {K} {X} rows none = at rows.entries refl
   where
     at : (es : List (K × X)) → rows.entries ≡ es → rows.entries ≡ []

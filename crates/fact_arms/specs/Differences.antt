@@ -3,7 +3,7 @@ use Rattle.std.specs.Prelude.{ℕ, ◌≡◌, ◌≤◌, ◌+◌, Bool, false, L
 use Rattle.std.specs.List.{list_any}
 use Rattle.std.specs.Option.{is_some, option_map}
 use Rattle.std.specs.Ordering.{nat_cmp}
-use Rattle.std.specs.BTreeMap.{BTreeMap, get}
+use Rattle.std.specs.BTreeMap.{BTreeMap, get, btree_map_len}
 use Rattle.type_values.specs.declared.types.FlowType.{FlowType}
 use Rattle.fact_trail.specs.declared.fact.Fact.{Fact}
 use Rattle.fact_trail.specs.declared.trail.Trail.{Trail}
@@ -11,6 +11,7 @@ use Rattle.fact_trail.specs.declared.trail.Change.{Change}
 use Rattle.fact_trail.specs.declared.slot.Slot.TheVariants.{Variable, Property}
 use Rattle.fact_trail.specs.declared.slot.Key.{Key}
 use Rattle.fact_trail.specs.declared.slot.Slot.{Slot}
+use Rattle.fact_trail.specs.Types.{ty_of}
 use Rattle.fact_trail.specs.Slots.{Map, key_cmp, is_slot}
 use Rattle.fact_trail.specs.Moments.{map_of, before, KeepsMoments, IsNew}
 use Rattle.fact_arms.specs.declared.difference.Difference.{Difference}
@@ -27,6 +28,10 @@ said_of d (Property k) = get key_cmp d.properties k
 
 abbrev pub is_said : Difference → Slot → Bool
 is_said d s = is_some (said_of d s)
+
+-- of how many slots something is said
+abbrev pub count_of : Difference → ℕ
+count_of d = btree_map_len d.variables + btree_map_len d.properties
 
 -- the slot has no fact unless something is said of it
 abbrev pub is_gone : Difference → Slot → Bool
@@ -58,7 +63,7 @@ Leaves s d = said_else (said_of d s) None ≡ None
 
 -- the type of a fact, if there is one
 abbrev pub type_of : Option Fact → Option FlowType
-type_of fact = option_map (λ f. f.ty) fact
+type_of fact = option_map ty_of fact
 
 -- the same types at all slots
 abbrev pub SameTypes : Map → Map → Type 0

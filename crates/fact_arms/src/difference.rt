@@ -1,6 +1,6 @@
 //! What facts became since an earlier moment.
-ghost use Rattle.std.specs.Prelude.{◌≡◌, ◌||◌, false, None, Some, OnOk, IfOk, if◌then◌else◌};
-ghost use Rattle.std.specs.Option.{option_copied};
+ghost use Rattle.std.specs.Prelude.{◌≡◌, ◌||◌, ◌<◌, false, None, Some, OnOk, IfOk, if◌then◌else◌};
+ghost use Rattle.std.specs.Option.{option_copied, IfSome, IfNone};
 ghost use Rattle.fact_trail.specs.declared.slot.Slot.TheVariants.{Variable, Property};
 ghost use Rattle.fact_trail.specs.declared.slot.Slot.{Slot};
 ghost use Rattle.fact_trail.specs.Slots.{Map, at_slot, is_slot};
@@ -29,7 +29,7 @@ pub(crate) fn either(a: bool, b: bool) -> bool
 }
 
 impl Difference {
-    ghost use Rattle.fact_arms.specs.Differences.{over, said_of, is_said, is_gone, with_variables, with_keys, before_last};
+    ghost use Rattle.fact_arms.specs.Differences.{over, count_of, said_of, is_said, is_gone, with_variables, with_keys, before_last};
 
     // Nothing is said.
     #[tactic(auto, using(crate::proofs::Over::nothing_said))]
@@ -86,11 +86,68 @@ impl Difference {
         Ok(())
     }
 
+    // Takes out what is said of a slot.
+    pub(crate) fn take_said(&mut self, slot: Slot) -> Option<Option<Fact>>
+        ensures was { result ≡ said_of self.old slot }
+        ensures said { (s : Slot) → said_of self.new s ≡ (if is_slot slot s then None else said_of self.old s) }
+        ensures gone { self.new.no_properties ≡ self.old.no_properties }
+    {
+        match slot {
+            Slot::Variable(binding) => self.take_variable(binding),
+            Slot::Property(key) => self.take_property(key),
+        }
+    }
+
+    // Takes out what is said of a variable.
+    #[tactic(auto, using(crate::proofs::Taking::popped_variable_row))]
+    fn take_variable(&mut self, binding: u32) -> Option<Option<Fact>>
+        ensures was { result ≡ said_of self.old (Variable binding) }
+        ensures said { (s : Slot) → said_of self.new s ≡ (if is_slot (Variable binding) s then None else said_of self.old s) }
+        ensures gone { self.new.no_properties ≡ self.old.no_properties }
+    {
+        self.variables.remove(&binding)
+    }
+
+    // Takes out what is said of a property.
+    #[tactic(auto, using(crate::proofs::Taking::taken_key_row))]
+    fn take_property(&mut self, key: Key) -> Option<Option<Fact>>
+        ensures was { result ≡ said_of self.old (Property key) }
+        ensures said { (s : Slot) → said_of self.new s ≡ (if is_slot (Property key) s then None else said_of self.old s) }
+        ensures gone { self.new.no_properties ≡ self.old.no_properties }
+    {
+        self.properties.remove(&key)
+    }
+
+    // Takes out what is said of one of the slots.
+    #[tactic(auto, using(crate::proofs::Taking::popped_variable_row, crate::proofs::Taking::popped_key_row, crate::proofs::Taking::none_left))]
+    pub(crate) fn pop(&mut self) -> Option<(Slot, Option<Fact>)>
+        ensures none { IfNone result ((s : Slot) → said_of self.old s ≡ None) }
+        ensures was { IfSome result (λ row. said_of self.old row.0 ≡ Some row.1) }
+        ensures said { IfSome result (λ row. (s : Slot) → said_of self.new s ≡ (if is_slot row.0 s then None else said_of self.old s)) }
+        ensures gone { self.new.no_properties ≡ self.old.no_properties }
+        ensures fewer { IfSome result (λ row. count_of self.new < count_of self.old) }
+    {
+        if let Some((binding, fact)) = self.variables.pop_first() {
+            return Some((Slot::Variable(binding), fact));
+        }
+        match self.properties.pop_first() {
+            Some((key, fact)) => Some((Slot::Property(key), fact)),
+            None => None,
+        }
+    }
+
+    // Whether something is said of a slot.
+    pub(crate) fn says(&self, slot: Slot) -> bool
+        ensures { result ≡ is_said self.now slot }
+    {
+        self.said(slot).is_some()
+    }
+
     // Whether it makes no difference what a slot had before.
     fn settles(&self, slot: Slot) -> bool
         ensures { result ≡ (is_said self.now slot || is_gone self.now slot) }
     {
-        self.said(slot).is_some() || self.drops(slot)
+        self.says(slot) || self.drops(slot)
     }
 
     // Whether a slot is a property, where all of them have no fact.

@@ -8,4 +8,4 @@ mod slots;
 mod trails;
 
 pub use difference::Difference;
-pub use joining::meet;
+pub use joining::{Joins, meet};

@@ -15,23 +15,39 @@ use std::alloc::Global;
 
 // Gives a slot a fact that equals this one.
 #[tactic(auto, using(crate::proofs::Making::adds_nothing))]
-fn put_shared(trail: &mut Trail, slot: Slot, fact: &Fact) -> Result<(), NoMemory>
+fn put_shared(alloc: Global, trail: &mut Trail, slot: Slot, fact: &Fact) -> Result<(), NoMemory>
     ensures made { OnOk result (SameTypes (map_of trail.new) (at_slot slot (Some fact.now) (map_of trail.old))) }
     ensures adds { Adds slot trail.old trail.new }
 {
-    let own = fact.share()?;
+    let own = fact.share(alloc)?;
     trail.put(slot, own)
 }
 
 // Gives a slot a fact that equals this one, or none.
-fn give(trail: &mut Trail, slot: Slot, fact: &Option<Fact>) -> Result<(), NoMemory>
+fn give(alloc: Global, trail: &mut Trail, slot: Slot, fact: &Option<Fact>) -> Result<(), NoMemory>
     ensures made { OnOk result (SameTypes (map_of trail.new) (at_slot slot fact.now (map_of trail.old))) }
     ensures longer { length trail.old.changes.items ≤ length trail.new.changes.items }
     ensures moments { KeepsMoments (length trail.old.changes.items) trail.old trail.new }
     ensures fresh { (s : Slot) → (is_slot slot s ≡ true → is_some fact.now ≡ false) → IsNew s trail.old → IsNew s trail.new }
 {
     match fact {
-        Some(fact) => put_shared(trail, slot, fact),
+        Some(fact) => put_shared(alloc, trail, slot, fact),
+        None => {
+            trail.remove(slot);
+            Ok(())
+        }
+    }
+}
+
+// Gives a slot this fact, or none.
+fn give_own(trail: &mut Trail, slot: Slot, fact: Option<Fact>) -> Result<(), NoMemory>
+    ensures made { OnOk result (map_of trail.new ≡ at_slot slot fact (map_of trail.old)) }
+    ensures longer { length trail.old.changes.items ≤ length trail.new.changes.items }
+    ensures moments { KeepsMoments (length trail.old.changes.items) trail.old trail.new }
+    ensures fresh { (s : Slot) → (is_slot slot s ≡ true → is_some fact ≡ false) → IsNew s trail.old → IsNew s trail.new }
+{
+    match fact {
+        Some(fact) => trail.put(slot, fact),
         None => {
             trail.remove(slot);
             Ok(())
@@ -81,7 +97,7 @@ impl Difference {
         ensures goes { Goes self.now trail.old trail.new }
     {
         match self.said(slot) {
-            Some(fact) => give(trail, slot, fact),
+            Some(fact) => give(self.alloc, trail, slot, fact),
             None => Ok(()),
         }
     }
@@ -115,6 +131,23 @@ impl Difference {
         Ok(())
     }
 
+    /// Makes these changes on a trail, each fact moved to it.
+    ///
+    /// # Errors
+    ///
+    /// `NoMemory` where memory is refused. Some changes may be made then.
+    pub fn move_to(self, trail: &mut Trail) -> Result<(), NoMemory>
+        ensures made { OnOk result ((s : Slot) → map_of trail.new s ≡ over self (map_of trail.old) s) }
+        ensures goes { Goes self trail.old trail.new }
+    {
+        let mut rest = self;
+        rest.make_gone(trail);
+        while let Some((slot, fact)) = rest.pop() {
+            give_own(trail, slot, fact)?;
+        }
+        Ok(())
+    }
+
     /// What the facts of a trail became from one number of changes to a later one. The facts have the
     /// same types afterwards.
     ///
@@ -140,7 +173,7 @@ impl Difference {
         let since = Difference::take(alloc, trail, second)?;
         let between = Difference::take(alloc, trail, first)?;
         between.make(trail)?;
-        since.make(trail)?;
+        since.move_to(trail)?;
         Ok(between)
     }
 }

@@ -4,3 +4,4 @@ pub mod Firsts
 pub mod Kept
 pub mod Dropped
 pub mod Changes
+pub mod Waiting

@@ -1,10 +1,10 @@
 -- A type that is no union is its own join with itself.
-use Rattle.std.proofs.Common.{◌≡◌, Bool, true, false, List, [], ◌∷◌, ◌++◌, ◌||◌, if◌then◌else◌, refl, sym, ap, ◌∙◌, subst}
+use Rattle.std.proofs.Common.{◌≡◌, Bool, true, false, List, [], ◌∷◌, ◌||◌, if◌then◌else◌, refl, sym, ap, ◌∙◌, subst}
 use Rattle.std.proofs.lemmas.List.{append-nil}
 use Rattle.type_values.specs.declared.types.FlowType.{FlowType, out-FlowType, roll-out-FlowType}
 use Rattle.type_values.specs.declared.types.FlowType as made
-use Rattle.type_values.specs.declared.types.FlowType.TheOpen.{FlowType-F, Any, Empty, Union}
-use Rattle.type_values.specs.declared.types.FlowType.TheViews.{roll-FlowType, rolls-Any, rolls-Empty, rolls-Union}
+use Rattle.type_values.specs.declared.types.FlowType.TheOpen.{FlowType-F, Any}
+use Rattle.type_values.specs.declared.types.FlowType.TheViews.{roll-FlowType, rolls-Any}
 use Rattle.type_values.specs.declared.types.FlowProp.{FlowProp}
 use Rattle.type_values.specs.declared.types.Param.{Param}
 use Rattle.type_terms.specs.Join.{parts, level_is_any, is_any, firsts, one_of, joined_parts, join_of}

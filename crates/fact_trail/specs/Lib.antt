@@ -1,3 +1,5 @@
 pub mod Slots
 pub mod Rows
 pub mod Moments
+pub mod Holding
+pub mod Types

@@ -1,17 +1,23 @@
 //! Facts.
-ghost use Rattle.std.specs.Prelude.{◌≡◌, [], ◌∷◌, false, IfOk};
+ghost use Rattle.std.specs.Prelude.{◌≡◌, [], ◌∷◌, false, IfOk, reverse};
 ghost use Rattle.type_terms.specs.Join.{join_of};
+ghost use Rattle.fact_trail.specs.Holding.{type_held};
 
-use flow_values::NoMemory;
+use flow_values::{List, NoMemory};
+use std::alloc::Global;
+use type_terms::join;
 use type_values::FlowType;
 
 /// The type that is known of a place. A type that is not `rough` is its own join with itself, so that
-/// joining facts leaves it as it is.
+/// joining facts leaves it as it is. A join may wait until it is asked for, so that many joins of one
+/// place are made at once.
 #[derive(Drop)]
 pub struct Fact {
     ty: FlowType,
+    // The types with which it is to be joined, those in front of it, the first one last.
+    waiting: List<FlowType>,
     rough: bool,
-    ghost settled: { rough ≡ false → join_of (ty ∷ ty ∷ []) ≡ ty },
+    ghost settled: { rough ≡ false → join_of (type_held ty waiting ∷ type_held ty waiting ∷ []) ≡ type_held ty waiting },
 }
 
 // Whether a type may be another than its join with itself.
@@ -26,28 +32,90 @@ fn may_change(t: &FlowType) -> bool
     }
 }
 
+// Types from the last one on.
+#[tactic(auto, using(crate::proofs::Waiting::reversed_none, crate::proofs::Waiting::reversed_more))]
+fn reversed(alloc: Global, types: &[FlowType]) -> Result<List<FlowType>, NoMemory>
+    ensures { IfOk result (λ all. all ≡ reverse types.now) }
+{
+    let mut all = List::new(alloc);
+    let mut left = types.len();
+    while left > 0 {
+        left -= 1;
+        all.push(types[left].share()?)?;
+    }
+    Ok(all)
+}
+
 impl Fact {
+    ghost use Rattle.fact_trail.specs.Types.{ty_of};
+
     /// The fact of a type that is its own join with itself, as each join is.
-    pub fn settled(ty: FlowType) -> Fact
+    #[tactic(auto, using(crate::proofs::Waiting::held_alone, crate::proofs::Waiting::settled_alone))]
+    pub fn settled(alloc: Global, ty: FlowType) -> Fact
         requires { join_of (ty ∷ ty ∷ []) ≡ ty }
-        ensures { result.ty ≡ ty }
+        ensures { ty_of result ≡ ty }
     {
-        Fact { ty, rough: false }
+        Fact {
+            ty,
+            waiting: List::new(alloc),
+            rough: false,
+        }
     }
 
     /// The fact of any type.
-    pub fn of(ty: FlowType) -> Fact
-        ensures { result.ty ≡ ty }
+    #[tactic(auto, using(crate::proofs::Waiting::held_alone, crate::proofs::Waiting::settled_alone))]
+    pub fn of(alloc: Global, ty: FlowType) -> Fact
+        ensures { ty_of result ≡ ty }
     {
         let rough = may_change(&ty);
-        Fact { ty, rough }
+        Fact {
+            ty,
+            waiting: List::new(alloc),
+            rough,
+        }
     }
 
-    /// The type.
-    pub fn ty(&self) -> &FlowType
-        ensures { result.now ≡ self.now.ty }
+    /// The fact of the join of a type and that of a fact, which waits until it is asked for. It takes
+    /// one step.
+    ///
+    /// # Errors
+    ///
+    /// `NoMemory` where memory is refused.
+    #[tactic(auto, using(crate::proofs::Waiting::waits_in_front, crate::proofs::Waiting::waits_settled))]
+    pub fn waiting(first: FlowType, rest: Fact) -> Result<Fact, NoMemory>
+        ensures ty { IfOk result (λ fact. ty_of fact ≡ join_of (first ∷ ty_of rest ∷ [])) }
+        ensures rough { IfOk result (λ fact. fact.rough ≡ false) }
     {
-        &self.ty
+        let Fact {
+            ty,
+            waiting,
+            rough: _,
+        } = rest;
+        let mut more = waiting;
+        more.push(first)?;
+        Ok(Fact {
+            ty,
+            waiting: more,
+            rough: false,
+        })
+    }
+
+    /// The type, which is shared, or the join that waits, which is made.
+    ///
+    /// # Errors
+    ///
+    /// `NoMemory` where memory is refused, or a part of the type has 2^63 - 1 owners.
+    #[tactic(auto, using(crate::proofs::Waiting::held_alone, crate::proofs::Waiting::held_all))]
+    pub fn ty(&self, alloc: Global) -> Result<FlowType, NoMemory>
+        ensures { IfOk result (λ ty. ty ≡ ty_of self.now) }
+    {
+        let last = self.ty.share()?;
+        if self.waiting.is_empty() {
+            return Ok(last);
+        }
+        let mut all = reversed(alloc, self.waiting.as_slice())?;
+        all.push(last)?;
+        join(alloc, all.as_slice())
     }
 
     /// Whether joining it with itself may change it.
@@ -57,17 +125,20 @@ impl Fact {
         self.rough
     }
 
-    /// An equal fact, which shares the type.
+    /// A fact of the same type, in which no join waits.
     ///
     /// # Errors
     ///
-    /// `NoMemory` where a part of the type has 2^63 - 1 owners.
-    pub fn share(&self) -> Result<Fact, NoMemory>
-        ensures ty { IfOk result (λ fact. fact.ty ≡ self.now.ty) }
+    /// `NoMemory` where memory is refused, or a part of the type has 2^63 - 1 owners.
+    #[tactic(auto, using(crate::proofs::Waiting::held_alone, crate::proofs::Waiting::settled_shared))]
+    pub fn share(&self, alloc: Global) -> Result<Fact, NoMemory>
+        ensures ty { IfOk result (λ fact. ty_of fact ≡ ty_of self.now) }
         ensures rough { IfOk result (λ fact. fact.rough ≡ self.now.rough) }
     {
+        let ty = self.ty(alloc)?;
         Ok(Fact {
-            ty: self.ty.share()?,
+            ty,
+            waiting: List::new(alloc),
             rough: self.rough,
         })
     }

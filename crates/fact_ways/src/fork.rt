@@ -5,7 +5,7 @@ ghost use Rattle.refine_flow.specs.Standing.{known, known_over};
 ghost use Rattle.fact_ways.specs.Ways.{Fits, Leads, yes_of};
 
 use flow_values::NoMemory;
-use refine_flow::{Arm, Facts, Mark};
+use refine_flow::{Arm, Facts, Joins, Mark};
 
 /// Two ways from a mark: what the facts are on one of them, as an arm; on the other one they are the
 /// facts as they stand.
@@ -79,17 +79,35 @@ pub fn take(facts: &mut Facts, fork: Fork) -> Result<(), NoMemory>
     Ok(())
 }
 
-/// Goes on where both ways go on, that of the arm first.
+/// Goes on where the facts meet themselves, as two ways do that are the same.
 ///
 /// # Errors
 ///
 /// `NoMemory` where memory is refused.
-pub fn meet(facts: &mut Facts, fork: Fork) -> Result<(), NoMemory>
+pub fn meet_same(facts: &mut Facts) -> Result<(), NoMemory>
+    ensures facts { OnOk result (known facts.new ≡ joined (known facts.old) (known facts.old)) }
+    ensures leads { OnOk result (Leads None facts.old None facts.new) }
+{
+    if facts.is_smooth() {
+        return Ok(());
+    }
+    let fork = stand(facts)?;
+    meet(facts, fork, Joins::Made)?;
+    Ok(())
+}
+
+/// Goes on where both ways go on, that of the arm first. The joins of types may wait for those with a
+/// way around.
+///
+/// # Errors
+///
+/// `NoMemory` where memory is refused.
+pub fn meet(facts: &mut Facts, fork: Fork, joins: Joins) -> Result<(), NoMemory>
     requires { Fits (Some fork) facts.old }
     ensures facts { OnOk result (known facts.new ≡ joined (known_over fork.mark fork.arm facts.old) (known facts.old)) }
     ensures leads { OnOk result (Leads (Some fork) facts.old None facts.new) }
 {
-    facts.join_arm(&fork.mark, &fork.arm)?;
+    facts.join_arm(&fork.mark, &fork.arm, joins)?;
     facts.spend(fork.mark);
     Ok(())
 }

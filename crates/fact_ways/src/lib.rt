@@ -4,5 +4,5 @@
 mod fork;
 mod nested;
 
-pub use fork::{Fork, meet, split, stand, swap, take};
-pub use nested::{meet_all, meet_way};
+pub use fork::{Fork, meet, meet_same, split, stand, swap, take};
+pub use nested::{meet_all, meet_way, outermost_live};

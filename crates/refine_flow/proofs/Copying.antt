@@ -1,10 +1,11 @@
 -- Copies of facts, and joining with others place by place.
-use Rattle.std.proofs.Common.{◌≡◌, ℕ, Bool, true, false, List, [], Some, None, Result, Ok, Err, OnOk, refl, sym, ap, ◌∙◌, subst, if◌then◌else◌}
+use Rattle.std.proofs.Common.{◌≡◌, ℕ, Bool, true, false, List, [], Option, Some, None, Result, Ok, Err, OnOk, refl, sym, ap, ◌∙◌, subst, if◌then◌else◌}
 use Rattle.std.specs.Option.{is_some}
+use Rattle.type_values.specs.declared.types.FlowType.{FlowType}
 use Rattle.fact_trail.specs.declared.slot.Slot.TheVariants.{Variable, Property}
 use Rattle.fact_trail.specs.declared.slot.Key.{Key}
 use Rattle.fact_trail.specs.Moments.{map_of}
-use Rattle.flow_facts.specs.Known.{Map, Known, no_facts, both, joined, entered_function, variable_place, property_place}
+use Rattle.flow_facts.specs.Known.{Map, Known, no_facts, both, joined, variable_place, property_place}
 use Rattle.refine_flow.specs.declared.facts.Facts.{Facts}
 use Rattle.refine_flow.specs.declared.facts.Mark.{Mark}
 use Rattle.refine_flow.specs.declared.whole.Row.{Row}
@@ -18,14 +19,14 @@ use Rattle.refine_flow.proofs.Turning.{last_of}
 
 -- ---- facts that are known to be live
 
-live_of : (f : Facts) (m : Map) → known f ≡ Some m → (f.dead ≡ false) × (shown f ≡ m)
+pub live_of : (f : Facts) (m : Map) → known f ≡ Some m → (f.dead ≡ false) × (shown f ≡ m)
 live_of f m is = at f.dead refl is
   where
     at : (b : Bool) → f.dead ≡ b → (if b then None else Some (shown f)) ≡ Some m → (f.dead ≡ false) × (shown f ≡ m)
     at true dead both = cc
     at false dead both = (dead, some_same (shown f) m both)
 
-known_by : (f : Facts) (b : Bool) → f.dead ≡ b → known f ≡ (if b then None else Some (shown f))
+pub known_by : (f : Facts) (b : Bool) → f.dead ≡ b → known f ≡ (if b then None else Some (shown f))
 known_by f b is = λ i. if is i then None else Some (shown f)
 
 -- ---- rows
@@ -52,14 +53,21 @@ joined_dead f other dead = at (known f) ∙ ap (joined (known f)) (sym (known_by
     at None = refl
     at (Some m) = refl
 
+-- all facts go where they are joined with none
+pub all_cleared : {T E : Type 0} (r : Result T E) (old none new : Facts) (rows : List Row) → told rows no_facts ≡ shown old → known none ≡ Some no_facts → OnOk r (shown new ≡ met (shown none) rows (shown old)) → OnOk r (shown new ≡ no_facts)
+all_cleared (Err x) old none new rows tells empty is = tt
+all_cleared (Ok x) old none new rows tells empty is = is ∙ met_all (shown none) (shown old) rows tells ∙ (λ i q. at (shown old q) (ap (λ (m : Map). m q) (live_of none no_facts empty).1) i)
+  where
+    at : {o : Option FlowType} (own : Option FlowType) → o ≡ None → both own o ≡ None
+    at None is = ap (both None) is
+    at (Some t) is = ap (both (Some t)) is
+
 -- where these are dead, the others are taken over
-pub taken_over : {T E : Type 0} (r : Result T E) (kept : ℕ → Bool) (old mid new other : Facts) (rows : List Row) → old.dead ≡ true → other.dead ≡ false → known mid ≡ entered_function kept (known old) → told rows no_facts ≡ shown other →
-    OnOk r (shown new ≡ told rows (shown mid)) → new.dead ≡ mid.dead → OnOk r (known new ≡ joined (known old) (known other))
-taken_over (Err x) kept old mid new other rows dead live entered tells took same = tt
-taken_over (Ok x) kept old mid new other rows dead live entered tells took same =
-    let none : known old ≡ None = known_by old true dead in
-    let first = live_of mid no_facts (entered ∙ ap (entered_function kept) none) in
-    known_by new false (same ∙ first.0) ∙ ap Some (took ∙ ap (told rows) first.1 ∙ tells) ∙ sym (known_by other false live) ∙ ap (λ k. joined k (known other)) (sym none)
+pub taken_over : {T E : Type 0} (r : Result T E) (old new other : Facts) (mid : Map) (rows : List Row) → old.dead ≡ true → other.dead ≡ false → mid ≡ no_facts → told rows no_facts ≡ shown other →
+    OnOk r (shown new ≡ told rows mid) → new.dead ≡ false → OnOk r (known new ≡ joined (known old) (known other))
+taken_over (Err x) old new other mid rows dead live none tells took alive = tt
+taken_over (Ok x) old new other mid rows dead live none tells took alive =
+    known_by new false alive ∙ ap Some (took ∙ ap (told rows) none ∙ tells) ∙ sym (known_by other false live) ∙ ap (λ k. joined k (known other)) (sym (known_by old true dead))
 
 -- where all are live, each place is joined
 pub met_with : {T E : Type 0} (r : Result T E) (old new other : Facts) (rows : List Row) → old.dead ≡ false → other.dead ≡ false → told rows no_facts ≡ shown old → OnOk r (shown new ≡ met (shown other) rows (shown old)) → new.dead ≡ old.dead →

@@ -6,6 +6,7 @@ use Rattle.std.proofs.lemmas.List.Folds.{list_any_more}
 use Rattle.fact_trail.specs.declared.fact.Fact.{Fact}
 use Rattle.fact_trail.specs.declared.trail.Trail.{Trail}
 use Rattle.fact_trail.specs.declared.slot.Slot.{Slot}
+use Rattle.fact_trail.specs.Types.{ty_of}
 use Rattle.fact_trail.specs.Slots.{Map as Slots, at_slot, is_slot, without as without_slots}
 use Rattle.fact_trail.specs.Slots as slots
 use Rattle.fact_trail.specs.Moments.{map_of, map_at, IsNew, Adds, Drops}
@@ -109,8 +110,8 @@ drops_both g h both a b c are first second = record {
 
 -- a call that sets the fact at a slot, after the place's name got a number
 pub set_slot : (old mid new : Facts) (p : Place) (s : Slot) (fact : Fact) → Changes (λ m. m) old mid → new.names ≡ mid.names → new.dead ≡ mid.dead → new.marks ≡ mid.marks → slot_of mid.names p ≡ Some s →
-    map_of new.trail ≡ at_slot s (Some fact) (map_of mid.trail) → Adds s mid.trail new.trail → Changes (at_place p (Some fact.ty)) old new
-set_slot old mid new p s fact stays names dead marks there is adds = changed_twice (λ m. m) (at_place p (Some fact.ty)) old mid new stays (record {
+    map_of new.trail ≡ at_slot s (Some fact) (map_of mid.trail) → Adds s mid.trail new.trail → Changes (at_place p (Some (ty_of fact))) old new
+set_slot old mid new p s fact stays names dead marks there is adds = changed_twice (λ m. m) (at_place p (Some (ty_of fact))) old mid new stays (record {
   types = ap (λ ns. types_by ns (map_of new.trail)) names ∙ types_at mid.names p s (Some fact) (map_of mid.trail) (map_of new.trail) there is;
   dead = dead;
   marks = keeps_marks mid new marks (same_names mid new names) adds.longer adds.moments;
@@ -126,9 +127,9 @@ kept_slot old mid new s stays names dead marks is adds = changed_twice (λ m. m)
 
 -- the same, whatever the result
 pub put_slot : {T E : Type 0} (r : Result T E) (old mid new : Facts) (p : Place) (s : Slot) (fact : Fact) → Changes (λ m. m) old mid → new.names ≡ mid.names → new.dead ≡ mid.dead → new.marks ≡ mid.marks → slot_of mid.names p ≡ Some s →
-    (t : FlowType) → fact.ty ≡ t → OnOk r (map_of new.trail ≡ at_slot s (Some fact) (map_of mid.trail)) → Adds s mid.trail new.trail → OnOk r (Changes (at_place p (Some t)) old new)
+    (t : FlowType) → ty_of fact ≡ t → OnOk r (map_of new.trail ≡ at_slot s (Some fact) (map_of mid.trail)) → Adds s mid.trail new.trail → OnOk r (Changes (at_place p (Some t)) old new)
 put_slot (Ok x) old mid new p s fact stays names dead marks there t ty is adds =
-    changed_as (at_place p (Some fact.ty)) (at_place p (Some t)) old new (λ m i. at_place p (Some (ty i)) m) (set_slot old mid new p s fact stays names dead marks there is adds)
+    changed_as (at_place p (Some (ty_of fact))) (at_place p (Some t)) old new (λ m i. at_place p (Some (ty i)) m) (set_slot old mid new p s fact stays names dead marks there is adds)
 put_slot (Err x) old mid new p s fact stays names dead marks there t ty is adds = tt
 
 pub put_refused : {T E : Type 0} (r : Result T E) (old mid new : Facts) (s : Slot) → Changes (λ m. m) old mid → new.names ≡ mid.names → new.dead ≡ mid.dead → new.marks ≡ mid.marks →
@@ -159,3 +160,11 @@ numbered old new grows trail dead marks = record {
 -- nor where what was changed is forgotten
 pub tidy_forgotten : (names : Names) (old new : Trail) → new.changes.items ≡ [] → map_of new ≡ map_of old → ((s : Slot) → IsBeyond names s → IsNew s old) → (s : Slot) → IsBeyond names s → IsNew s new
 tidy_forgotten names old new nothing same tidy s beyond = fresh_at_first new s nothing (ap (λ (m : Slots). m s) same ∙ none_now old s (tidy s beyond))
+
+-- a place that has the type already
+pub placed_already : (f : Facts) (p : Place) (given : Option FlowType) (t : FlowType) → given ≡ Some t → shown f p ≡ Some t → Changes (at_place p given) f f
+placed_already f p given t is has = record { types = λ i q. at q (is_place p q) refl i; dead = refl; marks = keeps_itself f }
+  where
+    at : (q : Place) (b : Bool) → is_place p q ≡ b → shown f q ≡ (if is_place p q then given else shown f q)
+    at q true same = sym (ap (shown f) (same_place p q same)) ∙ has ∙ sym is ∙ sym (ap (λ (b : Bool). if b then given else shown f q) same)
+    at q false other = sym (ap (λ (b : Bool). if b then given else shown f q) other)

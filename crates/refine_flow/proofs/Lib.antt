@@ -12,3 +12,5 @@ pub mod Reaching
 pub mod Assigning
 pub mod Lengthening
 pub mod Copying
+pub mod OwnJoins
+pub mod Keeping

@@ -6,10 +6,12 @@ use Rattle.std.specs.Option.{is_some, option_map}
 use Rattle.std.specs.Ordering.{nat_cmp}
 use Rattle.std.specs.BTreeMap.{is_at}
 use Rattle.type_values.specs.declared.types.FlowType.{FlowType}
+use Rattle.type_terms.specs.Join.{join_of}
 use Rattle.fact_trail.specs.declared.fact.Fact.{Fact}
 use Rattle.fact_trail.specs.declared.slot.Slot.TheVariants.{Variable, Property}
 use Rattle.fact_trail.specs.declared.slot.Slot.{Slot}
 use Rattle.fact_trail.specs.declared.slot.Key.{Key}
+use Rattle.fact_trail.specs.Types.{ty_of}
 use Rattle.fact_trail.specs.Slots.{key_cmp, is_number, is_key}
 use Rattle.fact_trail.proofs.Same.{same_number, same_key}
 use Rattle.fact_trail.specs.Moments.{map_of}
@@ -76,7 +78,7 @@ told_all m rows all rest = λ i q. at q (is_listed rows q) refl i
     at q true is = told_listed m no_facts rows q all is
     at q false is = told_unlisted no_facts rows q is ∙ sym (rest q is)
 
-absent_type : (o : Option Fact) → (is_some o ≡ true → ⊥) → option_map (λ (f : Fact). f.ty) o ≡ None
+absent_type : (o : Option Fact) → (is_some o ≡ true → ⊥) → option_map ty_of o ≡ None
 absent_type None is = refl
 absent_type (Some fact) is = absurd (is refl)
 
@@ -191,5 +193,9 @@ pub slot_numbered : (names : Names) (k : Key) (x : List ℕ) → name_of names k
 slot_numbered names k x is = ap (option_map (slot_named k.binding)) (names.numbered k.name x is)
 
 -- a place has its slot's type
-pub shown_at : (f : Facts) (q : Place) (s : Slot) (fact : Fact) → slot_of f.names q ≡ Some s → map_of f.trail s ≡ Some fact → shown f q ≡ Some fact.ty
-shown_at f q s fact there is = ap (type_in (map_of f.trail)) there ∙ ap (option_map (λ (x : Fact). x.ty)) is
+pub shown_at : (f : Facts) (q : Place) (s : Slot) (fact : Fact) → slot_of f.names q ≡ Some s → map_of f.trail s ≡ Some fact → shown f q ≡ Some (ty_of fact)
+shown_at f q s fact there is = ap (type_in (map_of f.trail)) there ∙ ap (option_map ty_of) is
+
+-- equal types that their join does not change
+pub joined_alike : (first second : FlowType) (rough : Bool) → first ≡ second → (rough ≡ false → join_of (first ∷ first ∷ []) ≡ first) → rough ≡ false → Some first ≡ both (Some first) (Some second)
+joined_alike first second rough same settled not_rough = ap Some (sym (settled not_rough) ∙ ap (λ (t : FlowType). join_of (first ∷ t ∷ [])) same)

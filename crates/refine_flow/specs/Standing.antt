@@ -4,6 +4,7 @@ use Rattle.std.specs.Option.{option_map}
 use Rattle.type_values.specs.declared.types.FlowType.{FlowType}
 use Rattle.fact_trail.specs.declared.slot.Slot.TheVariants.{Variable, Property}
 use Rattle.fact_trail.specs.declared.slot.Slot.{Slot}
+use Rattle.fact_trail.specs.Types.{ty_of}
 use Rattle.fact_trail.specs.Slots.{Map as Slots}
 use Rattle.fact_trail.specs.Moments.{map_of, map_at}
 use Rattle.fact_arms.specs.Differences.{over, Leaves}
@@ -31,7 +32,7 @@ slot_of names q = slot_by names q.binding q.prop
 -- the type of a slot's fact
 abbrev pub type_in : Slots → Option Slot → Option FlowType
 type_in m None = None
-type_in m (Some s) = option_map (λ fact. fact.ty) (m s)
+type_in m (Some s) = option_map ty_of (m s)
 
 -- the types of places, by the facts of slots
 abbrev pub types_by : Names → Slots → Map

@@ -1,11 +1,12 @@
 //! Facts on a trail.
 ghost use Rattle.std.specs.Prelude.{◌≡◌, ◌==◌, ◌<◌, ◌++◌, ◌∷◌, [], filter, if◌then◌else◌, ◌&&◌, ◌||◌, not, Some, None, IsTrue, ◌↔◌, OnOk, OnErr, IfOk, ◌⊎◌};
 ghost use Rattle.std.specs.List.{list_any};
-ghost use Rattle.std.specs.Option.{option_copied};
+ghost use Rattle.std.specs.Option.{option_map};
 ghost use Rattle.fact_trail.specs.declared.slot.Slot.TheVariants.{Variable};
 ghost use Rattle.fact_trail.specs.declared.slot.Slot.{Slot};
 ghost use Rattle.fact_trail.specs.Slots.{is_slot};
-ghost use Rattle.fact_trail.specs.Moments.{IsNew, Drops};
+ghost use Rattle.fact_trail.specs.Types.{ty_of};
+ghost use Rattle.fact_trail.specs.Moments.{map_of, IsNew, Drops};
 ghost use Rattle.refine_flow.specs.Numbers.{GrowsNames, IsBeyond};
 ghost use Rattle.alias_table.specs.Members.{seen};
 ghost use Rattle.alias_members.specs.MembersIn.{members_in};
@@ -41,6 +42,15 @@ pub struct Mark {
 pub struct Arm {
     pub(crate) dead: bool,
     pub(crate) difference: Difference,
+}
+
+impl Arm {
+    /// Whether the facts were dead where it was handed out.
+    pub fn is_dead(&self) -> bool
+        ensures { result ≡ self.now.dead }
+    {
+        self.dead
+    }
 }
 
 /// What is known of the types at places, or dead.
@@ -202,7 +212,7 @@ impl Facts {
         ensures err { OnErr result (Changes (λ m. m) self.old self.new) }
     {
         let slot = self.slot_for(place)?;
-        self.trail.put(slot, Fact::of(ty))
+        self.trail.put(slot, Fact::of(self.alloc, ty))
     }
 
     // Drops the type at a place.
@@ -214,24 +224,23 @@ impl Facts {
         }
     }
 
-    // The fact at a place, whether the facts are live or dead.
-    pub(crate) fn fact(&self, place: &Place) -> Option<&FlowType>
-        ensures { option_copied result ≡ shown self.now place.now }
+    // The type of a slot's fact.
+    fn type_in(&self, slot: Slot) -> Result<Option<FlowType>, NoMemory>
+        ensures { IfOk result (λ ty. ty ≡ option_map ty_of (map_of self.now.trail slot)) }
     {
-        let slot = self.slot(place)?;
-        Some(self.trail.get(slot)?.ty())
+        match self.trail.get(slot) {
+            Some(fact) => Ok(Some(fact.ty(self.alloc)?)),
+            None => Ok(None),
+        }
     }
 
-    // The type at a place: its fact, or the declared type.
-    fn look<'a>(&'a self, place: &Place, declared: &'a FlowType) -> &'a FlowType
-        ensures { result.now ≡ type_at (known self.now) place.now declared.now }
+    // The fact at a place, whether the facts are live or dead.
+    pub(crate) fn fact(&self, place: &Place) -> Result<Option<FlowType>, NoMemory>
+        ensures { IfOk result (λ fact. fact ≡ shown self.now place.now) }
     {
-        if self.dead {
-            return declared;
-        }
-        match self.fact(place) {
-            Some(ty) => ty,
-            None => declared,
+        match self.slot(place) {
+            Some(slot) => self.type_in(slot),
+            None => Ok(None),
         }
     }
 
@@ -239,11 +248,17 @@ impl Facts {
     ///
     /// # Errors
     ///
-    /// `NoMemory` where a part of the type has 2^63 - 1 owners.
+    /// `NoMemory` where memory is refused, or a part of the type has 2^63 - 1 owners.
     pub fn type_at(&self, place: &Place, declared: &FlowType) -> Result<FlowType, NoMemory>
         ensures { IfOk result (λ t. t ≡ type_at (known self.now) place.now declared.now) }
     {
-        self.look(place, declared).share()
+        if self.dead {
+            return declared.share();
+        }
+        match self.fact(place)? {
+            Some(ty) => Ok(ty),
+            None => declared.share(),
+        }
     }
 
     /// Narrows the type at a place by a test.
@@ -265,7 +280,8 @@ impl Facts {
         if self.dead {
             return Ok(());
         }
-        let ty = narrow(self.alloc, table, self.look(place, declared), test)?;
+        let before = self.type_at(place, declared)?;
+        let ty = narrow(self.alloc, table, &before, test)?;
         self.put(place, ty)?;
         self.settle();
         Ok(())

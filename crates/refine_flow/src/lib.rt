@@ -9,8 +9,12 @@
 
 mod among;
 mod facts;
+mod inner;
 mod marks;
 mod names;
+mod smooth;
 mod whole;
 
+pub use fact_arms::Joins;
 pub use facts::{Arm, Facts, Mark};
+pub use inner::Keeps;

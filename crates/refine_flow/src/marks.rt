@@ -3,7 +3,7 @@ ghost use Rattle.std.specs.Prelude.{◌≡◌, ◌+◌, false, None, OnOk, OnErr
 ghost use Rattle.flow_facts.specs.Known.{joined};
 
 use crate::facts::{Arm, Facts, Mark};
-use fact_arms::{Difference, meet};
+use fact_arms::{Difference, Joins, meet};
 use flow_values::NoMemory;
 
 impl Facts {
@@ -108,13 +108,14 @@ impl Facts {
 
     /// Joins what an arm made of the facts at a mark with these facts, the arm's types first. It
     /// looks at what changed since the mark, and at those other facts alone whose types their own join
-    /// may change; after it each place was changed once since the mark.
+    /// may change; after it each place was changed once since the mark. Joins that may wait are made
+    /// by the next ones that may not, back to an earlier mark, or else where a type is asked for.
     ///
     /// # Errors
     ///
     /// `NoMemory` where memory is refused. Some changes since the mark may be taken back then, and
     /// some places may be joined.
-    pub fn join_arm(&mut self, mark: &Mark, arm: &Arm) -> Result<(), NoMemory>
+    pub fn join_arm(&mut self, mark: &Mark, arm: &Arm, joins: Joins) -> Result<(), NoMemory>
         requires mark { IsLast mark.now self.old }
         requires arm { IsArmOf arm.now self.old }
         ensures facts { OnOk result (known self.new ≡ joined (known_over mark.now arm.now self.old) (known self.old)) }
@@ -128,19 +129,23 @@ impl Facts {
             return self.resume(mark, arm);
         }
         let ours = self.turn(mark)?;
-        self.join_arms(mark, arm, &ours)
+        self.join_arms(mark, arm, ours, joins)
     }
 
     // Joins what two arms made of the facts at a mark.
-    fn join_arms(&mut self, mark: &Mark, arm: &Arm, ours: &Arm) -> Result<(), NoMemory>
+    fn join_arms(&mut self, mark: &Mark, arm: &Arm, ours: Arm, joins: Joins) -> Result<(), NoMemory>
         requires at { IsAt mark.now self.old }
         requires arm { IsArmOf arm.now self.old }
-        requires ours { IsArmOf ours.now self.old }
-        ensures facts { OnOk result ((arm.now.dead ≡ false) → (ours.now.dead ≡ false) → known self.new ≡ joined (known_over mark.now arm.now self.old) (known_over mark.now ours.now self.old)) }
+        requires ours { IsArmOf ours self.old }
+        ensures facts { OnOk result ((arm.now.dead ≡ false) → (ours.dead ≡ false) → known self.new ≡ joined (known_over mark.now arm.now self.old) (known_over mark.now ours self.old)) }
         ensures marks { KeepsMarks self.old self.new }
     {
-        let both = meet(self.alloc, &self.trail, &arm.difference, &ours.difference)?;
-        both.make(&mut self.trail)?;
+        let Arm {
+            dead: _,
+            difference,
+        } = ours;
+        let both = meet(self.alloc, &self.trail, &arm.difference, difference, joins)?;
+        both.move_to(&mut self.trail)?;
         self.dead = false;
         Ok(())
     }

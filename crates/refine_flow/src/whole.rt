@@ -1,9 +1,10 @@
 //! Copies of facts, and their joins place by place.
-ghost use Rattle.std.specs.Prelude.{◌≡◌, ℕ, List, true, false, Some, OnOk, OnErr, IfOk};
-ghost use Rattle.std.specs.Option.{is_some, option_copied};
+ghost use Rattle.std.specs.Prelude.{◌≡◌, ◌∷◌, [], ℕ, List, true, false, Some, OnOk, OnErr, IfOk};
+ghost use Rattle.std.specs.Option.{is_some};
 ghost use Rattle.fact_trail.specs.declared.slot.Slot.TheVariants.{Variable, Property};
 ghost use Rattle.fact_trail.specs.declared.slot.Key.{Key};
 ghost use Rattle.fact_trail.specs.Moments.{map_of};
+ghost use Rattle.type_terms.specs.Join.{join_of};
 ghost use Rattle.flow_facts.specs.Known.{no_facts, at_place, joined, both, variable_place, property_place};
 
 use crate::facts::Facts;
@@ -14,27 +15,36 @@ use std::alloc::Global;
 use type_terms::join;
 use type_values::FlowType;
 
-/// The type that is known of a place.
+/// The type that is known of a place, and whether joining it with itself may change it.
 #[derive(Drop)]
 pub(crate) struct Row {
     pub place: Place,
     pub ty: FlowType,
+    pub rough: bool,
+    ghost settled: { rough ≡ false → join_of (ty ∷ ty ∷ []) ≡ ty },
 }
 
-// The join of two types, and none where one of them lacks.
+// The join of two types, and none where one of them lacks. Equal ones that their join does not change
+// are left as they are.
+#[tactic(auto, using(crate::proofs::Listing::joined_alike))]
 fn join_of_types(
     alloc: Global,
     first: FlowType,
-    second: Option<&FlowType>,
+    rough: bool,
+    second: Option<FlowType>,
 ) -> Result<Option<FlowType>, NoMemory>
-    ensures { IfOk result (λ t. t ≡ both (Some first) (option_copied second.entry)) }
+    requires { rough ≡ false → join_of (first ∷ first ∷ []) ≡ first }
+    ensures { IfOk result (λ t. t ≡ both (Some first) second) }
 {
     let Some(second) = second else {
         return Ok(None);
     };
+    if !rough && first.equals(&second) {
+        return Ok(Some(first));
+    }
     let mut all = List::new(alloc);
     all.push(first)?;
-    all.push(second.share()?)?;
+    all.push(second)?;
     Ok(Some(join(alloc, all.as_slice())?))
 }
 
@@ -127,8 +137,9 @@ impl Facts {
         let Some(fact) = self.trail.get(slot) else {
             return Ok(());
         };
-        let ty = fact.ty().share()?;
-        rows.push(Row { place, ty })?;
+        let ty = fact.ty(self.alloc)?;
+        let rough = fact.is_rough();
+        rows.push(Row { place, ty, rough })?;
         Ok(())
     }
 
@@ -140,7 +151,11 @@ impl Facts {
     {
         let mut rows = rows;
         while let Some(row) = rows.pop() {
-            let Row { place, ty } = row;
+            let Row {
+                place,
+                ty,
+                rough: _,
+            } = row;
             self.put(&place, ty)?;
         }
         Ok(())
@@ -154,25 +169,53 @@ impl Facts {
     {
         let mut rows = rows;
         while let Some(row) = rows.pop() {
-            let Row { place, ty } = row;
-            let ty = join_of_types(self.alloc, ty, others.fact(&place))?;
+            let Row { place, ty, rough } = row;
+            let theirs = others.fact(&place)?;
+            let ty = join_of_types(self.alloc, ty, rough, theirs)?;
             self.give(&place, ty)?;
         }
         Ok(())
     }
 
-    // Sets the type at a place, or drops it where there is none.
+    // Whether a place has this type.
+    fn has(&self, place: &Place, ty: &FlowType) -> Result<bool, NoMemory>
+        ensures { IfOk result (λ has. has ≡ true → shown self.now place.now ≡ Some ty.now) }
+    {
+        match self.fact(place)? {
+            Some(own) => Ok(own.equals(ty)),
+            None => Ok(false),
+        }
+    }
+
+    // Sets the type at a place, unless it has it, or drops it where there is none.
     fn give(&mut self, place: &Place, ty: Option<FlowType>) -> Result<(), NoMemory>
         ensures facts { OnOk result (Changes (at_place place.now ty) self.old self.new) }
         ensures err { OnErr result (Changes (λ m. m) self.old self.new) }
     {
         match ty {
-            Some(ty) => self.put(place, ty),
+            Some(ty) => {
+                let has = self.has(place, &ty)?;
+                if has {
+                    return Ok(());
+                }
+                self.put(place, ty)
+            }
             None => {
                 self.remove(place);
                 Ok(())
             }
         }
+    }
+
+    // Drops all facts.
+    fn clear(&mut self) -> Result<(), NoMemory>
+        ensures facts { OnOk result (shown self.new ≡ no_facts) }
+        ensures dead { self.new.dead ≡ self.old.dead }
+        ensures marks { KeepsMarks self.old self.new }
+    {
+        let rows = self.rows()?;
+        let none = Facts::new(self.alloc);
+        self.meet(rows, &none)
     }
 
     /// Joins these facts with others, these first: what both have is joined, and what one of them
@@ -201,8 +244,9 @@ impl Facts {
         ensures marks { KeepsMarks self.old self.new }
     {
         if self.dead {
-            self.enter_function(&[]);
             let rows = other.rows()?;
+            self.clear()?;
+            self.dead = false;
             return self.take_over(rows);
         }
         let rows = self.rows()?;

@@ -1,5 +1,5 @@
 -- The maps into a stack, as names are bound, taken away and changed.
-use Rattle.std.proofs.Common.{◌≡◌, ℕ, zero, suc, ◌==◌, ◌<◌, ◌≤◌, leb, Bool, true, false, List, [], ◌∷◌, ◌++◌, length, map, filter, Option, Some, None, IsSome, cond, bytes_eq, refl, sym, ap, ◌∙◌, subst}
+use Rattle.std.proofs.Common.{◌≡◌, ℕ, ◌==◌, ◌<◌, ◌≤◌, leb, Bool, true, false, List, [], ◌∷◌, ◌++◌, length, Option, Some, None, IsSome, cond, bytes_eq, refl, sym, ap, ◌∙◌, subst}
 use Rattle.std.specs.Ordering.{nat_cmp, is_eq}
 use Rattle.std.specs.declared.cmp.Ordering.{Ordering}
 use Rattle.std.specs.declared.cmp.Ordering.TheVariants.{Less, Equal, Greater}
@@ -13,7 +13,7 @@ use Rattle.std.proofs.lemmas.Map.Lookups.{exact_unsigned}
 use Rattle.check_values.specs.Rows.{Bytes}
 use Rattle.type_values.specs.declared.types.FlowType.{FlowType}
 use Rattle.scopes.specs.Stack.{last_at, AreLinked, at_place}
-use Rattle.scopes.specs.Rows.{has_name, has_number, is_named_like, is_numbered_like, is_constant_row, constants_of, declared_row}
+use Rattle.scopes.specs.Rows.{has_name, has_number, is_named_like, is_numbered_like, declared_row}
 use Rattle.scopes.specs.declared.row.Row.{Row}
 use Rattle.scopes.specs.declared.row.Earlier.{Earlier}
 use Rattle.scopes.proofs.Stacks.{last_at_more, last_at_changed, linked_changed}
@@ -131,38 +131,7 @@ last_number_found m rows row before =
 pub name_found : (m : BTreeMap Bytes ℕ) (name : Bytes) (at : ℕ) → get (slice_cmp nat_cmp) m name ≡ Some at → IsSome (get (slice_cmp nat_cmp) m name)
 name_found m name at is = some_told _ at is
 
--- ---- constants
-
-pub constants_more : (rows : List Row) (row : Row) → constants_of (rows ++ row ∷ []) ≡ constants_of rows ++ cond (is_constant_row row) (row.binding.number ∷ []) []
-constants_more [] row = go (is_constant_row row)
-  where
-    go : (b : Bool) → map (λ (r : Row). r.binding.number) (cond b (row ∷ []) []) ≡ cond b (row.binding.number ∷ []) []
-    go true = refl
-    go false = refl
-constants_more (r ∷ rows) row = go (is_constant_row r) (constants_more rows row)
-  where
-    go : (b : Bool) → constants_of (rows ++ row ∷ []) ≡ constants_of rows ++ cond (is_constant_row row) (row.binding.number ∷ []) [] →
-        map (λ (r : Row). r.binding.number) (cond b (r ∷ filter is_constant_row (rows ++ row ∷ [])) (filter is_constant_row (rows ++ row ∷ [])))
-        ≡ map (λ (r : Row). r.binding.number) (cond b (r ∷ filter is_constant_row rows) (filter is_constant_row rows)) ++ cond (is_constant_row row) (row.binding.number ∷ []) []
-    go true rest = ap (λ (l : List ℕ). r.binding.number ∷ l) rest
-    go false rest = rest
-
 -- ---- a declaration changes none of the keys
-
-constants_changed : (is_read : Bool) (declared : Option FlowType) (at : ℕ) (rows : List Row) → constants_of (at_place at (declared_row is_read declared) rows) ≡ constants_of rows
-constants_changed is_read declared at [] = refl
-constants_changed is_read declared zero (r ∷ rows) = go (is_constant_row r)
-  where
-    go : (b : Bool) → map (λ (r : Row). r.binding.number) (cond b (declared_row is_read declared r ∷ filter is_constant_row rows) (filter is_constant_row rows)) ≡ map (λ (r : Row). r.binding.number) (cond b (r ∷ filter is_constant_row rows) (filter is_constant_row rows))
-    go true = refl
-    go false = refl
-constants_changed is_read declared (suc at) (r ∷ rows) = go (is_constant_row r) (constants_changed is_read declared at rows)
-  where
-    go : (b : Bool) → constants_of (at_place at (declared_row is_read declared) rows) ≡ constants_of rows →
-        map (λ (r : Row). r.binding.number) (cond b (r ∷ filter is_constant_row (at_place at (declared_row is_read declared) rows)) (filter is_constant_row (at_place at (declared_row is_read declared) rows)))
-        ≡ map (λ (r : Row). r.binding.number) (cond b (r ∷ filter is_constant_row rows) (filter is_constant_row rows))
-    go true rest = ap (λ (l : List ℕ). r.binding.number ∷ l) rest
-    go false rest = rest
 
 module _ (rows after : List Row) (at : ℕ) (is_read : Bool) (declared : Option FlowType) (changed : after ≡ at_place at (declared_row is_read declared) rows) where
   pub names_stay : (name : Bytes) → last_at (has_name name) after ≡ last_at (has_name name) rows
@@ -178,9 +147,6 @@ module _ (rows after : List Row) (at : ℕ) (is_read : Bool) (declared : Option 
   pub number_links_stay : AreLinked is_numbered_like (λ (row : Row). row.outer_number) rows → AreLinked is_numbered_like (λ (row : Row). row.outer_number) after
   number_links_stay linked =
       subst (AreLinked is_numbered_like (λ (row : Row). row.outer_number)) (sym changed) (linked_changed is_numbered_like (λ (row : Row). row.outer_number) (declared_row is_read declared) (λ x. refl) (λ x y. refl) (λ x. refl) at rows linked)
-
-  pub constants_stay : (constants : List ℕ) → constants ≡ constants_of rows → constants ≡ constants_of after
-  constants_stay constants is = is ∙ sym (ap constants_of changed ∙ constants_changed is_read declared at rows)
 
 -- no entry was changed
 pub numbers_unchanged : (m n : BTreeMap ℕ ℕ) → n.entries ≡ m.entries → (k : ℕ) → get nat_cmp n k ≡ get nat_cmp m k

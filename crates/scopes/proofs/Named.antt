@@ -1,5 +1,5 @@
 -- What is found among the names of a stack, and what changes there.
-use Rattle.std.proofs.Common.{◌≡◌, ℕ, Bool, true, false, ◌||◌, ◌&&◌, ◌==◌, List, [], ◌∷◌, ◌++◌, ◌≤◌, map, filter, drop, length, slice_get, Option, Some, None, is_some, cond, bytes_eq, refl, sym, ap, ◌∙◌}
+use Rattle.std.proofs.Common.{◌≡◌, ℕ, Bool, true, false, ◌||◌, ◌==◌, List, [], ◌∷◌, ◌++◌, ◌≤◌, map, drop, length, slice_get, Option, Some, None, is_some, cond, bytes_eq, refl, sym, ap, ◌∙◌}
 use Rattle.std.specs.List.{list_any}
 use Rattle.std.proofs.lemmas.List.{drop-append-le}
 use Rattle.std.specs.Option.{option_map}
@@ -7,7 +7,7 @@ use Rattle.check_values.specs.Rows.{Bytes}
 use Rattle.type_values.specs.declared.types.FlowType.{FlowType}
 use Rattle.typing.specs.Names as typing
 use Rattle.scopes.specs.Stack.{one_further, last_at}
-use Rattle.scopes.specs.Rows.{binding_view, names_onto, names_view, has_name, is_constant_row, constants_of, declared_row}
+use Rattle.scopes.specs.Rows.{binding_view, names_onto, names_view, has_name, declared_row}
 use Rattle.scopes.specs.declared.row.Row.{Row}
 
 onto_more : (names : List typing.Binding) (rows : List Row) (row : Row) → names_onto names (rows ++ row ∷ []) ≡ binding_view row.binding ∷ names_onto names rows
@@ -73,23 +73,6 @@ binds_any (b ∷ names) name = go (bytes_eq b.name name) (binds_any names name)
 -- a name is bound where a row has it
 pub bound_seen : (rows : List Row) (name : Bytes) → typing.binds (names_view rows) name ≡ list_any (has_name name) rows
 bound_seen rows name = binds_any (names_view rows) name ∙ any_seen (λ (b : typing.Binding). bytes_eq b.name name) rows
-
--- the numbers of the constant ones
-constant_rows : (rows : List Row) (number : ℕ) → list_any (λ (c : ℕ). c == number) (constants_of rows) ≡ list_any (λ (row : Row). (row.binding.number == number) && is_constant_row row) rows
-constant_rows [] number = refl
-constant_rows (r ∷ rows) number = go (is_constant_row r) (r.binding.number == number) refl (constant_rows rows number)
-  where
-    go : (b e : Bool) → (r.binding.number == number) ≡ e → list_any (λ (c : ℕ). c == number) (constants_of rows) ≡ list_any (λ (row : Row). (row.binding.number == number) && is_constant_row row) rows →
-        list_any (λ (c : ℕ). c == number) (map (λ (row : Row). row.binding.number) (cond b (r ∷ filter is_constant_row rows) (filter is_constant_row rows)))
-        ≡ (((r.binding.number == number) && b) || list_any (λ (row : Row). (row.binding.number == number) && is_constant_row row) rows)
-    go true true is rest = ap (λ (e : Bool). e || list_any (λ (c : ℕ). c == number) (constants_of rows)) is ∙ sym (ap (λ (e : Bool). (e && true) || list_any (λ (row : Row). (row.binding.number == number) && is_constant_row row) rows) is)
-    go true false is rest =
-        ap (λ (e : Bool). e || list_any (λ (c : ℕ). c == number) (constants_of rows)) is ∙ rest ∙ sym (ap (λ (e : Bool). (e && true) || list_any (λ (row : Row). (row.binding.number == number) && is_constant_row row) rows) is)
-    go false true is rest = rest ∙ sym (ap (λ (e : Bool). (e && false) || list_any (λ (row : Row). (row.binding.number == number) && is_constant_row row) rows) is)
-    go false false is rest = rest ∙ sym (ap (λ (e : Bool). (e && false) || list_any (λ (row : Row). (row.binding.number == number) && is_constant_row row) rows) is)
-
-pub constants_seen : (rows : List Row) (number : ℕ) → list_any (λ (c : ℕ). c == number) (constants_of rows) ≡ list_any (λ (b : typing.Binding). (b.number == number) && typing.is_constant b) (names_view rows)
-constants_seen rows number = constant_rows rows number ∙ sym (any_seen (λ (b : typing.Binding). (b.number == number) && typing.is_constant b) rows)
 
 -- ---- changes
 

@@ -13,13 +13,6 @@ use Rattle.scopes.specs.declared.row.Row.{Row}
 use Rattle.scopes.proofs.Stacks.{after_place, last_found, get_last, linked_last, any_of_none, any_step, map_of_none, map_step, place_within}
 use Rattle.scopes.proofs.Named.{any_seen, row_read, read_seen}
 
-abbrev pub is_shared_row : Row → Bool
-is_shared_row row = is_shared_kind (kind_view row.binding.kind)
-
--- a name with this number, which has no facts
-abbrev pub is_sought : ℕ → Row → Bool
-is_sought number row = has_number number row && is_shared_row row
-
 -- the next name, and what is ahead of it
 abbrev pub IsNext : ℕ → List Row → ℕ → Row → List Row → List Row → Type 0
 IsNext number front at row ahead behind =
@@ -45,62 +38,84 @@ pub next_within : (number : ℕ) (rows front back : List Row) (at : ℕ) → Som
 next_within number rows front back at is split =
     omega (arith, subst (λ (o : Option ℕ). after_place o ≤ length front) (sym is) (place_within (has_number number) front), ap length split, length-append front back)
 
--- ---- whether one has no facts
+-- ---- whether one is of a kind
 
-unfoldable pub IsLooked : ℕ → List Row → Option ℕ → Type 0
-IsLooked number rows next =
-    (front : List Row) × (back : List Row) × (rows ≡ front ++ back) × (next ≡ last_at (has_number number) front) × (list_any (is_sought number) rows ≡ list_any (is_sought number) front)
+module _ (sought : typing.Kind → Bool) where
+  abbrev is_kind : Row → Bool
+  is_kind row = sought (kind_view row.binding.kind)
 
-pub looked_first : (number : ℕ) (rows : List Row) (next : Option ℕ) → next ≡ last_at (has_number number) rows → IsLooked number rows next
-unfolding IsLooked
-looked_first number rows next is = (rows, [], sym (append-nil rows), is, refl)
+  -- a name with this number, of such a kind
+  abbrev is_sought : ℕ → Row → Bool
+  is_sought number row = has_number number row && is_kind row
 
-pub looked_within : (number : ℕ) (rows : List Row) (next : Option ℕ) (at : ℕ) → next ≡ Some at → IsLooked number rows next → at < length rows
-unfolding IsLooked
-looked_within number rows next at is (front, back, split, found, same) = next_within number rows front back at (sym is ∙ found) split
+  unfoldable pub IsLooked : ℕ → List Row → Option ℕ → Type 0
+  IsLooked number rows next =
+      (front : List Row) × (back : List Row) × (rows ≡ front ++ back) × (next ≡ last_at (has_number number) front) × (list_any (is_sought number) rows ≡ list_any (is_sought number) front)
 
-looked_step : (number : ℕ) (rows : List Row) (next : Option ℕ) (at : ℕ) (row : Row) → next ≡ Some at → row ≡ get_or rows at row → IsLooked number rows next → AreLinked is_numbered_like (λ (r : Row). r.outer_number) rows →
-    (ahead : List Row) × (behind : List Row) × (rows ≡ ahead ++ behind) × (row.outer_number ≡ last_at (has_number number) ahead) × (list_any (is_sought number) rows ≡ (is_shared_row row || list_any (is_sought number) ahead)) × (length ahead ≡ at)
-unfolding IsLooked
-looked_step number rows next at row is read (front, back, split, found, same) linked =
-    let (ahead, behind, (cut, long, number_is, none)) = next_row number rows front back at row (sym is ∙ found) split read in (
-      ahead,
-      row ∷ behind ++ back,
-      split ∙ ap (λ (l : List Row). l ++ back) cut ∙ append_assoc ahead (row ∷ behind) back,
-      leads_on number rows front back ahead behind at row linked split (cut, long, number_is, none),
-      same ∙ ap (list_any (is_sought number)) cut ∙ any_step (has_number number) is_shared_row ahead behind row (passes number_is) none,
-      long,
-    )
-  where
-    passes : row.binding.number ≡ number → has_number number row ≡ true
-    passes e = eq-eqb row.binding.number number e
+  pub looked_first : (number : ℕ) (rows : List Row) (next : Option ℕ) → next ≡ last_at (has_number number) rows → IsLooked number rows next
+  unfolding IsLooked
+  looked_first number rows next is = (rows, [], sym (append-nil rows), is, refl)
 
-pub looked_on : (number : ℕ) (rows : List Row) (next : Option ℕ) (at : ℕ) (row : Row) → next ≡ Some at → row ≡ get_or rows at row → AreLinked is_numbered_like (λ (r : Row). r.outer_number) rows → IsLooked number rows next → (shared : Bool) → shared ≡ is_shared_kind (kind_view row.binding.kind) → shared ≡ false → IsLooked number rows row.outer_number
-unfolding IsLooked
-looked_on number rows next at row is read linked looked shared told other =
-    let (ahead, behind, split, found, same, long) = looked_step number rows next at row is read looked linked in
-    (ahead, behind, split, found, same ∙ ap (λ (b : Bool). b || list_any (is_sought number) ahead) (sym told ∙ other))
+  pub looked_within : (number : ℕ) (rows : List Row) (next : Option ℕ) (at : ℕ) → next ≡ Some at → IsLooked number rows next → at < length rows
+  unfolding IsLooked
+  looked_within number rows next at is (front, back, split, found, same) = next_within number rows front back at (sym is ∙ found) split
 
-pub looked_falls : (number : ℕ) (rows : List Row) (next : Option ℕ) (at : ℕ) (row : Row) → next ≡ Some at → row ≡ get_or rows at row → AreLinked is_numbered_like (λ (r : Row). r.outer_number) rows → IsLooked number rows next → after_place row.outer_number < after_place next
-unfolding IsLooked
-looked_falls number rows next at row is read linked looked =
-    let (ahead, behind, split, found, same, long) = looked_step number rows next at row is read looked linked in
-    subst (λ (o : Option ℕ). after_place row.outer_number < after_place o) (sym is) (subst (λ (o : Option ℕ). after_place o < suc at) (sym found) (omega (arith, place_within (has_number number) ahead)))
+  looked_step : (number : ℕ) (rows : List Row) (next : Option ℕ) (at : ℕ) (row : Row) → next ≡ Some at → row ≡ get_or rows at row → IsLooked number rows next → AreLinked is_numbered_like (λ (r : Row). r.outer_number) rows →
+      (ahead : List Row) × (behind : List Row) × (rows ≡ ahead ++ behind) × (row.outer_number ≡ last_at (has_number number) ahead) × (list_any (is_sought number) rows ≡ (sought (kind_view row.binding.kind) || list_any (is_sought number) ahead)) × (length ahead ≡ at)
+  unfolding IsLooked
+  looked_step number rows next at row is read (front, back, split, found, same) linked =
+      let (ahead, behind, (cut, long, number_is, none)) = next_row number rows front back at row (sym is ∙ found) split read in (
+        ahead,
+        row ∷ behind ++ back,
+        split ∙ ap (λ (l : List Row). l ++ back) cut ∙ append_assoc ahead (row ∷ behind) back,
+        leads_on number rows front back ahead behind at row linked split (cut, long, number_is, none),
+        same ∙ ap (list_any (is_sought number)) cut ∙ any_step (has_number number) is_kind ahead behind row (passes number_is) none,
+        long,
+      )
+    where
+      passes : row.binding.number ≡ number → has_number number row ≡ true
+      passes e = eq-eqb row.binding.number number e
 
--- whether a name with the number has no facts, as the definition asks
-pub shared_seen : (rows : List Row) (number : ℕ) → list_any (λ (b : typing.Binding). (b.number == number) && is_shared_kind b.kind) (names_view rows) ≡ list_any (is_sought number) rows
-shared_seen rows number = any_seen (λ (b : typing.Binding). (b.number == number) && is_shared_kind b.kind) rows
+  pub looked_on : (number : ℕ) (rows : List Row) (next : Option ℕ) (at : ℕ) (row : Row) → next ≡ Some at → row ≡ get_or rows at row → AreLinked is_numbered_like (λ (r : Row). r.outer_number) rows → IsLooked number rows next → (met : Bool) → met ≡ sought (kind_view row.binding.kind) → met ≡ false → IsLooked number rows row.outer_number
+  unfolding IsLooked
+  looked_on number rows next at row is read linked looked met told passes =
+      let (ahead, behind, split, found, same, long) = looked_step number rows next at row is read looked linked in
+      (ahead, behind, split, found, same ∙ ap (λ (b : Bool). b || list_any (is_sought number) ahead) (sym told ∙ passes))
 
-pub looked_yes : (number : ℕ) (rows : List Row) (next : Option ℕ) (at : ℕ) (row : Row) → next ≡ Some at → row ≡ get_or rows at row → AreLinked is_numbered_like (λ (r : Row). r.outer_number) rows → IsLooked number rows next → (shared : Bool) → shared ≡ is_shared_kind (kind_view row.binding.kind) → shared ≡ true →
+  pub looked_falls : (number : ℕ) (rows : List Row) (next : Option ℕ) (at : ℕ) (row : Row) → next ≡ Some at → row ≡ get_or rows at row → AreLinked is_numbered_like (λ (r : Row). r.outer_number) rows → IsLooked number rows next → after_place row.outer_number < after_place next
+  unfolding IsLooked
+  looked_falls number rows next at row is read linked looked =
+      let (ahead, behind, split, found, same, long) = looked_step number rows next at row is read looked linked in
+      subst (λ (o : Option ℕ). after_place row.outer_number < after_place o) (sym is) (subst (λ (o : Option ℕ). after_place o < suc at) (sym found) (omega (arith, place_within (has_number number) ahead)))
+
+  -- whether a name with the number is of the kind, as the definition asks
+  pub kind_seen : (rows : List Row) (number : ℕ) → list_any (λ (b : typing.Binding). (b.number == number) && sought b.kind) (names_view rows) ≡ list_any (is_sought number) rows
+  kind_seen rows number = any_seen (λ (b : typing.Binding). (b.number == number) && sought b.kind) rows
+
+  pub looked_yes : (number : ℕ) (rows : List Row) (next : Option ℕ) (at : ℕ) (row : Row) → next ≡ Some at → row ≡ get_or rows at row → AreLinked is_numbered_like (λ (r : Row). r.outer_number) rows → IsLooked number rows next → (met : Bool) → met ≡ sought (kind_view row.binding.kind) → met ≡ true →
+      true ≡ list_any (λ (b : typing.Binding). (b.number == number) && sought b.kind) (names_view rows)
+  unfolding IsLooked
+  looked_yes number rows next at row is read linked looked met told passes =
+      let (ahead, behind, split, found, same, long) = looked_step number rows next at row is read looked linked in
+      sym (kind_seen rows number ∙ same ∙ ap (λ (b : Bool). b || list_any (is_sought number) ahead) (sym told ∙ passes))
+
+  pub looked_no : (number : ℕ) (rows : List Row) (next : Option ℕ) → next ≡ None → IsLooked number rows next → false ≡ list_any (λ (b : typing.Binding). (b.number == number) && sought b.kind) (names_view rows)
+  unfolding IsLooked
+  looked_no number rows next is (front, back, split, found, same) = sym (kind_seen rows number ∙ same ∙ any_of_none (has_number number) is_kind front (sym found ∙ is))
+
+pub shared_yes : (number : ℕ) (rows : List Row) (next : Option ℕ) (at : ℕ) (row : Row) → next ≡ Some at → row ≡ get_or rows at row → AreLinked is_numbered_like (λ (r : Row). r.outer_number) rows → IsLooked is_shared_kind number rows next → (met : Bool) → met ≡ is_shared_kind (kind_view row.binding.kind) → met ≡ true →
     true ≡ list_any (λ (b : typing.Binding). (b.number == number) && is_shared_kind b.kind) (names_view rows)
-unfolding IsLooked
-looked_yes number rows next at row is read linked looked shared told met =
-    let (ahead, behind, split, found, same, long) = looked_step number rows next at row is read looked linked in
-    sym (shared_seen rows number ∙ same ∙ ap (λ (b : Bool). b || list_any (is_sought number) ahead) (sym told ∙ met))
+shared_yes = looked_yes is_shared_kind
 
-pub looked_no : (number : ℕ) (rows : List Row) (next : Option ℕ) → next ≡ None → IsLooked number rows next → false ≡ list_any (λ (b : typing.Binding). (b.number == number) && is_shared_kind b.kind) (names_view rows)
-unfolding IsLooked
-looked_no number rows next is (front, back, split, found, same) = sym (shared_seen rows number ∙ same ∙ any_of_none (has_number number) is_shared_row front (sym found ∙ is))
+pub shared_no : (number : ℕ) (rows : List Row) (next : Option ℕ) → next ≡ None → IsLooked is_shared_kind number rows next → false ≡ list_any (λ (b : typing.Binding). (b.number == number) && is_shared_kind b.kind) (names_view rows)
+shared_no = looked_no is_shared_kind
+
+pub constant_yes : (number : ℕ) (rows : List Row) (next : Option ℕ) (at : ℕ) (row : Row) → next ≡ Some at → row ≡ get_or rows at row → AreLinked is_numbered_like (λ (r : Row). r.outer_number) rows → IsLooked typing.is_constant_kind number rows next → (met : Bool) → met ≡ typing.is_constant_kind (kind_view row.binding.kind) → met ≡ true →
+    true ≡ list_any (λ (b : typing.Binding). (b.number == number) && typing.is_constant b) (names_view rows)
+constant_yes = looked_yes typing.is_constant_kind
+
+pub constant_no : (number : ℕ) (rows : List Row) (next : Option ℕ) → next ≡ None → IsLooked typing.is_constant_kind number rows next → false ≡ list_any (λ (b : typing.Binding). (b.number == number) && typing.is_constant b) (names_view rows)
+constant_no = looked_no typing.is_constant_kind
 
 -- ---- a declaration that was read
 

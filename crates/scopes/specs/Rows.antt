@@ -1,5 +1,5 @@
 -- The names of a stack, which grows at its end, and how those of one text, and of one number, are found in it.
-use Rattle.std.specs.Prelude.{ℕ, ◌==◌, Bool, List, [], ◌∷◌, map, filter, Option}
+use Rattle.std.specs.Prelude.{ℕ, ◌==◌, Bool, List, [], ◌∷◌, Option}
 use Rattle.std.specs.Str.{bytes_eq}
 use Rattle.check_values.specs.Rows.{Bytes}
 use Rattle.type_values.specs.declared.types.FlowType.{FlowType}
@@ -50,13 +50,6 @@ is_named_like row = has_name row.binding.name
 
 abbrev pub is_numbered_like : Row → Row → Bool
 is_numbered_like row = has_number row.binding.number
-
-abbrev pub is_constant_row : Row → Bool
-is_constant_row row = typing.is_constant_kind (kind_view row.binding.kind)
-
--- the numbers of the constant ones, the innermost last
-abbrev pub constants_of : List Row → List ℕ
-constants_of rows = map (λ row. row.binding.number) (filter is_constant_row rows)
 
 -- ---- changing
 

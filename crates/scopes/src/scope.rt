@@ -1,16 +1,15 @@
 //! The names that are seen, as a stack with two maps into it.
 ghost use Rattle.std.specs.Prelude.{◌≡◌, ◌==◌, ◌<◌, ◌≤◌, ◌∷◌, ℕ, List, [], length, Option, Some, None, OnOk, OnErr, IfOk, IfNone, IfSome, IsSome, true, slice_get, ◌++◌, vec_len, vec_capacity, if◌then◌else◌};
-ghost use Rattle.std.specs.List.{list_any};
 ghost use Rattle.std.specs.Option.{option_map};
 ghost use Rattle.std.specs.Ordering.{nat_cmp};
 ghost use Rattle.std.specs.Cmp.Lexicographic.{slice_cmp};
 ghost use Rattle.std.specs.BTreeMap.{get, Updates};
-ghost use Rattle.typing.specs.Names.{binding_of, binds, is_constant_kind, meaning_by_kind, meaning_of, is_usable, is_constant_number, declares_type};
+ghost use Rattle.typing.specs.Names.{binding_of, binds, meaning_by_kind, meaning_of, is_usable, is_constant_number, declares_type};
 ghost use Rattle.typing.specs.Tests.{place_of_meaning, variable_number};
 ghost use Rattle.typing.specs.Statements.{is_shared};
 ghost use Rattle.scopes.specs.Stack.{last_at, AreLinked, at_place};
 ghost use Rattle.scopes.specs.declared.row.Row.{Row};
-ghost use Rattle.scopes.specs.Rows.{kind_view, binding_view, has_name, has_number, is_named_like, is_numbered_like, constants_of, declared_row};
+ghost use Rattle.scopes.specs.Rows.{kind_view, binding_view, has_name, has_number, is_named_like, is_numbered_like, declared_row};
 
 use crate::binding::{Binding, Kind, Meaning, Variable};
 use crate::row::{Earlier, Height, Row};
@@ -31,15 +30,12 @@ pub struct Scope {
     // The innermost name of each text, and of each number.
     by_name: BTreeMap<Text, usize>,
     by_number: BTreeMap<u32, usize>,
-    // The numbers of the constant ones.
-    constants: Vec<u32>,
     pub depth: usize,
     pub result: Option<FlowType>,
     ghost named: { (name : List ℕ) → get (slice_cmp nat_cmp) by_name name ≡ last_at (has_name name) rows.items },
     ghost numbered: { (number : ℕ) → get nat_cmp by_number number ≡ last_at (has_number number) rows.items },
     ghost names_linked: { AreLinked is_named_like (λ row. row.outer_name) rows.items },
     ghost numbers_linked: { AreLinked is_numbered_like (λ row. row.outer_number) rows.items },
-    ghost constant: { constants.items ≡ constants_of rows.items },
 }
 
 // The innermost place of a key goes back to the next outer one.
@@ -53,25 +49,6 @@ fn go_back<K: Ord + Drop>(places: &mut BTreeMap<K, usize>, key: &K, outer: Optio
     };
     if let Some(at) = places.get_mut(key) {
         *at = outer;
-    }
-}
-
-// Puts a name's number behind those of the constants, if it is one.
-fn push_constant(constants: &mut Vec<u32>, kind: Kind, number: u32)
-    requires { vec_len constants.old < vec_capacity constants.old }
-    ensures { constants.new.items ≡ constants.old.items ++ (if is_constant_kind (kind_view kind) then number ∷ [] else []) }
-{
-    if kind.is_constant() {
-        constants.push_reserved(number);
-    }
-}
-
-// Takes the number of the last name away, if it is a constant.
-fn pop_constant(constants: &mut Vec<u32>, kind: Kind)
-    ensures { (front : List ℕ) (number : ℕ) → constants.old.items ≡ front ++ (if is_constant_kind (kind_view kind) then number ∷ [] else []) → constants.new.items ≡ front }
-{
-    if kind.is_constant() {
-        constants.pop();
     }
 }
 
@@ -118,7 +95,6 @@ impl Scope {
             changes: Vec::new(alloc),
             by_name: BTreeMap::new(alloc),
             by_number: BTreeMap::new(alloc),
-            constants: Vec::new(alloc),
             depth: 0,
             result: None,
         }
@@ -185,13 +161,11 @@ impl Scope {
     {
         let at = self.rows.len();
         self.rows.reserve(1)?;
-        self.constants.reserve(1)?;
         let outer_name = self.by_name.insert(binding.name.share()?, at)?;
         let Ok(outer_number) = self.by_number.insert(binding.number, at) else {
             go_back(&mut self.by_name, &binding.name, outer_name);
             return Err(NoMemory);
         };
-        push_constant(&mut self.constants, binding.kind, binding.number);
         self.rows.push_reserved(Row {
             binding,
             outer_name,
@@ -210,7 +184,6 @@ impl Scope {
         };
         go_back(&mut self.by_name, &row.binding.name, row.outer_name);
         go_back(&mut self.by_number, &row.binding.number, row.outer_number);
-        pop_constant(&mut self.constants, row.binding.kind);
     }
 
     // Takes the last change back.
@@ -269,13 +242,6 @@ impl Scope {
         }
     }
 
-    /// The numbers of the constant names.
-    pub fn constants(&self) -> &[u32]
-        ensures { (number : ℕ) → list_any (λ c. c == number) result.now ≡ is_constant_number (scope_view self.now) number }
-    {
-        self.constants.as_slice()
-    }
-
     // What a name means that is bound so.
     fn meaning_of(&self, binding: &Binding) -> Result<Meaning, NoMemory>
         ensures { IfOk result (λ meaning. Tells meaning (meaning_by_kind (kind_view binding.now.kind) self.now.depth (binding_view binding.now))) }
@@ -332,8 +298,24 @@ impl Scope {
         self.variable_of(binding)
     }
 
+    /// Whether a name with this number is constant.
+    #[tactic(auto, using(crate::proofs::Walks::looked_first, crate::proofs::Walks::constant_yes, crate::proofs::Walks::looked_on, crate::proofs::Walks::looked_falls, crate::proofs::Walks::constant_no))]
+    pub fn is_constant(&self, number: u32) -> bool
+        ensures { result ≡ is_constant_number (scope_view self.now) number }
+    {
+        let mut next = self.place_of_number(number);
+        while let Some(at) = next {
+            let row = &self.rows[at];
+            if row.binding.kind.is_constant() {
+                return true;
+            }
+            next = row.outer_number;
+        }
+        false
+    }
+
     /// Whether a name with this number has no facts, as it is assigned in an inner function.
-    #[tactic(auto, using(crate::proofs::Walks::looked_first, crate::proofs::Walks::looked_yes, crate::proofs::Walks::looked_on, crate::proofs::Walks::looked_falls, crate::proofs::Walks::looked_no))]
+    #[tactic(auto, using(crate::proofs::Walks::looked_first, crate::proofs::Walks::shared_yes, crate::proofs::Walks::looked_on, crate::proofs::Walks::looked_falls, crate::proofs::Walks::shared_no))]
     pub fn is_shared(&self, number: u32) -> bool
         ensures { result ≡ is_shared (scope_view self.now) number }
     {

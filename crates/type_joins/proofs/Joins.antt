@@ -138,6 +138,10 @@ join_behind ps qs each = at (list_any is_any ps) refl
         ap (λ l. joined_parts (qs ++ l)) (parts_one_of fs (firsts_each [] ps each))
         ∙ (λ i. if (list_any-append is_any qs fs ∙ ap (λ b. list_any is_any qs || b) (none ∙ sym is) ∙ sym (list_any-append is_any qs ps)) i then made.Any else one_of ((firsts_append [] qs fs ∙ ap (λ l. firsts [] qs ++ l) (firsts_of_firsts qs [] ps (λ t has. cc)) ∙ sym (firsts_append [] qs ps)) i))
 
+-- One type more in front of a join.
+pub join_in_front_of : (a : FlowType) (bs : List FlowType) → join_of (a ∷ join_of bs ∷ []) ≡ join_of (a ∷ bs)
+join_in_front_of a bs = ap (λ l. joined_parts (parts a ++ l)) (append-nil (parts (join_of bs))) ∙ join_behind (flat_map parts bs) (parts a) (all_each bs)
+
 -- Of three types it is the same which two are joined first.
 pub join_twice : (a b c : FlowType) → join_of (join_of (a ∷ b ∷ []) ∷ c ∷ []) ≡ join_of (a ∷ join_of (b ∷ c ∷ []) ∷ [])
 join_twice a b c =

@@ -101,6 +101,19 @@ join_back one u t all kept union plain every settled list is =
     let firsts_are : firsts [] (all ++ one ∷ []) ≡ all ++ (if list_any (is_same one) all then [] else one ∷ []) = firsts_append [] all (one ∷ []) ∙ (λ i. different all every settled' i ++ append-nil (if list_any (is_same one) all then [] else one ∷ []) i) in
     is ∙ ap one_of (list ∙ sym firsts_are) ∙ sym (ap joined_parts whole ∙ joined_none (all ++ one ∷ []) none)
 
+-- two plain types
+pair_is : (a b : FlowType) → is_plain a ≡ true → is_plain b ≡ true → join_of (a ∷ b ∷ []) ≡ one_of (firsts [] (a ∷ b ∷ []))
+pair_is a b pa pb =
+    let whole : parts a ++ (parts b ++ []) ≡ a ∷ b ∷ [] = (λ i. plain_part a pa i ++ (append-nil (parts b) ∙ plain_part b pb) i) in
+    let none : list_any is_any (a ∷ b ∷ []) ≡ false = (λ i. plain_any a pa i || (plain_any b pb i || false)) in
+    ap joined_parts whole ∙ joined_none (a ∷ b ∷ []) none
+
+pub plain_same : (a b t : FlowType) → is_plain a ≡ true → is_plain b ≡ true → is_same b a ≡ true → t ≡ a → t ≡ join_of (a ∷ b ∷ [])
+plain_same a b t pa pb same is = is ∙ sym (pair_is a b pa pb ∙ ap (λ (c : Bool). one_of (a ∷ ((if (c || false) then [] else b ∷ []) ++ []))) same)
+
+pub plain_two : (a b t : FlowType) (both : List FlowType) → is_plain a ≡ true → is_plain b ≡ true → is_same b a ≡ false → both ≡ a ∷ b ∷ [] → t ≡ made.Union both → t ≡ join_of (a ∷ b ∷ [])
+plain_two a b t both pa pb new list is = is ∙ ap made.Union list ∙ sym (pair_is a b pa pb ∙ ap (λ (c : Bool). one_of (a ∷ ((if (c || false) then [] else b ∷ []) ++ []))) new)
+
 -- one more type of those in front of which one stands
 pub past_one : (one t : FlowType) (all kept more : List FlowType) (i : ℕ) → i < length all → t ≡ get_or all i t → kept ≡ one ∷ others one (take i all) →
     is_same t one ≡ false → more ≡ kept ++ t ∷ [] → more ≡ one ∷ others one (take (i + 1) all)

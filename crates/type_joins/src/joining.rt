@@ -85,6 +85,32 @@ fn join_two(alloc: Global, first: &FlowType, second: &FlowType) -> Result<FlowTy
     join(alloc, both.as_slice())
 }
 
+// The join of two types of which each is its own one part.
+#[tactic(auto, using(crate::proofs::Plain::plain_same, crate::proofs::Plain::plain_two))]
+fn join_plain(alloc: Global, first: &FlowType, second: &FlowType) -> Result<FlowType, NoMemory>
+    requires first { is_plain first.now ≡ true }
+    requires second { is_plain second.now ≡ true }
+    ensures { IfOk result (λ t. t ≡ join_of (first.now ∷ second.now ∷ [])) }
+{
+    if second == first {
+        return first.share();
+    }
+    let mut both = List::new(alloc);
+    both.push(first.share()?)?;
+    both.push(second.share()?)?;
+    Ok(FlowType::Union(Shared::new(alloc, both)?))
+}
+
+// The join of two types that are no unions.
+fn join_single(alloc: Global, first: &FlowType, second: &FlowType) -> Result<FlowType, NoMemory>
+    ensures { IfOk result (λ t. t ≡ join_of (first.now ∷ second.now ∷ [])) }
+{
+    if is_plain(first) && is_plain(second) {
+        return join_plain(alloc, first, second);
+    }
+    join_two(alloc, first, second)
+}
+
 // The join of a type and a union of these.
 fn join_before(
     alloc: Global,
@@ -142,7 +168,7 @@ pub fn join_settled(
         FlowType::Union(all) => join_before(alloc, first, second, all.as_slice()),
         _ => match first {
             FlowType::Union(all) => join_behind(alloc, first, all.as_slice(), second),
-            _ => join_two(alloc, first, second),
+            _ => join_single(alloc, first, second),
         },
     }
 }

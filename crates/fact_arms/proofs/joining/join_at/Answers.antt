@@ -6,8 +6,7 @@ use Rattle.flow_facts.specs.Known.{both}
 use Rattle.fact_arms.specs.Differences.{over, type_of}
 use Rattle.fact_arms.proofs.joining.join_at.Goals as goal
 
-pub returns : goal.returns
-returns c =
-    let first : option_copied c.look.result ≡ over c.args.first.now (map_of c.args.trail.now) c.args.slot = c.look.ensures (map_of c.args.trail.now) (sym c.get-fact.ensures) in
-    let second : option_copied c.look-2.result ≡ over c.args.second.now (map_of c.args.trail.now) c.args.slot = c.look-2.ensures (map_of c.args.trail.now) (sym c.get-fact.ensures) in
-    subst (λ (t : Option FlowType). IfOk c.join_of_facts.result (λ fact. type_of fact ≡ t)) (λ i. both (type_of (first i)) (type_of (second i))) c.join_of_facts.ensures
+pub returns-clause-fact : goal.returns-clause-fact
+returns-clause-fact c =
+    let first : option_copied c.look.result ≡ over c.args.first.now (map_of c.args.trail.now) c.args.slot = c.look.ensures (map_of c.args.trail.now) (sym c.get.ensures) in
+    subst (λ (t : Option FlowType). IfOk c.join_of_facts.result (λ fact. type_of fact ≡ t)) (λ i. both (type_of (first i)) (c.in_ok-other.ensures.fact i)) c.join_of_facts.ensures

@@ -1,4 +1,4 @@
-use Rattle.std.proofs.Common.{Some, None}
+use Rattle.std.proofs.Common.{None}
 use Rattle.std.proofs.lemmas.Result.{IfOk-weaker}
 use Rattle.check_moves.proofs.Following.{follows_through}
 use Rattle.check_moves.proofs.Rounds.{follows_round}

@@ -12,7 +12,7 @@ pub loop-row-preserved : goal.loop-row-preserved
 loop-row-preserved c =
     let before = c.loop-row.invariant in let give = c.in_ok-give.ensures.facts in
     record {
-      facts = met_last (shown c.args.others.now) c.loop-row.rows.items c.pop.new.self.items c.in-Some.row c.in_ok-ty.ty (shown c.loop-row.self) (shown c.give.new.self) c.in-Some.ensures.items (c.in_ok-ty.ensures ∙ ap (both (Some c.in-Some.row.ty)) c.fact.ensures) give.types ∙ before.facts;
+      facts = met_last (shown c.args.others.now) c.loop-row.rows.items c.pop.new.self.items c.in-Some.row c.in_ok-ty.ty (shown c.loop-row.self) (shown c.give.new.self) c.in-Some.ensures.items (c.in_ok-ty.ensures ∙ ap (both (Some c.in-Some.row.ty)) c.in_ok-theirs.ensures) give.types ∙ before.facts;
       dead = give.dead ∙ before.dead;
       marks = keeps_twice c.args.self.now c.loop-row.self c.give.new.self before.marks give.marks;
     }
@@ -21,7 +21,7 @@ pub loop-row-preserved-in_ok-give : goal.loop-row-preserved-in_ok-give
 loop-row-preserved-in_ok-give c =
     let before = c.loop-row.invariant in let give = c.in_ok-give.ensures.facts in
     record {
-      facts = met_last (shown c.args.others.now) c.loop-row.rows.items c.pop.new.self.items c.in-Some.row c.in_ok-ty.ty (shown c.loop-row.self) (shown c.give.new.self) c.in-Some.ensures.items (c.in_ok-ty.ensures ∙ ap (both (Some c.in-Some.row.ty)) c.fact.ensures) give.types ∙ before.facts;
+      facts = met_last (shown c.args.others.now) c.loop-row.rows.items c.pop.new.self.items c.in-Some.row c.in_ok-ty.ty (shown c.loop-row.self) (shown c.give.new.self) c.in-Some.ensures.items (c.in_ok-ty.ensures ∙ ap (both (Some c.in-Some.row.ty)) c.in_ok-theirs.ensures) give.types ∙ before.facts;
       dead = give.dead ∙ before.dead;
       marks = keeps_twice c.args.self.now c.loop-row.self c.give.new.self before.marks give.marks;
     }

@@ -1,10 +1,10 @@
-use Rattle.std.proofs.Common.{◌≡◌, ℕ, List, [], ◌∷◌, ◌++◌, length, if◌then◌else◌, refl, ap, sym, ◌∙◌, subst, arith}
+use Rattle.std.proofs.Common.{◌≡◌, ℕ, List, [], ◌∷◌, ◌++◌, length, refl, ap, sym, ◌∙◌, subst, arith}
 use Rattle.scopes.specs.Stack.{last_at, AreLinked}
-use Rattle.scopes.specs.Rows.{has_name, has_number, is_named_like, is_numbered_like, is_constant_row, constants_of}
+use Rattle.scopes.specs.Rows.{has_name, has_number, is_named_like, is_numbered_like}
 use Rattle.scopes.specs.declared.row.Row.{Row}
 use Rattle.scopes.proofs.Stacks.{linked_more}
 use Rattle.scopes.proofs.Named.{bound_scope, bound_since}
-use Rattle.scopes.proofs.Kept.{name_bound, number_bound, name_put_back, numbers_unchanged, constants_more}
+use Rattle.scopes.proofs.Kept.{name_bound, number_bound, name_put_back, numbers_unchanged}
 use Rattle.scopes.proofs.scope.Scope.bind.Goals as goal
 
 pub invariant_of-self-in_default : goal.invariant_of-self-in_default
@@ -14,7 +14,6 @@ invariant_of-self-in_default c = record {
   numbered = λ k. numbers_unchanged c.args.self.now.by_number c.insert-2.new.self c.in_default.ensures.err k ∙ c.args.self.now.numbered k ∙ ap (last_at (has_number k)) (sym c.reserve.ensures.items);
   names_linked = subst (AreLinked is_named_like (λ (row : Row). row.outer_name)) (sym c.reserve.ensures.items) c.args.self.now.names_linked;
   numbers_linked = subst (AreLinked is_numbered_like (λ (row : Row). row.outer_number)) (sym c.reserve.ensures.items) c.args.self.now.numbers_linked;
-  constant = c.reserve-2.ensures.items ∙ c.args.self.now.constant ∙ ap constants_of (sym c.reserve.ensures.items);
 }
 
 pub invariant_of-self-2 : goal.invariant_of-self-2
@@ -30,8 +29,6 @@ invariant_of-self-2 c =
           (c.in_ok-outer_name.ensures.old ∙ c.args.self.now.named c.in_ok-share.field-0 ∙ ap (λ (name : List ℕ). last_at (has_name name) c.args.self.now.rows.items) c.in_ok-share.ensures));
       numbers_linked = subst (AreLinked is_numbered_like (λ (row : Row). row.outer_number)) (sym grown) (linked_more is_numbered_like (λ (row : Row). row.outer_number) c.args.self.now.rows.items row c.args.self.now.numbers_linked
           (c.in-Ok.ensures.old ∙ c.args.self.now.numbered c.args.binding.number));
-      constant = c.push_constant.ensures ∙ ap (λ (l : List ℕ). l ++ (if is_constant_row row then c.args.binding.number ∷ [] else [])) (c.reserve-2.ensures.items ∙ c.args.self.now.constant)
-          ∙ sym (ap constants_of grown ∙ constants_more c.args.self.now.rows.items row);
     }
 
 pub returns-clause-scope : goal.returns-clause-scope

@@ -1,7 +1,7 @@
 use Rattle.std.proofs.Common.{true, Some, List, ◌∷◌, ◌++◌, [], ap, sym, ◌∙◌}
 use Rattle.scopes.specs.declared.row.Earlier.{Earlier}
 use Rattle.scopes.proofs.Heights.{keeps_same, keeps_declared}
-use Rattle.scopes.proofs.Kept.{names_stay, numbers_stay, name_links_stay, number_links_stay, constants_stay}
+use Rattle.scopes.proofs.Kept.{names_stay, numbers_stay, name_links_stay, number_links_stay}
 use Rattle.scopes.proofs.scope.Scope.declare_at.Goals as goal
 
 pub invariant_of-self-in_default : goal.invariant_of-self-in_default
@@ -10,7 +10,6 @@ invariant_of-self-in_default c = record {
   numbered = λ number. c.args.self.now.numbered number ∙ sym (numbers_stay c.args.self.now.rows.items c.exchange.new.rows.items c.args.at true (Some c.args.ty) c.exchange.ensures.rows number);
   names_linked = name_links_stay c.args.self.now.rows.items c.exchange.new.rows.items c.args.at true (Some c.args.ty) c.exchange.ensures.rows c.args.self.now.names_linked;
   numbers_linked = number_links_stay c.args.self.now.rows.items c.exchange.new.rows.items c.args.at true (Some c.args.ty) c.exchange.ensures.rows c.args.self.now.numbers_linked;
-  constant = constants_stay c.args.self.now.rows.items c.exchange.new.rows.items c.args.at true (Some c.args.ty) c.exchange.ensures.rows c.args.self.now.constants.items c.args.self.now.constant;
 }
 
 pub returns-in_default-clause-heights : goal.returns-in_default-clause-heights
@@ -22,7 +21,6 @@ invariant_of-self-2 c = record {
   numbered = λ number. c.args.self.now.numbered number ∙ sym (numbers_stay c.args.self.now.rows.items c.exchange.new.rows.items c.args.at true (Some c.args.ty) c.exchange.ensures.rows number);
   names_linked = name_links_stay c.args.self.now.rows.items c.exchange.new.rows.items c.args.at true (Some c.args.ty) c.exchange.ensures.rows c.args.self.now.names_linked;
   numbers_linked = number_links_stay c.args.self.now.rows.items c.exchange.new.rows.items c.args.at true (Some c.args.ty) c.exchange.ensures.rows c.args.self.now.numbers_linked;
-  constant = constants_stay c.args.self.now.rows.items c.exchange.new.rows.items c.args.at true (Some c.args.ty) c.exchange.ensures.rows c.args.self.now.constants.items c.args.self.now.constant;
 }
 
 pub returns-clause-heights : goal.returns-clause-heights

@@ -1,9 +1,9 @@
 use Rattle.std.proofs.Common.{[], ◌∷◌, ◌++◌, ap, ◌∙◌, subst}
 use Rattle.scopes.specs.Stack.{last_at, AreLinked}
-use Rattle.scopes.specs.Rows.{has_name, has_number, is_named_like, is_numbered_like, constants_of}
+use Rattle.scopes.specs.Rows.{has_name, has_number, is_named_like, is_numbered_like}
 use Rattle.scopes.specs.declared.row.Row.{Row}
 use Rattle.scopes.proofs.Stacks.{linked_front, linked_last}
-use Rattle.scopes.proofs.Kept.{name_popped, number_popped, last_name_found, last_number_found, constants_more}
+use Rattle.scopes.proofs.Kept.{name_popped, number_popped, last_name_found, last_number_found}
 use Rattle.scopes.proofs.scope.Scope.pop.Goals as goal
 
 pub go_back-requires : goal.go_back-requires
@@ -23,5 +23,4 @@ invariant_of-self-2 c =
           (linked_last is_numbered_like (λ (row : Row). row.outer_number) c.pop.new.self.items [] c.in-Some.row by_numbers);
       names_linked = linked_front is_named_like (λ (row : Row). row.outer_name) c.pop.new.self.items c.in-Some.row by_names;
       numbers_linked = linked_front is_numbered_like (λ (row : Row). row.outer_number) c.pop.new.self.items c.in-Some.row by_numbers;
-      constant = c.pop_constant.ensures (constants_of c.pop.new.self.items) c.in-Some.row.binding.number (c.args.self.now.constant ∙ ap constants_of c.in-Some.ensures.items ∙ constants_more c.pop.new.self.items c.in-Some.row);
     }
