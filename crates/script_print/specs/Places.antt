@@ -1,5 +1,5 @@
 -- Places that are known with their lines and columns.
-use Rattle.std.specs.Prelude.{ℕ, ◌≡◌, ◌≤◌, length}
+use Rattle.std.specs.Prelude.{◌≡◌, ◌≤◌, length}
 use Rattle.source_place.specs.Place.{Bytes, line_at, column_at}
 use Rattle.script_print.specs.declared.places.Place.{Place}
 

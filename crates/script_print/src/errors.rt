@@ -2,6 +2,7 @@ ghost use Rattle.std.specs.Prelude.{◌≡◌, ◌++◌, string_bytes, IfOk, OnO
 ghost use Rattle.std.specs.List.{flat_map};
 ghost use Rattle.source_place.specs.Place.{Bytes, line_at, column_at};
 ghost use Rattle.program_check.specs.Status.{error_line, error_place, details_part, status_line};
+ghost use Rattle.script_print.specs.Fronts.{HasFront};
 
 use crate::places::{Place, locate, start};
 use check_values::Fault;
@@ -77,7 +78,7 @@ pub fn push_error(
 ///
 /// # Errors
 ///
-/// `NoMemory` where memory is refused. Some of the lines may be there then.
+/// `NoMemory` where memory is refused. The lines of the first ones may be there then, each of them whole.
 pub fn push_errors(
     alloc: Global,
     out: &mut Vec<u8>,
@@ -85,14 +86,14 @@ pub fn push_errors(
     text: &[u8],
     faults: &[Fault],
 ) -> Result<(), NoMemory>
-    ensures { OnOk result (out.new.items ≡ out.old.items ++ flat_map (error_line path.now text.now) faults.now) }
+    ensures lines { OnOk result (out.new.items ≡ out.old.items ++ flat_map (error_line path.now text.now) faults.now) }
+    ensures front { OnErr result (HasFront path.now text.now faults.now out.old.items out.new.items) }
 {
     let mut known = start();
-    let mut rest = faults;
-    while let [fault, more @ ..] = rest {
+    for i in 0..faults.len() {
+        let fault = &faults[i];
         known = locate(text, known, fault.span.start);
         push_line(alloc, out, path, known, fault)?;
-        rest = more;
     }
     Ok(())
 }
