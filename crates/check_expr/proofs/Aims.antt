@@ -5,13 +5,11 @@ use Rattle.std.specs.Option.{option_map}
 use Rattle.std.specs.List.{slice_get}
 use Rattle.std.proofs.lemmas.List.{take_all}
 use Rattle.std.proofs.lemmas.Option.{slice_get-get_or}
-use Rattle.check_values.specs.Rows.{Bytes}
 use Rattle.js_grammar.specs.Code.{Ex, ex, ExForm, Link as Step, link, LinkForm as StepForm, Links, no_link, more_link}
 use Rattle.code_tree.specs.View.{expr_view, expr_form_view, postfix_expr_view, link_view, link_form_view, links_view}
 use Rattle.code_tree.specs.declared.types.Expr.{Expr, out-Expr}
 use Rattle.code_tree.specs.declared.types.ExprForm as expr_form
 use Rattle.code_tree.specs.declared.types.Link.{Link, out-Link}
-use Rattle.code_tree.specs.declared.types.LinkForm.{LinkForm}
 use Rattle.code_tree.specs.declared.types.LinkForm as link_form
 use Rattle.code_tree.specs.declared.types.PostfixExpr.{PostfixExpr, out-PostfixExpr}
 use Rattle.flow_facts.specs.declared.place.Place.{Place}

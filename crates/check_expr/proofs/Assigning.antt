@@ -1,10 +1,9 @@
 -- Assignments by their targets.
 use Rattle.std.proofs.Common.{◌≡◌, ℕ, Option, Some, None, refl, sym, ap, ◌∙◌}
-use Rattle.js_grammar.specs.Code.{Ex, ex, ExForm, variable, number, text, truth_value, null_value, parens, elements, fields, function_ex, postfixed, prefixed, chain, cond as conditional, arrow, link, LinkForm, member, index, call, Links, no_link, more_link, assign, SimpleForm}
+use Rattle.js_grammar.specs.Code.{Ex, ex, variable, number, text, truth_value, null_value, parens, elements, fields, function_ex, postfixed, prefixed, chain, cond as conditional, arrow, link, member, index, call, no_link, more_link, assign, SimpleForm}
 use Rattle.code_tree.specs.View.{expr_view, assignment_view}
 use Rattle.code_tree.specs.declared.types.Assignment.{Assignment, out-Assignment}
-use Rattle.typing.specs.Names.{Scope}
-use Rattle.typing.specs.States.{World, Now, Out, Env, now_of}
+use Rattle.typing.specs.States.{World, Out, Env, now_of}
 use Rattle.typing.specs.Statements.{Goal, goal_want, assigned_env}
 use Rattle.typing.specs.Typing.{read, read_simple}
 use Rattle.part_steps.specs.View.{goal_view}

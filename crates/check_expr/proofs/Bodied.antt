@@ -1,8 +1,8 @@
 -- Blocks and the bodies of functions, by their parts.
-use Rattle.std.proofs.Common.{◌≡◌, ℕ, Bool, false, List, [], Option, Some, None, refl, sym, ap, ◌∙◌}
+use Rattle.std.proofs.Common.{◌≡◌, ℕ, Bool, false, List, [], Option, Some, None, sym, ap, ◌∙◌}
 use Rattle.std.specs.Option.{option_map, option_copied}
 use Rattle.std.specs.Borrow.{Bor}
-use Rattle.js_grammar.specs.Code.{Ex, Sig, Stmts, StmtForm, Operand as Side, OperandForm as SideForm, operand, SimpleForm, no_stmt, function_stmt, throw_value, evaluate}
+use Rattle.js_grammar.specs.Code.{Ex, Sig, Operand as Side, OperandForm as SideForm, operand, SimpleForm, function_stmt, throw_value, evaluate}
 use Rattle.code_tree.specs.View.{expr_view, function_view, block_view, statements_view, statement_form_view, simple_form_view, operand_view}
 use Rattle.code_tree.specs.declared.types.Expr.{Expr}
 use Rattle.code_tree.specs.declared.types.Block.{Block, out-Block}
@@ -18,11 +18,10 @@ use Rattle.code_tree.specs.declared.types.SimpleForm as simple_form
 use Rattle.type_values.specs.declared.types.FlowType.{FlowType}
 use Rattle.typing.specs.Changes.{changes_of_ex, changes_of_stmts}
 use Rattle.typing.specs.States as typing
-use Rattle.typing.specs.States.{World, Now, Out, Env, after, dead, now_of}
+use Rattle.typing.specs.States.{World, Env, after, dead, now_of}
 use Rattle.typing.specs.Functions.{enter_block, ended}
 use Rattle.typing.specs.Statements.{returned_value}
 use Rattle.typing.specs.Typing.{read, read_function, read_stmt, read_stmts, read_simple, read_block}
-use Rattle.fact_ways.specs.declared.fork.Fork.{Fork}
 use Rattle.check_moves.specs.declared.state.State.{State}
 use Rattle.check_moves.specs.declared.state.Read.{Read}
 use Rattle.check_moves.specs.View.{around, scope, now, env, told}

@@ -1,5 +1,5 @@
 -- Conditionals, `if` and `while`, by their parts.
-use Rattle.std.proofs.Common.{◌≡◌, ℕ, List, [], ◌∷◌, ◌++◌, map, reverse, Option, Some, None, refl, sym, ap, ◌∙◌}
+use Rattle.std.proofs.Common.{◌≡◌, ℕ, List, ◌++◌, map, reverse, Option, None, sym, ap, ◌∙◌}
 use Rattle.js_grammar.specs.Code.{StmtForm, ExForm, branches as branches_of}
 use Rattle.code_tree.specs.View.{expr_view, body_view, arms_view, branches_view, else_view, conditional_expr_view, if_statement_view, while_statement_view}
 use Rattle.code_tree.specs.declared.types.Expr.{Expr}
@@ -8,14 +8,16 @@ use Rattle.code_tree.specs.declared.types.Branch.{Branch}
 use Rattle.code_tree.specs.declared.types.ConditionalExpr.{ConditionalExpr, out-ConditionalExpr}
 use Rattle.code_tree.specs.declared.types.IfStatement.{IfStatement, out-IfStatement}
 use Rattle.code_tree.specs.declared.types.WhileStatement.{WhileStatement, out-WhileStatement}
-use Rattle.flow_facts.specs.Known.{Known, joined}
+use Rattle.flow_facts.specs.Known.{joined}
 use Rattle.refine_flow.specs.declared.facts.Facts.{Facts}
 use Rattle.refine_flow.specs.Standing.{known}
 use Rattle.typing.specs.Changes.{Change, changes_of_ex, changes_of_body}
 use Rattle.typing.specs.Statements.{loop_env}
 use Rattle.typing.specs.Forms.{choices_out}
-use Rattle.typing.specs.States.{World, Want, Now, Out, Env}
+use Rattle.typing.specs.States.{World, Want, Env}
 use Rattle.typing.specs.Typing.{read, read_body, read_form, read_arms, read_branches, read_else, read_stmt}
+use Rattle.code_plans.specs.Plans.{includes}
+use Rattle.code_plans.proofs.Alike.{loop_alike}
 use Rattle.fact_ways.specs.declared.fork.Fork.{Fork}
 use Rattle.fact_ways.specs.Ways.{way_of, ways_of, all_joined}
 use Rattle.check_moves.specs.declared.state.State.{State}
@@ -25,7 +27,6 @@ use Rattle.check_moves.specs.View.{around, scope, now, env, told, broken_facts}
 use Rattle.check_moves.specs.Follows.{Follows, Leaves}
 use Rattle.check_moves.specs.Moves.{chosen_view, choices_left}
 use Rattle.check_expr.specs.Tests.{Tested}
-use Rattle.check_expr.proofs.Plainly.{read_as}
 use Rattle.check_expr.proofs.Tests.{conditional_told, if_env, while_env}
 use Rattle.check_expr.proofs.Views.{conditional_expr_is, if_statement_is, while_statement_is}
 
@@ -52,10 +53,10 @@ if_told w f t x branches ks a b c d own is joins leaves ends goes met same =
     ∙ sym (ap (λ (v : StmtForm). read_stmt w f t v (env a)) (if_statement_is x))
 
 pub while_told : (w : World) (f t : ℕ) (x : WhileStatement) (all : List Change) (outer : Option Facts) (k : Fork) (a b c d e : State) →
-    all ≡ changes_of_ex (expr_view (out-WhileStatement x).test) ++ changes_of_body (body_view (out-WhileStatement x).body) → env b ≡ loop_env all (env a) → outer ≡ a.breaks → Tested (read w (expr_view (out-WhileStatement x).test) (scope b) None (now b)) b k c →
+    includes all ≡ includes (changes_of_ex (expr_view (out-WhileStatement x).test) ++ changes_of_body (body_view (out-WhileStatement x).body)) → env b ≡ loop_env all (env a) → outer ≡ a.breaks → Tested (read w (expr_view (out-WhileStatement x).test) (scope b) None (now b)) b k c →
     env d ≡ read_body w (body_view (out-WhileStatement x).body) (env c) → Follows None c None d → env e ≡ record (env d) { facts = joined (way_of d.facts k) (around d).breaks; breaks = broken_facts outer } →
     env e ≡ read_stmt w f t (while_statement_view x) (env a)
 while_told w f t x all outer k a b c d e changes begins outer_is test is goes leaves =
     while_env w (expr_view (out-WhileStatement x).test) (body_view (out-WhileStatement x).body) (changes_of_ex (expr_view (out-WhileStatement x).test) ++ changes_of_body (body_view (out-WhileStatement x).body)) outer k a b c d e
-    (begins ∙ ap (λ (l : List Change). loop_env l (env a)) changes) outer_is test is goes leaves
+    (begins ∙ loop_alike all (changes_of_ex (expr_view (out-WhileStatement x).test) ++ changes_of_body (body_view (out-WhileStatement x).body)) (env a) changes) outer_is test is goes leaves
     ∙ sym (ap (λ (v : StmtForm). read_stmt w f t v (env a)) (while_statement_is x))

@@ -6,7 +6,7 @@ use Rattle.std.proofs.lemmas.Bool.{lt-ltb}
 use Rattle.std.proofs.lemmas.Option.{slice_get-get_or}
 use Rattle.std.proofs.lemmas.List.{reverse-append, length-reverse, map-append}
 use Rattle.js_grammar.specs.Code as g
-use Rattle.js_grammar.specs.Code.{Operator, nullish, or, and, strict_equal, strict_not_equal, loose_equal, loose_not_equal, less, greater, less_or_equal, greater_or_equal, add, subtract, multiply, divide, remainder, operand, OperandForm, right_side, as_type, Operands, no_operand, more_operand, has_operands}
+use Rattle.js_grammar.specs.Code.{nullish, or, and, strict_equal, strict_not_equal, loose_equal, loose_not_equal, less, greater, less_or_equal, greater_or_equal, add, subtract, multiply, divide, remainder, operand, right_side, as_type, Operands, no_operand, more_operand, has_operands}
 use Rattle.code_tree.specs.Steps.{operands_from}
 use Rattle.code_tree.specs.View.{operand_view, operands_view, operand_form_view}
 use Rattle.code_tree.specs.declared.types.Operand.{Operand, out-Operand}

@@ -1,9 +1,9 @@
 -- One more arm of a conditional or of an `if` was read, and one more statement.
-use Rattle.std.proofs.Common.{◌≡◌, ℕ, ◌+◌, ◌<◌, ◌≤◌, List, [], ◌∷◌, ◌++◌, map, reverse, length, take, get_or, Option, Some, None, refl, sym, ap, ◌∙◌, subst}
+use Rattle.std.proofs.Common.{◌≡◌, ℕ, ◌+◌, ◌<◌, ◌≤◌, List, [], ◌∷◌, ◌++◌, map, reverse, length, take, get_or, Some, None, refl, sym, ap, ◌∙◌, subst}
 use Rattle.std.proofs.lemmas.List.{reverse-append}
 use Rattle.js_grammar.specs.Code as g
-use Rattle.js_grammar.specs.Code.{Ex, Body, Arms, no_arm, more_arm, Branches, no_branch, more_branch, branch, Stmts, no_stmt, more_stmt, stmt, StmtForm}
-use Rattle.code_tree.specs.Steps.{arms_from, stmts_from}
+use Rattle.js_grammar.specs.Code.{Ex, Body, Arms, no_arm, more_arm, Branches, more_branch, Stmts, no_stmt, more_stmt}
+use Rattle.code_tree.specs.Steps.{stmts_from}
 use Rattle.code_tree.specs.View.{expr_view, body_view, arm_view, arms_view, branch_view, branches_view, statement_view, statements_view, statement_form_view}
 use Rattle.code_tree.specs.declared.types.Arm.{Arm}
 use Rattle.code_tree.specs.declared.types.Branch.{Branch, out-Branch}
@@ -15,12 +15,12 @@ use Rattle.typing.specs.Forms as forms
 use Rattle.typing.specs.Forms.{Choices}
 use Rattle.typing.specs.Statements as statements
 use Rattle.typing.specs.Statements.{forked}
-use Rattle.typing.specs.States.{World, Want, Now, Out, Env, on_yes, no_of, now_of, with_now, reach}
+use Rattle.typing.specs.States.{World, Want, Now, Out, Env, on_yes, now_of, with_now, reach}
 use Rattle.typing.specs.Typing.{read, read_body, read_arms, read_branches, read_stmt, read_stmts}
 use Rattle.fact_ways.specs.declared.fork.Fork.{Fork}
-use Rattle.fact_ways.specs.Ways.{AreNested, outermost, way_of, ways_of, all_joined}
+use Rattle.fact_ways.specs.Ways.{outermost, way_of, ways_of, all_joined}
 use Rattle.fact_ways.proofs.Joins.{all_joined_last}
-use Rattle.fact_ways.proofs.Marks.{goes_through, goes_nowhere}
+use Rattle.fact_ways.proofs.Marks.{goes_through}
 use Rattle.fact_ways.proofs.Nests.{nested_on, ways_on, outermost_on}
 use Rattle.check_moves.specs.declared.state.State.{State}
 use Rattle.check_moves.specs.declared.branches.Chosen.{Chosen}

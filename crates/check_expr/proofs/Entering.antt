@@ -1,5 +1,5 @@
 -- Functions and blocks, before and after their statements.
-use Rattle.std.proofs.Common.{◌≡◌, ◌↔◌, ℕ, suc, arith, rules, IsTrue, Bool, true, false, List, [], ◌∷◌, ◌++◌, Option, Some, None, refl, sym, ap, ◌∙◌, subst}
+use Rattle.std.proofs.Common.{◌≡◌, ◌↔◌, ℕ, suc, arith, rules, IsTrue, Bool, true, false, List, [], ◌++◌, Option, Some, None, refl, sym, ap, ◌∙◌, subst}
 use Rattle.js_grammar.specs.Code as g
 use Rattle.js_grammar.specs.Code.{Ex, Sig, sig, Stmts, function, block, arrow_block, arrow_value}
 use Rattle.check_values.specs.Rows.{Bytes}
@@ -20,7 +20,7 @@ use Rattle.type_tree.specs.declared.types.BaseForm.{the_lemmas}
 use Rattle.type_tree.specs.declared.types.TypeTree.{TypeTree, out-TypeTree}
 use Rattle.code_tree.specs.declared.types.Signature.{Signature}
 use Rattle.typing.specs.TypeFaults.{written}
-use Rattle.refine_flow.specs.Standing.{known}
+use Rattle.refine_flow.specs.Standing.{known, EntersMark}
 use Rattle.refine_flow.specs.declared.facts.Facts.{Facts}
 use Rattle.check_world.specs.View.{notes_view}
 use Rattle.check_world.specs.declared.notes.Notes.{Notes}
@@ -30,12 +30,12 @@ use Rattle.scopes.specs.declared.scope.Scope.{Scope}
 use Rattle.typing.specs.Names.{Binding}
 use Rattle.typing.specs.Changes.{Change, changes_of_stmts}
 use Rattle.typing.specs.States as typing
-use Rattle.typing.specs.States.{World, Now, Env, asked, returns}
+use Rattle.typing.specs.States.{World, Env, asked, returns}
 use Rattle.typing.specs.Functions.{function_binding, Bound, bind_sig, bind_stmts, enter_block, sig_read, result_of, function_type, end_asked, ended}
 use Rattle.typing.specs.Typing.{Made, made_from, read_function, read_arrow, read_block, read_stmts}
 use Rattle.binders.specs.View.{bound_since, Binds}
 use Rattle.fact_ways.specs.Ways.{Leads, Goes}
-use Rattle.fact_ways.proofs.Marks.{goes_nowhere}
+use Rattle.fact_ways.proofs.Marks.{goes_nowhere, enters_on}
 use Rattle.check_moves.specs.declared.state.State.{State}
 use Rattle.check_moves.specs.declared.functions.Outside.{Outside}
 use Rattle.check_moves.specs.View.{around, scope, now, env, broken_facts}
@@ -129,10 +129,10 @@ entered w own keeps s a b c is same reads =
     (λ i. record { scope = (same i).scope; facts = (reads i).facts; notes = (reads i).notes; returned = (same i).returned; breaks = (same i).breaks })
     ∙ (λ i. record (is i) { notes = sig_read w s (is i).notes })
 
-pub outside_read : (o : Outside) (a b c : State) → IsOutside o a b → c.scope ≡ b.scope → IsOutside o a c
-outside_read o a b c outside names = record {
+pub outside_read : (o : Outside) (a b c : State) → IsOutside o a b → c.scope ≡ b.scope → c.facts ≡ b.facts → IsOutside o a c
+outside_read o a b c outside names facts = record {
   heights = subst (λ n. KeepsHeights a.scope n) (sym names) outside.heights;
-  facts = outside.facts;
+  marks = subst (λ (f : Facts). EntersMark o.mark a.facts f) (sym facts) outside.marks;
   height = outside.height;
   depth = outside.depth;
   result = outside.result;
@@ -153,7 +153,7 @@ made w s made_is result all before a b is joins returned done =
 pub outside_on : (o : Outside) (a b c : State) → IsOutside o a b → Follows None b None c → IsOutside o a c
 outside_on o a b c outside goes = record {
   heights = heights_twice a.scope b.scope c.scope outside.heights goes.heights;
-  facts = outside.facts;
+  marks = enters_on o.mark a.facts b.facts c.facts outside.marks goes.leads.goes;
   height = outside.height;
   depth = outside.depth;
   result = outside.result;

@@ -4,7 +4,7 @@ use Rattle.std.specs.List.{slice_get}
 use Rattle.std.proofs.lemmas.List.{map-append, take_all, take_more, length-drop, get_or-drop, get_or_default}
 use Rattle.std.proofs.lemmas.Option.{slice_get-get_or}
 use Rattle.js_grammar.specs.Code as g
-use Rattle.js_grammar.specs.Code.{Fields, no_field, more_field, field, Operands, no_operand, more_operand}
+use Rattle.js_grammar.specs.Code.{Fields, more_field, Operands, no_operand, more_operand}
 use Rattle.code_tree.specs.Steps.{operands_from}
 use Rattle.code_tree.specs.View.{operand_view, operands_view, operand_form_view, field_view, fields_view, field_form_view, expr_view}
 use Rattle.code_tree.specs.declared.types.Operand.{Operand, out-Operand}

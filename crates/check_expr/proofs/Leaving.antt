@@ -1,6 +1,6 @@
 -- A simple statement as a body, and the names that its block would tell.
 use Rattle.std.proofs.Common.{◌≡◌, ℕ, suc, Bool, true, false, cond, List, [], ◌∷◌, ◌++◌, Option, Some, None, refl, sym, ap, ◌∙◌}
-use Rattle.js_grammar.specs.Code.{Ex, Body, Simple as TreeSimple, SimpleForm, return_bare, return_value, throw_value, break_loop, continue_loop, assign, evaluate, simple_body}
+use Rattle.js_grammar.specs.Code.{Ex, Simple as TreeSimple, SimpleForm, return_bare, return_value, throw_value, break_loop, continue_loop, assign, evaluate, simple_body}
 use Rattle.std.specs.BTreeSet.{BTreeSet, contains}
 use Rattle.std.specs.Cmp.Lexicographic.{slice_cmp}
 use Rattle.std.specs.Ordering.{nat_cmp}
@@ -10,7 +10,6 @@ use Rattle.code_tree.specs.declared.types.Simple.{Simple, out-Simple}
 use Rattle.type_values.specs.declared.types.FlowType.{FlowType}
 use Rattle.type_values.specs.declared.types.FlowType as made
 use Rattle.flow_facts.specs.Known.{Known}
-use Rattle.typing.specs.Names.{Scope}
 use Rattle.typing.specs.Changes as typing
 use Rattle.typing.specs.Changes.{is_set_inside}
 use Rattle.typing.specs.States.{World, Out, Env, after, with_now, now_of, change_notes, asked_want, reach, stop_if_dead, returns}
@@ -73,10 +72,6 @@ simple_told w x end stopped a b c d ends was reached reads sets kept =
 pub alone_told : (none more slice : List Change) (all : List typing.Change) → none ≡ [] → changes_view more ≡ changes_view none ++ all → slice ≡ more → changes_view slice ≡ all
 unfolding changes_view
 alone_told none more slice all empty adds same = ap changes_view same ∙ adds ∙ ap (λ (l : List Change). changes_view l ++ all) empty
-
--- and of two parts
-pub both_told : (none some more slice : List Change) (first second : List typing.Change) → none ≡ [] → changes_view some ≡ changes_view none ++ first → changes_view more ≡ changes_view some ++ second → slice ≡ more → changes_view slice ≡ first ++ second
-both_told none some more slice first second empty adds next same = ap changes_view same ∙ next ∙ ap (λ (l : List typing.Change). l ++ second) (alone_told none some some first empty adds refl)
 
 pub inner_told : (names : BTreeSet Bytes) (slice : List Change) (all : List typing.Change) → changes_view slice ≡ all → ((name : Bytes) → contains (slice_cmp nat_cmp) names name ≡ is_set_inside (changes_view slice) name) → TellsInner names all
 inner_told names slice all is told name = told name ∙ ap (λ (l : List typing.Change). is_set_inside l name) is

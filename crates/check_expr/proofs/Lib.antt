@@ -13,11 +13,13 @@ pub mod Other
 pub mod Parts
 pub mod Plain
 pub mod Plainly
+pub mod Planned
 pub mod Properties
 pub mod Runs
 pub mod Scopes
 pub mod Sequences
 pub mod Sides
+pub mod Sizes
 pub mod Steps
 pub mod Tests
 pub mod Told

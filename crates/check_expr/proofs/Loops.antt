@@ -1,5 +1,5 @@
 -- What loops have read so far.
-use Rattle.std.proofs.Common.{◌≡◌, ℕ, zero, suc, ◌≤◌, Bool, List, [], ◌∷◌, map, reverse, length, take, Option, Some, None, if◌then◌else◌}
+use Rattle.std.proofs.Common.{◌≡◌, ℕ, Bool, List, [], ◌∷◌, map, reverse, Option, None}
 use Rattle.js_grammar.specs.Code.{Exs, Fields, Links, Operands, Arms, Stmts, Branches}
 use Rattle.type_values.specs.declared.types.FlowType.{FlowType}
 use Rattle.type_values.specs.declared.types.FlowProp.{FlowProp}

@@ -1,5 +1,5 @@
 -- Forms that are read plainly, and then against a type.
-use Rattle.std.proofs.Common.{◌≡◌, ℕ, Bool, true, false, Option, Some, None, refl, sym, ap, ◌∙◌}
+use Rattle.std.proofs.Common.{◌≡◌, ℕ, Bool, true, false, None, ap, ◌∙◌}
 use Rattle.js_grammar.specs.Code.{ExForm, variable, number, text, truth_value, null_value, parens, elements, fields, function_ex, postfixed, prefixed, chain, cond, arrow}
 use Rattle.typing.specs.Names.{Scope}
 use Rattle.typing.specs.States.{World, Want, Now, Out, against}

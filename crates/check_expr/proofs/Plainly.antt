@@ -1,9 +1,9 @@
 -- What forms give that are read against no type.
-use Rattle.std.proofs.Common.{◌≡◌, ℕ, Bool, true, List, Option, Some, None, refl, sym, ap, ◌∙◌}
+use Rattle.std.proofs.Common.{◌≡◌, ℕ, true, List, None, sym, ap, ◌∙◌}
 use Rattle.check_values.specs.Rows.{Bytes}
 use Rattle.js_grammar.specs.Code.{ExForm, Prefixes, number, text as text_value, prefixed, function_ex, arrow as arrow_ex}
 use Rattle.code_tree.specs.Flat.{prefixes_view, signature_view}
-use Rattle.code_tree.specs.View.{expr_view, expr_form_view, function_view, arrow_expr_view, arrow_body_view}
+use Rattle.code_tree.specs.View.{expr_view, expr_form_view, function_view, arrow_body_view}
 use Rattle.code_tree.specs.declared.types.Expr.{Expr, out-Expr}
 use Rattle.code_tree.specs.declared.types.ExprForm.{ExprForm}
 use Rattle.code_tree.specs.declared.types.ExprForm as form
@@ -19,8 +19,7 @@ use Rattle.typing.specs.Forms.{prefixes_out}
 use Rattle.typing.specs.Statements.{first_of}
 use Rattle.typing.specs.Typing.{made_out, read, read_form, read_function, read_arrow}
 use Rattle.check_moves.specs.declared.state.State.{State}
-use Rattle.check_moves.specs.declared.state.Read.{Read}
-use Rattle.check_moves.specs.View.{around, scope, now, told}
+use Rattle.check_moves.specs.View.{scope, now}
 use Rattle.check_expr.proofs.Views.{expr_form_number, expr_form_str, expr_form_prefix, expr_form_function, expr_form_arrow, arrow_expr_is, expr_is}
 
 -- a form is read as what it stands for

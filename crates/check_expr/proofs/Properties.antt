@@ -14,7 +14,7 @@ use Rattle.literal_reads.specs.Keys.{entry_view, rows_view}
 use Rattle.type_values.specs.declared.types.FlowType.{FlowType}
 use Rattle.type_values.specs.declared.types.FlowProp.{FlowProp}
 use Rattle.typing.specs.Names.{Scope}
-use Rattle.typing.specs.States.{World, Want, Notes, Now, Out, after, change_notes}
+use Rattle.typing.specs.States.{World, Want, Now, Out, after, change_notes}
 use Rattle.typing.specs.Objects.{Entry, entry_of, entries_of, Candidate, value_want, key_asked, key_bound, prop_read}
 use Rattle.typing.specs.Typing.{Props, read_fields, read_field}
 use Rattle.check_moves.specs.declared.state.State.{State}

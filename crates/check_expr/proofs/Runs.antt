@@ -1,11 +1,11 @@
 -- Chains of `&&` and of `||`, whose ways meet once the last operand was read.
-use Rattle.std.proofs.Common.{◌≡◌, ℕ, Bool, true, false, List, [], ◌∷◌, Option, Some, None, refl, sym, ap, ◌∙◌}
+use Rattle.std.proofs.Common.{◌≡◌, ℕ, Bool, true, false, List, [], ◌∷◌, Option, Some, refl}
 use Rattle.js_grammar.specs.Code.{Operator, or, and}
 use Rattle.type_values.specs.declared.types.FlowType.{FlowType}
 use Rattle.flow_facts.specs.declared.place.Place.{Place}
 use Rattle.flow_facts.specs.Known.{Known, joined}
-use Rattle.typing.specs.States.{World, Now, Out, no_of, on_yes, on_no, noted_out}
-use Rattle.typing.specs.Forms.{right_now, place_before, and_out, or_out}
+use Rattle.typing.specs.States.{World, Out, no_of, noted_out}
+use Rattle.typing.specs.Forms.{right_now, and_out, or_out}
 use Rattle.fact_ways.specs.Ways.{all_joined}
 use Rattle.fact_ways.proofs.Joins.{all_joined_last}
 use Rattle.check_moves.specs.Moves.{goes_on, leaving, met}

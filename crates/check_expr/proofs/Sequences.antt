@@ -1,5 +1,5 @@
 -- One more element, property, argument or link was read.
-use Rattle.std.proofs.Common.{◌≡◌, ℕ, suc, ◌+◌, ◌<◌, ◌≤◌, arith, Bool, List, [], ◌∷◌, ◌++◌, map, length, take, get_or, Option, Some, None, refl, sym, ap, ◌∙◌}
+use Rattle.std.proofs.Common.{◌≡◌, ℕ, ◌+◌, ◌<◌, ◌≤◌, arith, List, [], ◌∷◌, ◌++◌, map, length, take, get_or, Option, None, refl, sym, ap, ◌∙◌}
 use Rattle.std.proofs.lemmas.List.{map-append, length-take-le, length-map, length-append}
 use Rattle.js_grammar.specs.Code.{Ex, Exs, no_ex, more_ex, Link, link, LinkForm, Links, more_link}
 use Rattle.code_tree.specs.Steps.{exs_from}

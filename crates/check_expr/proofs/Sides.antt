@@ -1,5 +1,5 @@
 -- The right side of an operator that is read whatever the left one is.
-use Rattle.std.proofs.Common.{◌≡◌, ℕ, Bool, true, false, List, [], ◌∷◌, Option, Some, None, refl, sym, ap, ◌∙◌}
+use Rattle.std.proofs.Common.{◌≡◌, ℕ, Bool, true, [], ◌∷◌, Option, Some, None, refl, sym, ap, ◌∙◌}
 use Rattle.js_grammar.specs.Code.{Ex, Operator, nullish, or, and, strict_equal, strict_not_equal, loose_equal, loose_not_equal, less, greater, less_or_equal, greater_or_equal, add, subtract, multiply, divide, remainder, operand, Operand as Side, OperandForm, right_side}
 use Rattle.code_tree.specs.Flat.{operator_view}
 use Rattle.code_tree.specs.View.{expr_view, operand_view}
@@ -14,7 +14,7 @@ use Rattle.flow_facts.specs.declared.place.Place.{Place}
 use Rattle.typing.specs.Names.{Scope}
 use Rattle.typing.specs.States.{World, Now, Out, after, plainly}
 use Rattle.typing.specs.Forms.{right_now, operator_out}
-use Rattle.typing.specs.Typing.{read, read_operand}
+use Rattle.typing.specs.Typing.{read}
 use Rattle.flow_facts.specs.Known.{Known}
 use Rattle.fact_ways.specs.declared.fork.Fork.{Fork}
 use Rattle.fact_ways.specs.Ways.{AreNested, way_of}

@@ -1,5 +1,5 @@
 -- Steps that end in a call, whose result is handed on as it is.
-use Rattle.std.proofs.Common.{◌≡◌, Option, Some, None, Result, Ok, Err, ◌∙◌}
+use Rattle.std.proofs.Common.{◌≡◌, Option, None, Result, Ok, Err, ◌∙◌}
 use Rattle.std.specs.Prelude.{OnOk, IfOk}
 use Rattle.typing.specs.States.{Out, Env}
 use Rattle.fact_ways.specs.declared.fork.Fork.{Fork}

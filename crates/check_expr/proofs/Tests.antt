@@ -1,8 +1,8 @@
 -- A test and what is read behind it.
-use Rattle.std.proofs.Common.{◌≡◌, ℕ, true, List, [], ◌∷◌, ◌++◌, map, reverse, Option, Some, None, refl, sym, ap, ◌∙◌}
+use Rattle.std.proofs.Common.{◌≡◌, ℕ, List, [], ◌∷◌, ◌++◌, map, reverse, Option, Some, None, refl, sym, ap, ◌∙◌}
 use Rattle.std.proofs.lemmas.List.{reverse-append}
 use Rattle.js_grammar.specs.Code.{Ex, Body, Arm as TreeArm, Arms, no_arm, more_arm, Branches, Else}
-use Rattle.code_tree.specs.View.{expr_view, body_view, arm_view}
+use Rattle.code_tree.specs.View.{expr_view, arm_view}
 use Rattle.code_tree.specs.declared.types.Arm.{Arm, out-Arm}
 use Rattle.type_values.specs.declared.types.FlowType.{FlowType}
 use Rattle.flow_facts.specs.Known.{Known, joined}

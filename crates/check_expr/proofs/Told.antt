@@ -1,7 +1,6 @@
 -- What a form gives, once its parts were read.
-use Rattle.std.proofs.Common.{◌≡◌, ℕ, suc, Bool, true, false, List, Option, Some, None, length, if◌then◌else◌, refl, sym, ap, ◌∙◌}
+use Rattle.std.proofs.Common.{◌≡◌, ℕ, suc, Bool, List, Option, Some, None, length, if◌then◌else◌, refl, sym, ap, ◌∙◌}
 use Rattle.std.specs.Prelude.{is_some}
-use Rattle.std.specs.Option.{option_map}
 use Rattle.check_values.specs.Rows.{Bytes}
 use Rattle.js_grammar.specs.Code.{Ex, ExForm, Exs, Fields, Operands, elements, fields, shorthand, index, call}
 use Rattle.code_tree.specs.View.{expr_view, expr_form_view, postfix_expr_view, chain_expr_view, exprs_view, links_view, operands_view}
@@ -11,8 +10,7 @@ use Rattle.code_tree.specs.declared.types.ChainExpr.{ChainExpr, out-ChainExpr}
 use Rattle.type_values.specs.declared.types.FlowType.{FlowType}
 use Rattle.type_values.specs.declared.types.FlowProp.{FlowProp}
 use Rattle.flow_facts.specs.declared.place.Place.{Place}
-use Rattle.typing.specs.Names.{Scope}
-use Rattle.typing.specs.States.{World, Want, Now, Out, after, plainly, against, noted_out, change_notes}
+use Rattle.typing.specs.States.{World, Want, Out, after, plainly, against, noted_out, change_notes}
 use Rattle.typing.specs.Tests.{Comparison, variable_in, place_in}
 use Rattle.typing.specs.Members.{levels, one_function}
 use Rattle.typing.specs.Objects.{Entry, entries_of, Elements, elements_for, count_of, array_type, Candidate, candidate_for, object_type, all_given}

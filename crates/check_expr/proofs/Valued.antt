@@ -1,16 +1,15 @@
 -- Statements with a value, once it was read.
-use Rattle.std.proofs.Common.{◌≡◌, ℕ, suc, List, Option, Some, None, Result, Ok, Err, refl, sym, ap, ◌∙◌}
-use Rattle.std.specs.Prelude.{OnOk, IfOk}
+use Rattle.std.proofs.Common.{◌≡◌, ℕ, suc, Some, Result, Ok, Err, sym, ap, ◌∙◌}
+use Rattle.std.specs.Prelude.{OnOk}
 use Rattle.std.specs.Option.{option_map}
 use Rattle.js_grammar.specs.Code.{Ex, Declaration as Tree}
 use Rattle.type_tree.specs.View.{type_view}
 use Rattle.code_tree.specs.Flat.{binder_view}
-use Rattle.code_tree.specs.View.{expr_view, expr_form_view, declaration_view, assignment_view}
+use Rattle.code_tree.specs.View.{expr_view, declaration_view, assignment_view}
 use Rattle.code_tree.specs.declared.types.Expr.{Expr, out-Expr}
 use Rattle.code_tree.specs.declared.types.Declaration.{Declaration, out-Declaration}
 use Rattle.code_tree.specs.declared.types.Assignment.{Assignment, out-Assignment}
-use Rattle.flow_facts.specs.Known.{Known}
-use Rattle.typing.specs.States.{World, Want, Now, Out, Env, after, dead, with_now, now_of, change_notes}
+use Rattle.typing.specs.States.{World, Want, Out, Env, change_notes}
 use Rattle.typing.specs.TypeFaults.{annotated, annotation_read}
 use Rattle.typing.specs.Statements.{first_of, end_of, goal_want, assigned_env, declared_env, returned_value}
 use Rattle.typing.specs.Typing.{read, read_declaration, read_simple}

@@ -2,12 +2,12 @@
 use Rattle.std.proofs.Common.{◌≡◌, Bool, List, ap, ◌∙◌, rules}
 use Rattle.std.specs.Option.{option_map}
 use Rattle.check_values.specs.Rows.{Bytes}
-use Rattle.js_grammar.specs.Code.{ex, variable, number, text, truth_value, null_value, parens, elements, fields, function_ex, prefixed, member, index, operand, field, right_side, as_type, shorthand, valued, declaration, declares, does, nested, simple, return_bare, return_value, throw_value, break_loop, continue_loop, evaluate, no_else, else_body, block_body, simple_body, arrow_block, arrow_value}
+use Rattle.js_grammar.specs.Code.{ex, variable, number, text, truth_value, null_value, parens, elements, fields, function_ex, prefixed, member, index, operand, field, right_side, as_type, shorthand, valued, declaration, simple, return_bare, return_value, throw_value, break_loop, continue_loop, evaluate, arrow_block, arrow_value}
 use Rattle.type_tree.specs.View.{type_view, key_view}
 use Rattle.type_tree.specs.declared.types.TypeTree.{TypeTree}
 use Rattle.type_tree.specs.declared.types.Key.{Key}
 use Rattle.code_tree.specs.Flat.{prefixes_view, operator_view, binder_view}
-use Rattle.code_tree.specs.View.{expr_view, expr_form_view, postfix_expr_view, chain_expr_view, conditional_expr_view, arrow_expr_view, arrow_body_view, link_form_view, operand_view, operand_form_view, field_view, field_form_view, function_view, block_view, statement_form_view, declaration_view, simple_view, simple_form_view, assignment_view, if_statement_view, else_view, while_statement_view, body_view, exprs_view, fields_view}
+use Rattle.code_tree.specs.View.{expr_view, expr_form_view, postfix_expr_view, chain_expr_view, conditional_expr_view, arrow_expr_view, arrow_body_view, link_form_view, operand_view, operand_form_view, field_view, field_form_view, function_view, block_view, declaration_view, simple_view, simple_form_view, assignment_view, exprs_view, fields_view}
 use Rattle.code_tree.specs.declared.types.Operator.{Operator}
 use Rattle.code_tree.specs.declared.types.PrefixMark.{PrefixMark}
 use Rattle.code_tree.specs.declared.types.ExprForm.{the_lemmas}
@@ -20,8 +20,6 @@ use Rattle.code_tree.specs.declared.types.ChainExpr.{ChainExpr}
 use Rattle.code_tree.specs.declared.types.ConditionalExpr.{ConditionalExpr}
 use Rattle.code_tree.specs.declared.types.ArrowExpr.{ArrowExpr}
 use Rattle.code_tree.specs.declared.types.Declaration.{Declaration, out-Declaration}
-use Rattle.code_tree.specs.declared.types.IfStatement.{IfStatement}
-use Rattle.code_tree.specs.declared.types.WhileStatement.{WhileStatement}
 use Rattle.code_tree.specs.declared.types.Operand.{Operand, out-Operand}
 use Rattle.code_tree.specs.declared.types.Field.{Field, out-Field}
 use Rattle.code_tree.specs.declared.types.Simple.{Simple, out-Simple}
@@ -35,14 +33,8 @@ use Rattle.code_tree.specs.declared.types.FieldForm.{FieldForm}
 use Rattle.code_tree.specs.declared.types.FieldForm as field_form
 use Rattle.code_tree.specs.declared.types.ArrowBody.{ArrowBody}
 use Rattle.code_tree.specs.declared.types.ArrowBody as arrow_body
-use Rattle.code_tree.specs.declared.types.StatementForm.{StatementForm}
-use Rattle.code_tree.specs.declared.types.StatementForm as statement_form
 use Rattle.code_tree.specs.declared.types.SimpleForm.{SimpleForm}
 use Rattle.code_tree.specs.declared.types.SimpleForm as simple_form
-use Rattle.code_tree.specs.declared.types.Else.{Else}
-use Rattle.code_tree.specs.declared.types.Else as last_else
-use Rattle.code_tree.specs.declared.types.Body.{Body}
-use Rattle.code_tree.specs.declared.types.Body as body
 pub use Rattle.code_changes.proofs.Views.{function_is, block_is, branch_is, arm_is, assignment_is, postfix_expr_is, chain_expr_is, conditional_expr_is, arrow_expr_is, if_statement_is, while_statement_is, statement_is, link_is, link_form_call, statement_form_function}
 
 -- ---- structs
@@ -157,26 +149,6 @@ pub arrow_body_value : (x : ArrowBody) (e : Expr) → x ≡ arrow_body.Value e �
 unfolding arrow_body_view expr_view
 arrow_body_value x e is = ap arrow_body_view is ∙ search (rules, the_lemmas)
 
-pub statement_form_declaration : (x : StatementForm) (d : Declaration) → x ≡ statement_form.Declaration d → statement_form_view x ≡ declares (declaration_view d)
-unfolding statement_form_view declaration_view
-statement_form_declaration x d is = ap statement_form_view is ∙ search (rules, the_lemmas)
-
-pub statement_form_simple : (x : StatementForm) (s : Simple) → x ≡ statement_form.Simple s → statement_form_view x ≡ does (simple_view s)
-unfolding statement_form_view simple_view
-statement_form_simple x s is = ap statement_form_view is ∙ search (rules, the_lemmas)
-
-pub statement_form_if : (x : StatementForm) (s : IfStatement) → x ≡ statement_form.If s → statement_form_view x ≡ if_statement_view s
-unfolding statement_form_view if_statement_view
-statement_form_if x s is = ap statement_form_view is ∙ search (rules, the_lemmas)
-
-pub statement_form_while : (x : StatementForm) (s : WhileStatement) → x ≡ statement_form.While s → statement_form_view x ≡ while_statement_view s
-unfolding statement_form_view while_statement_view
-statement_form_while x s is = ap statement_form_view is ∙ search (rules, the_lemmas)
-
-pub statement_form_block : (x : StatementForm) (b : Block) → x ≡ statement_form.Block b → statement_form_view x ≡ nested (block_view b)
-unfolding statement_form_view block_view
-statement_form_block x b is = ap statement_form_view is ∙ search (rules, the_lemmas)
-
 pub simple_form_return : (x : SimpleForm) → x ≡ simple_form.Return → simple_form_view x ≡ return_bare
 unfolding simple_form_view
 simple_form_return x is = ap simple_form_view is ∙ search (rules, the_lemmas)
@@ -204,19 +176,3 @@ simple_form_assign x a is = ap simple_form_view is ∙ search (rules, the_lemmas
 pub simple_form_evaluate : (x : SimpleForm) (e : Expr) → x ≡ simple_form.Evaluate e → simple_form_view x ≡ evaluate (expr_view e)
 unfolding simple_form_view expr_view
 simple_form_evaluate x e is = ap simple_form_view is ∙ search (rules, the_lemmas)
-
-pub last_else_nothing : (x : Else) → x ≡ last_else.Nothing → else_view x ≡ no_else
-unfolding else_view
-last_else_nothing x is = ap else_view is ∙ search (rules, the_lemmas)
-
-pub last_else_body : (x : Else) (b : Body) → x ≡ last_else.Body b → else_view x ≡ else_body (body_view b)
-unfolding else_view body_view
-last_else_body x b is = ap else_view is ∙ search (rules, the_lemmas)
-
-pub body_block : (x : Body) (b : Block) → x ≡ body.Block b → body_view x ≡ block_body (block_view b)
-unfolding body_view block_view
-body_block x b is = ap body_view is ∙ search (rules, the_lemmas)
-
-pub body_simple : (x : Body) (s : Simple) → x ≡ body.Simple s → body_view x ≡ simple_body (simple_view s)
-unfolding body_view simple_view
-body_simple x s is = ap body_view is ∙ search (rules, the_lemmas)

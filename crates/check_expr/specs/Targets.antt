@@ -1,6 +1,6 @@
 -- The targets of assignments.
 use Rattle.std.specs.Prelude.{ℕ, Option, Some, None}
-use Rattle.js_grammar.specs.Code.{Ex, ex, variable, postfixed, Link, link, LinkForm, member, index, call, Links, more_link}
+use Rattle.js_grammar.specs.Code.{Ex, ex, variable, postfixed, Link, link, member, index, call, Links, more_link}
 use Rattle.flow_facts.specs.declared.place.Place.{Place}
 use Rattle.typing.specs.Names.{Scope, meaning_of}
 use Rattle.typing.specs.States.{World, Now, Out, Env, after, change_notes}

@@ -2,18 +2,21 @@
 #![tactic(auto, using(crate::proofs::Steps::fits_of))]
 
 ghost use Rattle.std.specs.Prelude.{◌≡◌, None, OnOk, IfOk};
+ghost use Rattle.std.specs.Option.{option_copied};
 ghost use Rattle.code_tree.specs.Flat.{signature_view};
 ghost use Rattle.code_tree.specs.View.{expr_view, function_view, arrow_body_view, block_view, body_view, statements_view};
 ghost use Rattle.code_tree.specs.declared.types.ArrowExpr.{out-ArrowExpr};
 ghost use Rattle.code_tree.specs.declared.types.Block.{out-Block};
 ghost use Rattle.typing.specs.Statements.{returned_value};
 ghost use Rattle.typing.specs.Typing.{read, read_function, read_arrow, read_block, read_body, read_stmts};
+ghost use Rattle.code_plans.specs.Plans.{plan_of_stmts, plan_of_block, plan_of_body};
+ghost use Rattle.code_plans.specs.View.{plan_view, IsPlan};
 ghost use Rattle.check_world.specs.View.{world_view};
 ghost use Rattle.check_moves.specs.View.{around, scope, env, now};
 ghost use Rattle.check_moves.specs.Follows.{Follows};
 ghost use Rattle.check_expr.specs.Bodies.{block_body, value_body};
 
-use crate::changes::{set_in_expr, set_in_statements};
+use crate::changes::{set_by_plan, set_in_expr};
 use crate::expressions::read;
 use crate::functions::{
     bind_body, end_body, enter, enter_block, leave, leave_block, own_binding, wanted_result,
@@ -21,6 +24,7 @@ use crate::functions::{
 use crate::statements::{read_simple, read_statement};
 use check_moves::State;
 use check_world::World;
+use code_plans::{Plan, part, plan_of_statements};
 use code_tree::{ArrowBody, ArrowExpr, Block, Body, Expr, Function, Signature, Statement};
 use flow_values::NoMemory;
 use part_steps::next;
@@ -89,9 +93,10 @@ fn read_block_body(
     ensures follows { OnOk result (Follows None state.old None state.new) }
 {
     let statements = block.statements.as_slice();
-    let set_inside = set_in_statements(world.alloc, statements)?;
+    let plan = plan_of_statements(world.alloc, statements)?;
+    let set_inside = set_by_plan(world.alloc, &plan)?;
     bind_body(world, state, signature, statements, &set_inside)?;
-    read_statements(world, state, statements)?;
+    read_statements(world, state, statements, Some(&plan))?;
     end_body(world, state, signature)?;
     Ok(())
 }
@@ -139,22 +144,62 @@ pub fn read_block(world: &World<'_>, state: &mut State, block: &Block) -> Result
     ensures env { OnOk result (env state.new ≡ read_block (world_view world.now) (block_view block.now) (env state.old)) }
     ensures follows { OnOk result (Follows None state.old None state.new) }
 {
+    let plan = plan_of_statements(world.alloc, block.statements.as_slice())?;
+    read_planned(world, state, block, &plan)
+}
+
+/// A block that stands in code with a plan, or whose plan is made first.
+#[cycle(reading)]
+pub(crate) fn read_inner_block(
+    world: &World<'_>,
+    state: &mut State,
+    block: &Block,
+    plan: Option<&Plan>,
+) -> Result<(), NoMemory>
+    requires { IsPlan (option_copied plan) (plan_of_block (block_view block.now)) }
+    ensures env { OnOk result (env state.new ≡ read_block (world_view world.now) (block_view block.now) (env state.old)) }
+    ensures follows { OnOk result (Follows None state.old None state.new) }
+{
+    match plan {
+        Some(plan) => read_planned(world, state, block, plan),
+        None => read_block(world, state, block),
+    }
+}
+
+// A block with its plan.
+#[cycle(reading)]
+fn read_planned(
+    world: &World<'_>,
+    state: &mut State,
+    block: &Block,
+    plan: &Plan,
+) -> Result<(), NoMemory>
+    requires { plan_view plan.now ≡ plan_of_block (block_view block.now) }
+    ensures env { OnOk result (env state.new ≡ read_block (world_view world.now) (block_view block.now) (env state.old)) }
+    ensures follows { OnOk result (Follows None state.old None state.new) }
+{
     let statements = block.statements.as_slice();
-    let set_inside = set_in_statements(world.alloc, statements)?;
+    let set_inside = set_by_plan(world.alloc, plan)?;
     let outer = enter_block(world, state, statements, &set_inside)?;
-    read_statements(world, state, statements)?;
+    read_statements(world, state, statements, Some(plan))?;
     leave_block(state, outer);
     Ok(())
 }
 
 /// A body: a block, or a simple statement that is a list of its own and ends behind its semicolon.
 #[cycle(reading)]
-pub(crate) fn read_body(world: &World<'_>, state: &mut State, body: &Body) -> Result<(), NoMemory>
+pub(crate) fn read_body(
+    world: &World<'_>,
+    state: &mut State,
+    body: &Body,
+    plan: Option<&Plan>,
+) -> Result<(), NoMemory>
+    requires { IsPlan (option_copied plan) (plan_of_body (body_view body.now)) }
     ensures env { OnOk result (env state.new ≡ read_body (world_view world.now) (body_view body.now) (env state.old)) }
     ensures follows { OnOk result (Follows None state.old None state.new) }
 {
     match body {
-        Body::Block(block) => read_block(world, state, block),
+        Body::Block(block) => read_inner_block(world, state, block, plan),
         Body::Simple(simple) => {
             let end = next(simple.end)?;
             let stopped = state.is_stopped();
@@ -172,14 +217,17 @@ pub(crate) fn read_statements(
     world: &World<'_>,
     state: &mut State,
     statements: &[Statement],
+    plan: Option<&Plan>,
 ) -> Result<(), NoMemory>
+    requires { IsPlan (option_copied plan) (plan_of_stmts (statements_view statements.now)) }
     ensures env { OnOk result (env state.new ≡ read_stmts (world_view world.now) (statements_view statements.now) (env state.old)) }
     ensures follows { OnOk result (Follows None state.old None state.new) }
 {
     for i in 0..statements.len() {
         let statement = &statements[i];
+        let planned = part(plan, i);
         state.reach(world, statement.first, statement.end)?;
-        read_statement(world, state, statement)?;
+        read_statement(world, state, statement, planned)?;
     }
     Ok(())
 }

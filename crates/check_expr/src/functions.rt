@@ -6,6 +6,7 @@ ghost use Rattle.std.specs.Option.{option_map};
 ghost use Rattle.check_world.specs.View.{world_view};
 ghost use Rattle.code_tree.specs.Flat.{signature_view};
 ghost use Rattle.code_tree.specs.View.{function_view, statements_view};
+ghost use Rattle.refine_flow.specs.Standing.{IsLast};
 ghost use Rattle.scopes.specs.Rows.{binding_view};
 ghost use Rattle.typing.specs.Names.{meaning_of};
 ghost use Rattle.typing.specs.Changes.{Change};
@@ -103,11 +104,12 @@ pub(crate) fn leave(
     outside: Outside,
     signature: &Signature,
 ) -> Result<FlowType, NoMemory>
+    requires { IsLast outside.mark state.old.facts }
     ensures made { IfOk result (λ t. (before : State) → IsOutside outside before state.old → record { ty = t; now = now state.new } ≡ made_from (world_view world.now) (signature_view signature.now) (now before) (env state.old)) }
     ensures around { OnOk result ((before : State) → IsOutside outside before state.old → around state.new ≡ around before) }
     ensures follows { OnOk result ((before : State) → IsOutside outside before state.old → Follows None before None state.new) }
 {
-    let returned = state.leave_function(outside);
+    let returned = state.leave_function(outside)?;
     let result = join(world.alloc, returned.as_slice())?;
     function_type(world, signature, result)
 }

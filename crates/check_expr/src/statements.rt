@@ -2,7 +2,7 @@
 #![tactic(auto, using(crate::proofs::Steps::fits_of))]
 
 ghost use Rattle.std.specs.Prelude.{◌≡◌, ◌∷◌, [], ℕ, reverse, None, OnOk, IfOk};
-ghost use Rattle.std.specs.Option.{option_map};
+ghost use Rattle.std.specs.Option.{option_copied, option_map};
 ghost use Rattle.js_grammar.specs.Code.{ex};
 ghost use Rattle.code_tree.specs.View.{expr_view, postfix_expr_view, link_view, body_view, branches_view, statement_form_view, declaration_view, simple_form_view, assignment_view, if_statement_view, else_view, while_statement_view};
 ghost use Rattle.code_tree.specs.declared.types.Statement.{out-Statement};
@@ -14,19 +14,21 @@ ghost use Rattle.typing.specs.States.{after, on_yes, with_now};
 ghost use Rattle.typing.specs.Statements.{forked};
 ghost use Rattle.fact_ways.specs.Ways.{Fits, way_of, ways_of, all_joined};
 ghost use Rattle.typing.specs.Typing.{read, read_body, read_stmt, read_declaration, read_simple, read_branches, read_else};
+ghost use Rattle.code_plans.specs.Plans.{plan_of_form, plan_of_branches, plan_of_body, plan_of_else};
+ghost use Rattle.code_plans.specs.View.{plan_view, IsPlan};
 ghost use Rattle.check_world.specs.View.{world_view};
 ghost use Rattle.check_moves.specs.View.{around, scope, env, now, told};
 ghost use Rattle.check_moves.specs.Follows.{Follows, Leaves};
 ghost use Rattle.check_expr.specs.Targets.{link_aim, aim, aim_goal, aim_now};
 
 use crate::annotations::read_annotated;
-use crate::bodies::{read_block, read_body, read_function, read_returned};
-use crate::changes::changes_of_loop;
+use crate::bodies::{read_body, read_function, read_inner_block, read_returned};
 use crate::expressions::{read, read_test};
 use crate::functions::read_variable_goal;
 use crate::postfixes::read_links;
 use check_moves::{Read, State};
 use check_world::World;
+use code_plans::{Plan, part, plan_of_loop};
 use code_tree::{
     Assignment, Branch, Declaration, Else, Expr, ExprForm, IfStatement, Link, LinkForm,
     PostfixExpr, Simple, SimpleForm, Statement, StatementForm, WhileStatement,
@@ -43,7 +45,9 @@ pub(crate) fn read_statement(
     world: &World<'_>,
     state: &mut State,
     statement: &Statement,
+    plan: Option<&Plan>,
 ) -> Result<(), NoMemory>
+    requires { IsPlan (option_copied plan) (plan_of_form (statement_form_view (out-Statement statement.now).form)) }
     ensures env { OnOk result (env state.new ≡ read_stmt (world_view world.now) (out-Statement statement.now).first (out-Statement statement.now).end (statement_form_view (out-Statement statement.now).form) (env state.old)) }
     ensures follows { OnOk result (Follows None state.old None state.new) }
 {
@@ -56,9 +60,9 @@ pub(crate) fn read_statement(
         StatementForm::Simple(simple) => {
             read_simple(world, state, simple, statement.first, statement.end)
         }
-        StatementForm::If(statement) => read_if(world, state, statement),
-        StatementForm::While(statement) => read_while(world, state, statement),
-        StatementForm::Block(block) => read_block(world, state, block),
+        StatementForm::If(statement) => read_if(world, state, statement, plan),
+        StatementForm::While(statement) => read_while(world, state, statement, plan),
+        StatementForm::Block(block) => read_inner_block(world, state, block, plan),
     }
 }
 
@@ -225,12 +229,20 @@ fn read_last(
 }
 
 #[cycle(reading)]
-fn read_if(world: &World<'_>, state: &mut State, statement: &IfStatement) -> Result<(), NoMemory>
+fn read_if(
+    world: &World<'_>,
+    state: &mut State,
+    statement: &IfStatement,
+    plan: Option<&Plan>,
+) -> Result<(), NoMemory>
+    requires { IsPlan (option_copied plan) (plan_of_form (if_statement_view statement.now)) }
     ensures env { (first end : ℕ) → OnOk result (env state.new ≡ read_stmt (world_view world.now) first end (if_statement_view statement.now) (env state.old)) }
     ensures follows { OnOk result (Follows None state.old None state.new) }
 {
-    let arms = read_branches(world, state, statement.branches.as_slice())?;
-    read_else(world, state, &statement.last)?;
+    let planned = part(plan, 0);
+    let last = part(plan, 1);
+    let arms = read_branches(world, state, statement.branches.as_slice(), planned)?;
+    read_else(world, state, &statement.last, last)?;
     state.meet_arms(arms)?;
     Ok(())
 }
@@ -241,7 +253,9 @@ fn read_branches(
     world: &World<'_>,
     state: &mut State,
     branches: &[Branch],
+    plan: Option<&Plan>,
 ) -> Result<Vec<Fork>, NoMemory>
+    requires { IsPlan (option_copied plan) (plan_of_branches (branches_view branches.now)) }
     ensures env { OnOk result (env state.new ≡ (read_branches (world_view world.now) (branches_view branches.now) (env state.old)).env) }
     ensures arms { IfOk result (λ all. all_joined (ways_of state.new.facts (reverse all.items)) None ≡ (read_branches (world_view world.now) (branches_view branches.now) (env state.old)).arms) }
     ensures leaves { IfOk result (λ all. Leaves state.old (reverse all.items) None state.new) }
@@ -249,7 +263,8 @@ fn read_branches(
     let mut arms = Vec::new(world.alloc);
     for i in 0..branches.len() {
         let branch = &branches[i];
-        let arm = read_branch(world, state, branch)?;
+        let planned = part(plan, i);
+        let arm = read_branch(world, state, branch, planned)?;
         arms.push(arm)?;
     }
     Ok(arms)
@@ -257,25 +272,37 @@ fn read_branches(
 
 // A test and its body; what follows is read where the test is falsy.
 #[cycle(reading)]
-fn read_branch(world: &World<'_>, state: &mut State, branch: &Branch) -> Result<Fork, NoMemory>
+fn read_branch(
+    world: &World<'_>,
+    state: &mut State,
+    branch: &Branch,
+    plan: Option<&Plan>,
+) -> Result<Fork, NoMemory>
+    requires { IsPlan (option_copied plan) (plan_of_body (body_view (out-Branch branch.now).body)) }
     ensures env { OnOk result ((arms : Known) → env state.new ≡ (forked (record { env = env state.old; arms = arms }) (read (world_view world.now) (expr_view (out-Branch branch.now).test) (scope state.old) None (now state.old)) (read_body (world_view world.now) (body_view (out-Branch branch.now).body) (with_now (on_yes (read (world_view world.now) (expr_view (out-Branch branch.now).test) (scope state.old) None (now state.old))) (env state.old)))).env) }
     ensures way { IfOk result (λ k. way_of state.new.facts k ≡ (read_body (world_view world.now) (body_view (out-Branch branch.now).body) (with_now (on_yes (read (world_view world.now) (expr_view (out-Branch branch.now).test) (scope state.old) None (now state.old))) (env state.old))).facts) }
     ensures leaves { IfOk result (λ k. Leaves state.old (k ∷ []) None state.new) }
 {
     let fork = read_test(world, state, &branch.test)?;
-    read_body(world, state, &branch.body)?;
+    read_body(world, state, &branch.body, plan)?;
     let way = state.turn(fork)?;
     Ok(way)
 }
 
 #[cycle(reading)]
-fn read_else(world: &World<'_>, state: &mut State, last: &Else) -> Result<(), NoMemory>
+fn read_else(
+    world: &World<'_>,
+    state: &mut State,
+    last: &Else,
+    plan: Option<&Plan>,
+) -> Result<(), NoMemory>
+    requires { IsPlan (option_copied plan) (plan_of_else (else_view last.now)) }
     ensures env { OnOk result (env state.new ≡ read_else (world_view world.now) (else_view last.now) (env state.old)) }
     ensures follows { OnOk result (Follows None state.old None state.new) }
 {
     match last {
         Else::Nothing => Ok(()),
-        Else::Body(body) => read_body(world, state, body),
+        Else::Body(body) => read_body(world, state, body, plan),
     }
 }
 
@@ -284,14 +311,36 @@ fn read_while(
     world: &World<'_>,
     state: &mut State,
     statement: &WhileStatement,
+    plan: Option<&Plan>,
 ) -> Result<(), NoMemory>
+    requires { IsPlan (option_copied plan) (plan_of_form (while_statement_view statement.now)) }
     ensures env { (first end : ℕ) → OnOk result (env state.new ≡ read_stmt (world_view world.now) first end (while_statement_view statement.now) (env state.old)) }
     ensures follows { OnOk result (Follows None state.old None state.new) }
 {
-    let changes = changes_of_loop(world.alloc, statement)?;
-    let outer = state.enter_loop(changes.as_slice())?;
+    match plan {
+        Some(plan) => read_loop(world, state, statement, plan),
+        None => {
+            let plan = plan_of_loop(world.alloc, statement)?;
+            read_loop(world, state, statement, &plan)
+        }
+    }
+}
+
+// A loop with its plan.
+#[cycle(reading)]
+fn read_loop(
+    world: &World<'_>,
+    state: &mut State,
+    statement: &WhileStatement,
+    plan: &Plan,
+) -> Result<(), NoMemory>
+    requires { plan_view plan.now ≡ plan_of_form (while_statement_view statement.now) }
+    ensures env { (first end : ℕ) → OnOk result (env state.new ≡ read_stmt (world_view world.now) first end (while_statement_view statement.now) (env state.old)) }
+    ensures follows { OnOk result (Follows None state.old None state.new) }
+{
+    let outer = state.enter_loop(plan.changes.as_slice())?;
     let fork = read_test(world, state, &statement.test)?;
-    read_body(world, state, &statement.body)?;
+    read_body(world, state, &statement.body, part(Some(plan), 0))?;
     state.leave_loop(fork, outer)?;
     Ok(())
 }

@@ -2,15 +2,15 @@
 #![tactic(auto, using(crate::proofs::Telling::told_behind))]
 
 ghost use Rattle.std.specs.Prelude.{◌≡◌, ◌++◌, OnOk};
-ghost use Rattle.typing.specs.Changes.{changes_of_ex, changes_of_function, changes_of_stmts, changes_of_body, changes_of_simple};
-ghost use Rattle.code_tree.specs.View.{expr_view, function_view, statements_view, body_view, simple_view};
+ghost use Rattle.typing.specs.Changes.{changes_of_ex, changes_of_function, changes_of_simple};
+ghost use Rattle.code_tree.specs.View.{expr_view, function_view, simple_view};
 ghost use Rattle.code_changes.specs.View.{changes_view};
 
 use crate::change::Change;
 use crate::expressions::{walk_expr, walk_function};
-use crate::statements::{walk_body, walk_simple, walk_statements};
+use crate::statements::walk_simple;
 use crate::walk::Walk;
-use code_tree::{Body, Expr, Function, Simple, Statement};
+use code_tree::{Expr, Function, Simple};
 use flow_values::{List, NoMemory};
 use std::alloc::Global;
 use std::mem;
@@ -43,38 +43,6 @@ pub fn changes_of_function(
 {
     let mut walk = Walk::behind(alloc, mem::replace(out, List::new(alloc)));
     let walked = walk_function(function, &mut walk);
-    *out = walk.into_changes();
-    walked
-}
-
-/// Puts what statements may change behind other changes.
-///
-/// # Errors
-///
-/// `NoMemory` where memory is refused. Some of the changes may be there then.
-pub fn changes_of_statements(
-    alloc: Global,
-    all: &[Statement],
-    out: &mut List<Change>,
-) -> Result<(), NoMemory>
-    ensures { OnOk result (changes_view out.new ≡ changes_view out.old ++ changes_of_stmts (statements_view all.now)) }
-{
-    let mut walk = Walk::behind(alloc, mem::replace(out, List::new(alloc)));
-    let walked = walk_statements(all, &mut walk);
-    *out = walk.into_changes();
-    walked
-}
-
-/// Puts what a body may change behind other changes.
-///
-/// # Errors
-///
-/// `NoMemory` where memory is refused. Some of the changes may be there then.
-pub fn changes_of_body(alloc: Global, body: &Body, out: &mut List<Change>) -> Result<(), NoMemory>
-    ensures { OnOk result (changes_view out.new ≡ changes_view out.old ++ changes_of_body (body_view body.now)) }
-{
-    let mut walk = Walk::behind(alloc, mem::replace(out, List::new(alloc)));
-    let walked = walk_body(body, &mut walk);
     *out = walk.into_changes();
     walked
 }

@@ -9,6 +9,4 @@ mod statements;
 mod walk;
 
 pub use change::{Change, inner_names, killed_by};
-pub use changes::{
-    changes_of_body, changes_of_expr, changes_of_function, changes_of_simple, changes_of_statements,
-};
+pub use changes::{changes_of_expr, changes_of_function, changes_of_simple};

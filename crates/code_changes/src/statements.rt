@@ -98,9 +98,9 @@ fn walk_while(statement: &WhileStatement, walk: &mut Walk) -> Result<(), NoMemor
     walk_body(&statement.body, walk)
 }
 
-/// Walks through a body.
+// Walks through a body.
 #[cycle(changing)]
-pub(crate) fn walk_body(body: &Body, walk: &mut Walk) -> Result<(), NoMemory>
+fn walk_body(body: &Body, walk: &mut Walk) -> Result<(), NoMemory>
     ensures { OnOk result (Tells walk.old walk.new (changes_of_body (body_view body.now))) }
 {
     match body {

@@ -1,4 +1,4 @@
-use Rattle.std.proofs.Common.{◌≡◌, ◌-◌, ◌≤◌, nat_lt, Option, length, map, take}
+use Rattle.std.proofs.Common.{◌≡◌, ◌-◌, ◌≤◌, nat_lt, length, take}
 use Rattle.std.specs.Option.{option_copied, option_map}
 use Rattle.check_world.specs.View.{world_view}
 use Rattle.code_tree.specs.View.{exprs_view, fields_view, links_view, operands_view, arms_view, statements_view, branches_view}

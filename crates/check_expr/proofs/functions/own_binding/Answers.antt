@@ -1,4 +1,3 @@
-use Rattle.std.proofs.Common.{rules}
 use Rattle.check_moves.specs.View.{around}
 use Rattle.check_world.specs.View.{world_view}
 use Rattle.scopes.specs.Rows.{binding_view}

@@ -1,4 +1,4 @@
-use Rattle.std.proofs.Common.{arith, rules}
+use Rattle.std.proofs.Common.{arith}
 use Rattle.literal_reads.specs.Keys.{entry_view}
 use Rattle.literal_reads.specs.View.{entries_view}
 use Rattle.check_expr.proofs.Fronts.{entries_begin, entries_next}

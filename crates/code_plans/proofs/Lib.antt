@@ -1,0 +1,9 @@
+pub mod Views
+pub mod Meeting
+pub mod Owning
+pub mod Adding
+pub mod Parts
+pub mod Alike
+pub mod Handing
+pub mod Forms
+pub mod Trees
