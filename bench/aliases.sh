@@ -1,15 +1,54 @@
 #!/usr/bin/env bash
-# The time to build alias tables, and to ask them: in one module a chain, one cycle through all, and all that name the
-# first one; many modules of 50 aliases, each of which names that of the module before; the same built several times over
-# the same rows; and an alias of a large object, looked up and opened 100,000 times.
-# It prints for each line what came out and the seconds. In a small table the program's own start counts.
-cd "$(dirname "$0")/../crates/type_bench" || exit 1
-rt run < stdin > /dev/null || exit 1
-TIMEFORMAT='    %R s'
-run() { time echo "$1" | ./out/type_bench; }
-for shape in chain cycle star; do
-    for count in 4096 16384 65536; do run "$shape $count"; done
+# The time to read aliases, to build a table of them and to ask of the last one: in one module a chain, a cycle through all, all that
+# name the first one, and rows of 50, each of which names those of the row before; and in `flowd` modules of 50 aliases, each of
+# which names those of the module before, so that each module's table has those of all before it.
+# Each line: the shape, how many aliases it has, the answer or what is printed, the milliseconds of the processor in the shortest of
+# five runs, less those of an empty run, and the microseconds an alias, which are to stay.
+# `rt run` in crates/subtype_cases and in crates/flowd builds the programs that it measures.
+cd "$(dirname "$0")" || exit 1
+program=${PROGRAM:-../crates/subtype_cases/out/subtype_cases}
+flowd=${FLOWD:-../crates/flowd/out/flowd}
+[ -x "$program" ] && [ -x "$flowd" ] || { echo "build them first: rt run in crates/subtype_cases and crates/flowd" >&2; exit 1; }
+folder=$(mktemp -d)
+trap 'rm -rf "$folder"' EXIT
+TIMEFORMAT='%3U %3S'
+
+# best COMMAND..: the processor's seconds of the shortest of five runs of it on the file `asked`
+best() {
+    for _ in 1 2 3 4 5; do
+        { time "$@" <"$folder/asked" >"$folder/told"; } 2>&1
+    done | awk '{ took = $1 + $2 } NR == 1 || took < least { least = took } END { print least }'
+}
+
+# tell NAME COUNT EMPTY TOOK
+tell() {
+    awk -v name="$1" -v count="$2" -v empty="$3" -v took="$4" -v told="$(head -c 60 "$folder/told" | head -n 1 | cut -f 1)" \
+        'BEGIN { printf "%s: %d, %s, %.0f ms, %.2f microseconds each\n", name, count, told, (took - empty) * 1e3, (took - empty) * 1e6 / count }'
+}
+
+# one NAME SCRIPT: the script makes the type of alias i of n
+one() {
+    for count in 4096 16384 65536; do
+        node -e "const n = $count; console.log(['A' + (n - 1), 'null | void | number', ...Array.from({length: n}, (_, i) => 'A' + i + ' = ' + ($2))].join('\t'))" >"$folder/asked"
+        tell "$1" "$count" "$empty" "$(best "$program")"
+    done
+}
+
+: >"$folder/asked"
+empty=$(best "$program")
+one "a chain" "i ? 'A' + (i - 1) : 'number'"
+one "a cycle" "'A' + ((i || n) - 1)"
+one "all name the first" "i ? '?A0' : 'number'"
+one "rows of 50" "i < 50 ? 'number' : '?A' + (i - 50)"
+mkdir "$folder/modules"
+: >"$folder/asked"
+empty=$(best "$flowd" "$folder/modules")
+for count in 32 64 128; do
+    node -e "const names = Array.from({length: 50}, (_, i) => i);
+        for (let m = 0; m < $count; m++) {
+            const from = m ? 'import type {' + names.map((i) => 'A' + i + ' as B' + i).join(', ') + \"} from './m\" + (m - 1) + \"';\" : '';
+            const own = names.map((i) => 'export type A' + i + ' = ' + (m ? '?B' + i : 'number') + ';');
+            require('fs').writeFileSync('$folder/modules/m' + m + '.js', from + own.join(''));
+        }"
+    tell "aliases in the tables of $count modules" $((25 * count * (count + 1))) "$empty" "$(best "$flowd" "$folder/modules")"
 done
-for modules in 512 1024 2048 4096; do run "modules $modules 50"; done
-for times in 1 2 4; do run "builds 4096 50 $times"; done
-for props in 10 1000 100000; do run "large $props 100000"; done

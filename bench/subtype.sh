@@ -1,46 +1,58 @@
 #!/usr/bin/env bash
-# The time of one question of subtyping for shapes that grow:
-#   0 a union of literals, below the same in the other order        1 tagged objects, below wider ones
-#   2 read-only arrays one in the other                             3 two cycles of aliases that differ at the end
-#   4 two cycles of aliases that are alike                          5 as 0, with one literal that the other lacks
-#   6 objects of many properties, below wider ones                  7 two cycles of coprime lengths, each with each
-#   8 as 6, with keys that fall                                     9 arrays that may be written, one in the other
-# Each line: shape, size, the answer, the microseconds of the question alone, how many times those of the line
-# before of its shape they are, and where the number of pairs is known, it and the microseconds a pair.
-cd "$(dirname "$0")/../crates/subtype_bench" || exit 1
-rt run <stdin >/dev/null 2>&1 || exit 1
-spent=$(mktemp)
-trap 'rm -f "$spent"' EXIT
-before=0
-ask() { # SHAPE SIZE [PAIRS]
-    local answer micros
-    answer=$(echo "$2$1" | ./out/subtype_bench 2>"$spent") || exit 1
-    micros=$(cat "$spent")
-    awk -v shape="$1" -v size="$2" -v pairs="${3:-0}" -v micros="$micros" -v before="$before" -v answer="${answer#*: }" 'BEGIN {
-        printf "%s %6d %5s %9d us", shape, size, answer, micros
-        if (before) printf "  x %.1f", micros / before
-        if (pairs) printf "  %d pairs, %.2f us a pair", pairs, micros / pairs
-        print ""
-    }'
-    before=$micros
+# The time of one question of subtyping for shapes that grow. Each line: the shape, its size, the answer, the milliseconds of the
+# question, and how many times those of the line before they are. They are the processor's in the shortest of five runs, less
+# those of a run that reads the same types and aliases and asks whether `any` is below `any`. Tagged objects are asked each with
+# each, and coprime cycles meet in so many pairs too: four times is in proportion there.
+# `rt run` in crates/subtype_cases builds the program that it measures.
+cd "$(dirname "$0")" || exit 1
+program=${PROGRAM:-../crates/subtype_cases/out/subtype_cases}
+[ -x "$program" ] || { echo "build it first: rt run in crates/subtype_cases" >&2; exit 1; }
+folder=$(mktemp -d)
+trap 'rm -rf "$folder"' EXIT
+cat >"$folder/shapes.js" <<'END'
+const [shape, size, folder] = process.argv.slice(2), n = Number(size);
+const list = (count, part) => Array.from({length: count}, (_, i) => part(i));
+const literals = (first, back) => list(n, (i) => `"k${first + (back ? n - i : i + 1)}"`).join(' | ');
+const objects = (value) => list(n, (i) => `{+k: "k${i}", +v: ${value}}`).join(' | ');
+const wide = (value, back) => `{${list(n, (i) => `+p${1e6 + (back ? n - i : i)}: ${value}`).join(', ')}}`;
+const tower = (word, end) => [`${word}0 = ${end}`, ...list(n, (i) => `${word}${i + 1} = $ReadOnlyArray<${word}${i}>`)];
+const cycle = (word, count, end) => list(count, (i) => `${word}${i} = {+k: ${word}${(i + 1) % count}, +v: ${i + 1 < count ? 'string' : end}}`);
+// two types, and the aliases that they name
+const [a, b, ...aliases] = {
+    'a union of literals, and the same in the other order': () => [literals(0, false), literals(0, true)],
+    'the same with one literal that the other lacks': () => [literals(0, false), literals(1, true)],
+    'tagged objects, and wider ones': () => [objects('1'), objects('number')],
+    'objects of many properties, and wider ones': () => [wide('1', false), wide('number', false)],
+    'the same with keys that fall': () => [wide('1', true), wide('number', true)],
+    'arrays in one another, both ways': () => ['N' + '[]'.repeat(n), 'number' + '[]'.repeat(n), 'N = number'],
+    'read-only arrays in one another, by names': () => ['A' + n, 'B' + n, ...tower('A', '1'), ...tower('B', 'number')],
+    'two cycles of aliases that are alike': () => ['A0', 'B0', ...cycle('A', n, 'string'), ...cycle('B', n, 'string')],
+    'two cycles of aliases that differ at the end': () => ['A0', 'B0', ...cycle('A', n, 'number'), ...cycle('B', n, 'string')],
+    'two cycles of coprime lengths': () => ['A0', 'B0', ...cycle('A', n, 'string'), ...cycle('B', n + 1, 'string')],
+}[shape]();
+const write = (name, fields) => require('fs').writeFileSync(`${folder}/${name}`, fields.join('\t') + '\n');
+write('asked', [a, b, ...aliases]);
+write('read', ['any', 'any', `First = ${a}`, `Second = ${b}`, ...aliases]);
+END
+TIMEFORMAT='%3U %3S'
+best() { # FILE: the processor's seconds of the shortest of five runs on it
+    for _ in 1 2 3 4 5; do { time "$program" <"$folder/$1" >"$folder/told"; } 2>&1; done |
+        awk '{ took = $1 + $2 } NR == 1 || took < least { least = took } END { print least }'
 }
 grow() { # SHAPE SIZE..
-    local shape=$1 size
-    shift
-    before=0
-    for size in "$@"; do
-        case $shape in
-            3 | 4) ask "$shape" "$size" $((4 * size)) ;;
-            7) ask "$shape" "$size" $((4 * size * (size + 1))) ;;
-            *) ask "$shape" "$size" ;;
-        esac
+    local shape=$1 size before=0 took
+    for size in "${@:2}"; do
+        node "$folder/shapes.js" "$shape" "$size" "$folder" || exit 1
+        took=$(awk -v read="$(best read)" -v asked="$(best asked)" 'BEGIN { print (asked - read) * 1e3 }')
+        awk -v name="$shape: $size" -v answer="$(cut -f 1 "$folder/told")" -v took="$took" -v before="$before" \
+            'BEGIN { printf "%s, %s, %.0f ms%s\n", name, answer, took, (before > 0 ? sprintf(", x %.1f", took / before) : "") }'
+        before=$took
     done
 }
-grow 0 250 500 1000 2000
-grow 5 250 500 1000 2000
-grow 1 50 100 200 400
-for shape in 2 3 4; do grow "$shape" 1000 2000 4000; done
-grow 6 250 500 1000 2000
-grow 7 79 158 316
-grow 8 250 500 1000 2000
-grow 9 1000 2000 4000
+for shape in 'a union of literals, and the same in the other order' 'the same with one literal that the other lacks'; do grow "$shape" 8000 16000 32000; done
+grow 'tagged objects, and wider ones' 200 400 800
+for shape in 'objects of many properties, and wider ones' 'the same with keys that fall' 'arrays in one another, both ways' \
+    'read-only arrays in one another, by names' 'two cycles of aliases that are alike' 'two cycles of aliases that differ at the end'; do
+    grow "$shape" 4000 8000 16000
+done
+grow 'two cycles of coprime lengths' 79 158 316

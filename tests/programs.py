@@ -1,10 +1,12 @@
 #!/usr/bin/env python3
-"""Runs ./flowd on the programs of crates/program_cases, each as a real folder with a script that asks for the status.
+"""Runs ./flowd on the programs of programs.in, each as a real folder with a script that asks for the status.
 
     tests/programs.py [WORD]       (only the cases whose name has this word)
 
-The stored run of that crate has one program a line, as its main.rt says, and the lines of its errors: they are read
-here, not written again. What can't be a line of a file follows below. The last line is 'N passed, M failed'.
+A line of programs.in is a program: the path and the source of each module in rising order of the paths, with a TAB
+between any two and `⏎` for each end of a line. programs.out has the lines of its errors, which an empty line ends: they
+were made from the language's description by hand and by a second implementation. What can't be a line of a file follows
+below. The last line is 'N passed, M failed'.
 """
 
 import os
@@ -46,10 +48,9 @@ def modules_of(line):
     return list(zip(fields[::2], fields[1::2], strict=True))
 
 
-def stored():
-    """The lines of the stored run, and what each prints, which an empty line ends."""
-    folder = f"{TOP}/crates/program_cases"
-    with open(f"{folder}/stdin", "rb") as asked, open(f"{folder}/stdout", "rb") as told:
+def written():
+    """The lines of programs.in, and what each prints, which an empty line ends."""
+    with open(f"{TOP}/tests/programs.in", "rb") as asked, open(f"{TOP}/tests/programs.out", "rb") as told:
         lines, answers, answer = asked.read().split(b"\n")[:-1], [], b""
         for row in told:
             if row == b"\n":
@@ -69,8 +70,8 @@ def fault_of(root, number, line, errors):
 
 
 @case
-def the_stored_programs(root):
-    rows = stored()
+def the_written_programs(root):
+    rows = written()
     with ThreadPoolExecutor(os.cpu_count()) as pool:
         told = pool.map(lambda it: fault_of(root, it[0], *it[1]), enumerate(rows, 1))
         wrong = [it for it in told if it]

@@ -111,6 +111,17 @@ FOLDERS = {
         },
         ["a.js:3:60 prop-missing r"],
     ),
+    "aliases that lead to themselves, and others that lead to those": (
+        {"a.js": "type A = B;\ntype B = A | F;\ntype C = A;\ntype D = D;\ntype E = number;\ntype F = D | E;\n"},
+        ["a.js:1:6 recursive-alias A", "a.js:2:6 recursive-alias B", "a.js:4:6 recursive-alias D"],
+    ),
+    "of a name that is exported twice the first one counts": (
+        {
+            "a.js": 'export const y: number = 1;\nexport const x: number = 1;\nexport const x: string = "x";\n',
+            "b.js": "import {x} from './a';\nconst a: null = x;\n",
+        },
+        ["a.js:3:14 name-already-bound x", "b.js:2:17 incompatible-type number null"],
+    ),
     "a way through a function without a value": (
         {"a.js": "export function f(b: boolean): number {\n  if (b) { return 1; }\n}\n"},
         ["a.js:1:32 incompatible-type void number"],
@@ -169,6 +180,63 @@ def a_line_of_an_error_is_counted(root):
     script = edit("a.js", GOOD + b'export const y: string = true;\n') + RECHECK + STATUS
     told = b"2 status: 1 errors\n  a.js:2:26 incompatible-type true string\n"
     expect_script(root, script, ERRORS, recheck(0) + done(2, 1, 1) + told)
+
+
+@case
+def columns_count_characters(root):
+    """A line ends behind LF alone, and a character is one, of as many bytes as it may be."""
+    write(f"{root}/a.js", 'nowhere;\r\rhere;\r\n/*\u00e9*/x;\n/*\u20ac*/y;\n/*\U0001f600\u00e9\u20ac*/z;'.encode())
+    names = [b"1:1 cannot-resolve-name nowhere", b"1:11 cannot-resolve-name here", b"2:6 cannot-resolve-name x"]
+    names += [b"3:6 cannot-resolve-name y", b"4:8 cannot-resolve-name z"]
+    told = b"1 status: 5 errors\n" + b"".join(b"  a.js:%s\n" % name for name in names)
+    expect_script(root, STATUS, ERRORS, recheck(1, 5) + told)
+
+
+@case
+def details_are_cut_behind_80_characters(root):
+    """A string of so many characters has two quotes besides. Of 81 the first 77 are left, and three dots."""
+    line = "const x: number = "
+    told = b"1 status: 3 errors\n"
+    for name, count in (("a", 75), ("b", 78), ("c", 79)):
+        text = '"' + "\u00e9" * count + '"'
+        write(f"{root}/{name}.js", f"{line}{text};".encode())
+        shown = text if len(text) <= 80 else text[:77] + "..."
+        told += f"  {name}.js:1:{len(line) + 1} incompatible-type {shown} number\n".encode()
+    expect_script(root, STATUS, ERRORS, recheck(3, 3) + told)
+
+
+@case
+def fields_that_a_command_does_not_name(root):
+    """They are ignored; of one that is repeated the last counts."""
+    script = b'{"why":[1],"text":"","do":"edit","path":"a.js","stop":0}\n{"do":"rechek","why":1,"do":"recheck"}\n'
+    script += b'{"ask":{"what":"status","stop":{}},"do":"ask","path":1}\n{"do":"end","asks":[]}\n\xff\n'
+    expect_script(root, script, CLEAN, recheck(0) + done(2, 1) + b"2 status: 0 errors\n")
+
+
+@case
+def lines_that_are_no_command(root):
+    """Each is told by its number, also where it is the last one and has no end."""
+    lines = (
+        b'{"do":"recheck","stop":0}',
+        b'{"do":"recheck","asks":[]}',
+        b'{"do":"edit","path":"a/../b.js","text":""}',
+        b'{"do":"edit","path":"a.js","text":1}',
+        b'{"do":"edit","path":"a.js"}',
+        b'{"do":"edit","text":""}',
+        b'{"do":"ask","ask":"status"}',
+        b'{"do":"ask","ask":{"what":"errors"}}',
+        b'{"do":"ask"}',
+        b'{"do":1}',
+        b'{"Do":"end"}',
+        b'["do"]',
+        b'{"do":"end"',
+        b'{"do":"end"} {"do":"end"}',
+        b'{"do":"end","\xff":1}',
+        b"last",
+    )
+    for bad in lines:
+        for end in (b"", b"\n" + RECHECK):
+            expect_script(root, RECHECK + b"\n" + bad + end, BAD_LINE, recheck(0) + done(2, 0) + b"bad line 3\n")
 
 
 @case
