@@ -17,7 +17,7 @@ use crate::signatures::{annotated, function_type, param_type};
 use check_world::{Notes, World};
 use code_tree::{Binder, Declaration, Function, Parameter, Signature, Statement, StatementForm};
 use flow_values::{NoMemory, Text};
-use part_steps::next;
+use part_steps::{is_const, next};
 use scopes::{Binding, Height, Kind, Scope};
 use std::collections::BTreeSet;
 use type_terms::eff;
@@ -61,7 +61,7 @@ fn bind_parameter(
     let declared = eff(world.alloc, parameter.optional, &own)?;
     let binding = Binding {
         name: parameter.name.share()?,
-        number: Binding::number_at(parameter.first)?,
+        number: Binding::number_at(false, parameter.first)?,
         kind: changing_kind(set_inside, &parameter.name),
         depth: scope.depth,
         is_read: true,
@@ -116,7 +116,7 @@ pub fn bind_declaration(
     let token = next(declaration.first)?;
     let binding = Binding {
         name: declaration.name.share()?,
-        number: Binding::number_at(token)?,
+        number: Binding::number_at(is_const(declaration.binder), token)?,
         kind: kind_by(set_inside, declaration.binder, &declaration.name),
         depth: scope.depth,
         is_read: false,
@@ -141,7 +141,7 @@ pub fn function_binding(
 {
     Ok(Binding {
         name: name.share()?,
-        number: Binding::number_at(token)?,
+        number: Binding::number_at(true, token)?,
         kind: Kind::Constant,
         depth,
         is_read: true,

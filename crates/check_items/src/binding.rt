@@ -32,19 +32,19 @@ use std::alloc::Global;
 use std::collections::BTreeSet;
 use type_values::FlowType;
 
-// Binds a name that every module knows.
+// Binds a name that every module knows, the n-th one.
 fn bind_known(
     alloc: Global,
     scope: &mut Scope,
     name: &[u8],
-    number: u32,
+    n: usize,
     ty: FlowType,
 ) -> Result<(), NoMemory>
-    ensures { OnOk result (scope_view scope.new ≡ record (scope_view scope.old) { names = prelude_name name.now number ty ∷ (scope_view scope.old).names }) }
+    ensures { OnOk result (scope_view scope.new ≡ record (scope_view scope.old) { names = prelude_name name.now n ty ∷ (scope_view scope.old).names }) }
 {
     scope.bind(Binding {
         name: Text::from_bytes(alloc, name)?,
-        number,
+        number: Binding::numbered(true, n)?,
         kind: Kind::Constant,
         depth: 0,
         is_read: true,
@@ -145,7 +145,7 @@ fn top_binding(token: usize, name: &Text, kind: Kind, ty: FlowType) -> Result<Bi
 {
     Ok(Binding {
         name: name.share()?,
-        number: Binding::number_at(token)?,
+        number: Binding::number_at(kind.is_constant(), token)?,
         kind,
         depth: 0,
         is_read: true,

@@ -52,11 +52,11 @@ fn read_top_function(
     Ok(())
 }
 
-// Whether the binding of an alias's name is the alias, which stands at a token.
+// Whether the binding of an alias's name is the alias, which stands at a token and is no constant.
 fn is_bound_at(scope: &Scope, name: &Text, token: usize) -> Result<bool, NoMemory>
     ensures { IfOk result (λ yes. yes ≡ is_numbered token (binding_of (scope_view scope.now).names name.now)) }
 {
-    let number = Binding::number_at(token)?;
+    let number = Binding::number_at(false, token)?;
     match scope.find(name) {
         Some(binding) => Ok(binding.number == number),
         None => Ok(false),

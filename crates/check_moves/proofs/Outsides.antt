@@ -1,16 +1,14 @@
 -- Functions that are entered and left.
-use Rattle.std.proofs.Common.{◌≡◌, ℕ, suc, arith, Bool, true, false, not, ◌&&◌, if◌then◌else◌, List, [], ◌++◌, Option, Some, None, take, refl, ap, ◌∙◌, subst}
+use Rattle.std.proofs.Common.{◌≡◌, ℕ, suc, arith, Bool, List, [], ◌++◌, Option, None, take, ap, ◌∙◌, subst}
 use Rattle.std.specs.Option.{option_to_list}
 use Rattle.std.proofs.lemmas.List.{take_all, drop_all}
 use Rattle.type_values.specs.declared.types.FlowType.{FlowType}
-use Rattle.flow_facts.specs.Known.{Known, no_facts, is_property, entered_function}
-use Rattle.refine_flow.specs.Standing.{known}
+use Rattle.refine_flow.specs.Standing.{known, known_at, EntersMark, SpendsMark}
 use Rattle.scopes.specs.Rows.{names_view, rows_before}
 use Rattle.scopes.specs.View.{scope_view, names_in, names_at, IsTop, IsHeight, KeepsHeights}
 use Rattle.scopes.specs.declared.row.Height.{Height}
 use Rattle.scopes.specs.declared.scope.Scope.{Scope}
 use Rattle.typing.specs.Names as typing
-use Rattle.typing.specs.Names.{is_constant_number}
 use Rattle.check_world.specs.View.{notes_view}
 use Rattle.typing.specs.Functions.{kept_facts}
 use Rattle.check_moves.specs.declared.state.State.{State}
@@ -18,20 +16,8 @@ use Rattle.check_moves.specs.declared.functions.Outside.{Outside}
 use Rattle.check_moves.specs.View.{around, now, env, broken_facts}
 use Rattle.check_moves.specs.Follows.{Follows, IsOutside}
 use Rattle.check_moves.specs.Moves.{function_env, entered_env}
-use Rattle.check_moves.proofs.Following.{heights_twice, follows_scope}
-
--- the facts that a function keeps: those on constants
-pub kept_constants : (scope : typing.Scope) (facts inner : Known) → inner ≡ entered_function (is_constant_number scope) facts → inner ≡ kept_facts true scope facts
-kept_constants scope facts inner is = is
-
--- and none
-pub kept_none : (scope : typing.Scope) (facts : Known) → Some no_facts ≡ kept_facts false scope facts
-kept_none scope None = refl
-kept_none scope (Some m) = λ i. Some (λ q. at (m q) (is_property q) i)
-  where
-    at : (o : Option FlowType) (b : Bool) → None ≡ (if not (not b && false) then None else o)
-    at o true = refl
-    at o false = refl
+use Rattle.fact_ways.proofs.Marks.{enters_on, enters_ends}
+use Rattle.check_moves.proofs.Following.{heights_twice}
 
 -- with its own name, its depth and its result
 pub names_entered : (own : Option typing.Binding) (output : Option FlowType) (b c d : State) →
@@ -47,16 +33,16 @@ pub wanted_before : (names : List typing.Binding) (wanted : Option FlowType) (b 
 wanted_before names wanted b c is named = is ∙ ap (λ (s : typing.Scope). s.result) named
 
 -- the facts, and what the function around returned and broke off, are put aside before
-pub function_entered : (own : Option typing.Binding) (keeps : Bool) (output : Option FlowType) (a m c : State) → env m ≡ record (env a) { facts = kept_facts keeps (env a).scope (env a).facts; returned = []; breaks = None } →
+pub function_entered : (own : Option typing.Binding) (keeps : Bool) (output : Option FlowType) (a m c : State) → env m ≡ record (env a) { facts = kept_facts keeps (env a).facts; returned = []; breaks = None } →
     env c ≡ entered_env own output (env m) → env c ≡ function_env own keeps output (env a)
 function_entered own keeps output a m c fresh entered = entered ∙ ap (entered_env own output) fresh
 
-pub is_outside : (o : Outside) (a m c : State) → m.scope ≡ a.scope → o.facts ≡ a.facts → IsTop o.height a.scope → Follows None m None c →
+pub is_outside : (o : Outside) (a m c : State) → m.scope ≡ a.scope → EntersMark o.mark a.facts m.facts → IsTop o.height a.scope → Follows None m None c →
     o.depth ≡ (around m).scope.depth → o.result ≡ (around m).scope.result → o.returned ≡ a.returned → o.breaks ≡ a.breaks → o.stopped ≡ (now a).notes.stopped → IsOutside o a c
 unfolding around now
-is_outside o a m c names facts top enters depth result returned breaks stopped = record {
+is_outside o a m c names marks top enters depth result returned breaks stopped = record {
   heights = subst (λ n. KeepsHeights n c.scope) names enters.heights;
-  facts = facts;
+  marks = enters_on o.mark a.facts m.facts c.facts marks enters.leads.goes;
   height = top;
   depth = depth ∙ ap (λ (s : Scope). s.depth) names;
   result = result ∙ ap (λ (s : Scope). s.result) names;
@@ -98,14 +84,17 @@ around_left o before s d outside is =
     ∙ (λ i. record { scope = record { names = own i; depth = outside.depth i; result = outside.result i }; returned = before.returned; breaks = broken_facts before.breaks })
 
 -- the facts are those outside again
-pub now_left : (o : Outside) (before s new : State) → IsOutside o before s → new.facts ≡ o.facts →
+pub now_left : (o : Outside) (before s new : State) → IsOutside o before s → known new.facts ≡ known_at o.mark s.facts →
     notes_view new.notes ≡ record (notes_view s.notes) { stopped = o.stopped } → now new ≡ record { facts = known before.facts; notes = record (now s).notes { stopped = (now before).notes.stopped } }
 unfolding now
-now_left o before s new outside same stops = λ i. record {
-  facts = known ((same ∙ outside.facts) i);
+now_left o before s new outside ends stops = λ i. record {
+  facts = (ends ∙ outside.marks.before) i;
   notes = (stops ∙ (λ j. record (notes_view s.notes) { stopped = outside.stopped j })) i;
 }
 
 pub follows_left_function : (o : Outside) (before s new : State) → IsOutside o before s →
-    ((b : Scope) → IsTop o.height b → KeepsHeights b s.scope → KeepsHeights b new.scope) → new.facts ≡ o.facts → Follows None before None new
-follows_left_function o before s new outside leaves same = follows_scope before new (same ∙ outside.facts) (leaves before.scope outside.height outside.heights)
+    ((b : Scope) → IsTop o.height b → KeepsHeights b s.scope → KeepsHeights b new.scope) → SpendsMark o.mark s.facts new.facts → Follows None before None new
+follows_left_function o before s new outside leaves spent = record {
+  leads = record { fits = tt; goes = enters_ends o.mark before.facts s.facts new.facts outside.marks spent };
+  heights = leaves before.scope outside.height outside.heights;
+}

@@ -7,7 +7,7 @@ use Rattle.flow_facts.specs.Known.{Known, variable_place, live, assigned, joined
 use Rattle.flow_facts.specs.declared.place.Killed.{Killed}
 use Rattle.typing.specs.Changes.{Change}
 use Rattle.js_grammar.specs.Code.{Binder, Ex}
-use Rattle.typing.specs.Names.{Scope, declares_type, number_at}
+use Rattle.typing.specs.Names.{Scope, declares_type, number_at, is_const}
 use Rattle.typing.specs.States.{World, Want, Notes, Now, Out, Env, after, add_fault, add_faults, fault_at, reach, stop, stop_if_dead, dead, returns, with_now, asked_want, change_facts}
 use Rattle.typing.specs.Statements.{Goal, binder_type, declared_env, declared_facts, is_shared, returned_bare, returned_value, assigned_env, broken, killed_by, loop_env, target_set, asked_each, first_of, end_of}
 use Rattle.part_steps.specs.Goals.{asked_every}
@@ -124,7 +124,7 @@ is_assigned w scope number declared t facts next shared is off same = go (is_sha
     go false is = same
 
 pub plainly_declared : (w : World) (f number : ℕ) (binder : Binder) (v : Read) (u ty : FlowType) (before : Env) (a b c : State) → before.scope ≡ (around a).scope → before.returned ≡ (around a).returned → before.breaks ≡ (around a).breaks → around b ≡ around a →
-    now b ≡ after (told v a) → u ≡ v.ty → number ≡ number_at (suc f) → ty ≡ binder_type binder u →
+    now b ≡ after (told v a) → u ≡ v.ty → number ≡ number_at (is_const binder) (suc f) → ty ≡ binder_type binder u →
     env c ≡ record (env b) { scope = declares_type number ty (env b).scope } → env c ≡ declared_env w f binder None (told v a) before
 unfolding told
 plainly_declared w f number binder v u ty before a b c scope returned breaks same behind own at is declares =
@@ -133,7 +133,7 @@ plainly_declared w f number binder v u ty before a b c scope returned breaks sam
     })
 
 pub annotated_declared : (w : World) (f number : ℕ) (binder : Binder) (declared : FlowType) (v : Read) (u : FlowType) (before : Env) (a b c d : State) → before.scope ≡ (around a).scope → before.returned ≡ (around a).returned → before.breaks ≡ (around a).breaks → around b ≡ around a →
-    now b ≡ after (told v a) → u ≡ v.ty → number ≡ number_at (suc f) →
+    now b ≡ after (told v a) → u ≡ v.ty → number ≡ number_at (is_const binder) (suc f) →
     now c ≡ change_facts (declared_facts w (around b).scope number (Some declared) u) (now b) → around c ≡ around b →
     env d ≡ record (env c) { scope = declares_type number declared (env c).scope } → env d ≡ declared_env w f binder (Some declared) (told v a) before
 unfolding told

@@ -68,7 +68,7 @@ entered_env own output env = record env {
 abbrev pub function_env : Option Binding → Bool → Option FlowType → Env → Env
 function_env own keeps output env = record env {
   scope = record { names = option_to_list own ++ env.scope.names; depth = suc env.scope.depth; result = output };
-  facts = kept_facts keeps env.scope env.facts;
+  facts = kept_facts keeps env.facts;
   returned = [];
   breaks = None;
 }

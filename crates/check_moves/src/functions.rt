@@ -3,43 +3,27 @@
 
 ghost use Rattle.std.specs.Prelude.{◌≡◌, suc, ◌++◌, None, Some, OnOk, IfOk};
 ghost use Rattle.std.specs.Option.{option_map, option_to_list};
-ghost use Rattle.refine_flow.specs.Standing.{known};
+ghost use Rattle.refine_flow.specs.Standing.{known, IsLast};
 ghost use Rattle.scopes.specs.Rows.{binding_view};
 ghost use Rattle.scopes.specs.View.{scope_view, names_at, IsTop, KeepsHeights};
-ghost use Rattle.typing.specs.Functions.{kept_facts};
-ghost use Rattle.typing.specs.Names.{is_constant_number};
 
 use crate::state::State;
 use flow_values::{List, NoMemory};
-use refine_flow::{Facts, Keeps};
+use refine_flow::{Facts, Mark};
 use scopes::{Binding, Height, Scope};
 use std::mem;
 use type_values::FlowType;
 
-/// What stands around a function while its body is read.
+/// What stands around a function while its body is read. The facts around are those at the mark.
 #[derive(Drop)]
 pub struct Outside {
-    pub facts: Facts,
+    pub mark: Mark,
     pub height: Height,
     pub depth: usize,
     pub result: Option<FlowType>,
     pub returned: List<FlowType>,
     pub breaks: Option<Facts>,
     pub stopped: bool,
-}
-
-// The constants of a scope, which keep their facts in a function inside.
-#[derive(Drop)]
-struct Constants<'a> {
-    scope: &'a Scope,
-}
-
-impl<'a> Keeps for Constants<'a> {
-    ghost kept = { λ constants number. is_constant_number (scope_view constants.scope.now) number };
-
-    fn keeps(&self, binding: u32) -> bool {
-        self.scope.is_constant(binding)
-    }
 }
 
 // Goes back to the names of a height, in a function at a depth that is to return a type.
@@ -57,17 +41,6 @@ impl State {
     ghost use Rattle.check_moves.specs.Follows.{Follows, IsOutside};
     ghost use Rattle.check_moves.specs.Moves.{function_env, entered_env};
     ghost use Rattle.check_moves.specs.declared.state.State.{State};
-
-    // The facts that the body of a function begins with: those on constant variables, or none.
-    #[tactic(auto, using(crate::proofs::Outsides::kept_constants, crate::proofs::Outsides::kept_none), unfolding(crate::specs::View::around, crate::specs::View::now, crate::specs::View::told))]
-    fn inner_facts(&self, keeps: bool) -> Result<Facts, NoMemory>
-        ensures { IfOk result (λ facts. known facts ≡ kept_facts keeps (scope self.now) (known self.now.facts)) }
-    {
-        if !keeps {
-            return Ok(Facts::new(self.alloc));
-        }
-        self.facts.inner(&Constants { scope: &self.scope })
-    }
 
     // Binds the name of a function expression round its scope, if it has one.
     #[tactic(auto, using(crate::proofs::Following::follows_scope, crate::proofs::Following::follows_nothing), unfolding(crate::specs::View::around, crate::specs::View::now, crate::specs::View::told))]
@@ -135,14 +108,13 @@ impl State {
         ensures outside { IfOk result (λ o. IsOutside o self.old self.new) }
     {
         let height = self.scope.height();
-        let inner = self.inner_facts(keeps)?;
-        let facts = mem::replace(&mut self.facts, inner);
+        let mark = self.facts.begin_function(keeps)?;
         let returned = mem::replace(&mut self.returned, List::new(self.alloc));
         let breaks = self.breaks.take();
         let stopped = self.notes.is_stopped();
         let (depth, result) = self.enter_names(own, output)?;
         Ok(Outside {
-            facts,
+            mark,
             height,
             depth,
             result,
@@ -153,15 +125,20 @@ impl State {
     }
 
     /// Leaves a function, whose facts and names end with it, and gives the types that it returned.
+    ///
+    /// # Errors
+    ///
+    /// `NoMemory` where memory is refused. The state may only be dropped then.
     #[tactic(auto, using(crate::proofs::Outsides::around_left, crate::proofs::Outsides::now_left), unfolding(crate::specs::View::around, crate::specs::View::now, crate::specs::View::told))]
-    pub fn leave_function(&mut self, outside: Outside) -> List<FlowType>
-        ensures returned { result ≡ (around self.old).returned }
-        ensures now { (before : State) → IsOutside outside before self.old → now self.new ≡ record { facts = known before.facts; notes = record (now self.old).notes { stopped = (now before).notes.stopped } } }
-        ensures around { (before : State) → IsOutside outside before self.old → around self.new ≡ around before }
-        ensures follows { (before : State) → IsOutside outside before self.old → Follows None before None self.new }
+    pub fn leave_function(&mut self, outside: Outside) -> Result<List<FlowType>, NoMemory>
+        requires { IsLast outside.mark self.old.facts }
+        ensures returned { IfOk result (λ types. types ≡ (around self.old).returned) }
+        ensures now { OnOk result ((before : State) → IsOutside outside before self.old → now self.new ≡ record { facts = known before.facts; notes = record (now self.old).notes { stopped = (now before).notes.stopped } }) }
+        ensures around { OnOk result ((before : State) → IsOutside outside before self.old → around self.new ≡ around before) }
+        ensures follows { OnOk result ((before : State) → IsOutside outside before self.old → Follows None before None self.new) }
     {
         let Outside {
-            facts,
+            mark,
             height,
             depth,
             result,
@@ -169,10 +146,10 @@ impl State {
             breaks,
             stopped,
         } = outside;
-        self.facts = facts;
+        self.facts.end_function(mark)?;
         leave_names(&mut self.scope, height, depth, result);
         self.breaks = breaks;
         self.notes.set_stopped(stopped);
-        mem::replace(&mut self.returned, returned)
+        Ok(mem::replace(&mut self.returned, returned))
     }
 }

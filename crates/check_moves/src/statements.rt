@@ -21,7 +21,7 @@ use code_tree::Binder;
 use fact_ways::Fork;
 use flow_facts::Place;
 use flow_values::{NoMemory, Text};
-use part_steps::{Goal, Target, ask_each};
+use part_steps::{Goal, Target, ask_each, is_const};
 use place_tests::variable_place;
 use refine_flow::Facts;
 use scopes::Binding;
@@ -237,7 +237,7 @@ impl State {
         ensures follows { OnOk result (Follows value.fork self.old None self.new) }
     {
         let value = self.after(value)?;
-        let number = Binding::number_at(token)?;
+        let number = Binding::number_at(is_const(binder), token)?;
         let Some(declared) = annotation else {
             let ty = self.bound_type(binder, value)?;
             return self.declare_type(number, &ty);

@@ -1,3 +1,4 @@
+pub mod Classes
 pub mod Over
 pub mod Moving
 pub mod Listing

@@ -107,14 +107,20 @@ goes_dropped d gone old new drops = record {
   fresh = λ s leaves fresh. drops.fresh s fresh;
 }
 
--- the properties are gone
-pub made_gone : (d : Difference) (old new : Trail) → d.no_properties ≡ true → Drops is_property old new → (s : Slot) → map_of new s ≡ (if is_gone d s then None else map_of old s)
-made_gone d old new gone drops (Variable b) = ap (λ (m : Map). m (Variable b)) drops.facts
-made_gone d old new gone drops (Property k) = ap (λ (m : Map). m (Property k)) drops.facts ∙ sym (ap (λ t. if t then None else map_of old (Property k)) gone)
+and_true : (a b : Bool) → b ≡ true → (a && b) ≡ a
+and_true true b is = is
+and_true false b is = refl
 
-pub made_stays : (d : Difference) (m : Map) → d.no_properties ≡ false → (s : Slot) → m s ≡ (if is_gone d s then None else m s)
-made_stays d m stays (Variable b) = refl
-made_stays d m stays (Property k) = sym (ap (λ t. if t then None else m (Property k)) stays)
+and_false : (a b : Bool) → b ≡ false → (a && b) ≡ false
+and_false true b is = is
+and_false false b is = refl
+
+-- the facts of a class go, where it is gone
+pub made_gone : (of : Slot → Bool) (b t : Bool) (old new : Trail) → b ≡ t → b ≡ true → Drops of old new → (s : Slot) → map_of new s ≡ (if of s && t then None else map_of old s)
+made_gone of b t old new tells holds drops s = ap (λ (m : Map). m s) drops.facts ∙ sym (ap (λ u. if u then None else map_of old s) (and_true (of s) t (sym tells ∙ holds)))
+
+pub made_stays : (of : Slot → Bool) (b t : Bool) (m : Map) → b ≡ t → b ≡ false → (s : Slot) → m s ≡ (if of s && t then None else m s)
+made_stays of b t m tells fails s = sym (ap (λ u. if u then None else m s) (and_false (of s) t (sym tells ∙ fails)))
 
 -- those that are not listed have what is to be made
 pub made_first : (d : Difference) (slots : List Slot) (m n : Map) → ((s : Slot) → is_said d s ≡ true → is_listed slots s ≡ true) → ((s : Slot) → n s ≡ (if is_gone d s then None else m s)) →

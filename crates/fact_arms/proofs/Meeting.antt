@@ -12,8 +12,9 @@ use Rattle.fact_trail.specs.Slots.{Map, is_slot, is_rough_at}
 use Rattle.fact_trail.proofs.Same.{same_slot}
 use Rattle.fact_trail.proofs.Changes.{absent}
 use Rattle.flow_facts.specs.Known.{both}
+use Rattle.fact_arms.specs.declared.gone.Gone.{Gone}
 use Rattle.fact_arms.specs.declared.difference.Difference.{Difference}
-use Rattle.fact_arms.specs.Differences.{said_else, said_of, is_said, is_gone, over, type_of, is_listed}
+use Rattle.fact_arms.specs.Differences.{said_else, said_of, is_said, is_among, is_gone, over, type_of, is_listed}
 use Rattle.fact_arms.specs.Joining.{joined_type}
 use Rattle.fact_arms.proofs.Over.{gone_same}
 use Rattle.fact_arms.proofs.Making.{last_listed}
@@ -40,7 +41,7 @@ unsaid_join None false false smooth = refl
 unsaid_join (Some f) false false smooth = ap Some (sym (f.settled smooth))
 
 -- slots that are not listed have their join, where nothing is said
-met_first : (first second d : Difference) (slots : List Slot) (m : Map) (gone : Bool) → d.no_properties ≡ gone → gone ≡ (first.no_properties || second.no_properties) → ((s : Slot) → said_of d s ≡ None) →
+met_first : (first second d : Difference) (slots : List Slot) (m : Map) (gone : Gone) → d.gone ≡ gone → ((s : Slot) → is_among gone s ≡ (is_gone first s || is_gone second s)) → ((s : Slot) → said_of d s ≡ None) →
     ((s : Slot) → is_said first s ≡ true → is_listed slots s ≡ true) → ((s : Slot) → is_said second s ≡ true → is_listed slots s ≡ true) → ((s : Slot) → is_rough_at (m s) ≡ true → is_listed slots s ≡ true) →
     (s : Slot) → is_listed slots s ≡ false → type_of (over d m s) ≡ joined_type first second m s
 met_first first second d slots m gone here both_gone nothing firsts seconds rough s unlisted =
@@ -49,8 +50,7 @@ met_first first second d slots m gone here both_gone nothing firsts seconds roug
     ∙ (λ i. both (type_of (said_else (sym none_first i) (if is_gone first s then None else m s))) (type_of (said_else (sym none_second i) (if is_gone second s then None else m s))))
   where
     are_gone : (q : Slot) → is_gone d q ≡ (is_gone first q || is_gone second q)
-    are_gone (Variable b) = refl
-    are_gone (Property k) = here ∙ both_gone
+    are_gone q = ap (λ g. is_among g q) here ∙ both_gone q
 
     none_first : said_of first s ≡ None
     none_first = absent (said_of first s) (not_yes (is_said first s) (is_listed slots s) (firsts s) unlisted)
@@ -60,11 +60,11 @@ met_first first second d slots m gone here both_gone nothing firsts seconds roug
 
 -- Some slots have the join of what two differences make, and those are no more said by the second one.
 pub record Meets (first second : Difference) (m : Map) (slots : List Slot) (rest d : Difference) : Type 0 where
-  pub gone : rest.no_properties ≡ second.no_properties
+  pub gone : rest.gone ≡ second.gone
   pub left : (s : Slot) → is_said d s ≡ false → said_of rest s ≡ said_of second s
   pub joins : (s : Slot) → (is_listed slots s && not (is_said d s)) ≡ false → type_of (over d m s) ≡ joined_type first second m s
 
-pub meets_first : (first second d : Difference) (slots : List Slot) (m : Map) (gone : Bool) → d.no_properties ≡ gone → gone ≡ (first.no_properties || second.no_properties) → ((s : Slot) → said_of d s ≡ None) →
+pub meets_first : (first second d : Difference) (slots : List Slot) (m : Map) (gone : Gone) → d.gone ≡ gone → ((s : Slot) → is_among gone s ≡ (is_gone first s || is_gone second s)) → ((s : Slot) → said_of d s ≡ None) →
     ((s : Slot) → is_said first s ≡ true → is_listed slots s ≡ true) → ((s : Slot) → is_said second s ≡ true → is_listed slots s ≡ true) → ((s : Slot) → is_rough_at (m s) ≡ true → is_listed slots s ≡ true) → Meets first second m slots second d
 meets_first first second d slots m gone here both_gone nothing firsts seconds rough = record {
   gone = refl;
@@ -98,8 +98,8 @@ meets_past first second m all less slot rest d said before are tells holds = rec
 
 -- one slot more has it
 pub meets_more : (first second : Difference) (m : Map) (all less : List Slot) (slot : Slot) (rest fewer old new : Difference) (fact : Option Fact) (said : Bool) → Meets first second m all rest old → all ≡ less ++ slot ∷ [] → said ≡ is_said old slot → said ≡ false →
-    type_of fact ≡ joined_type first rest m slot → ((s : Slot) → said_of fewer s ≡ (if is_slot slot s then None else said_of rest s)) → fewer.no_properties ≡ rest.no_properties →
-    ((s : Slot) → said_of new s ≡ (if is_slot slot s then Some fact else said_of old s)) → new.no_properties ≡ old.no_properties → Meets first second m less fewer new
+    type_of fact ≡ joined_type first rest m slot → ((s : Slot) → said_of fewer s ≡ (if is_slot slot s then None else said_of rest s)) → fewer.gone ≡ rest.gone →
+    ((s : Slot) → said_of new s ≡ (if is_slot slot s then Some fact else said_of old s)) → new.gone ≡ old.gone → Meets first second m less fewer new
 meets_more first second m all less slot rest fewer old new fact said before are tells no' joins takes kept says gone = record {
   gone = kept ∙ before.gone;
   left = λ s unsaid. left s (is_slot slot s) refl unsaid;

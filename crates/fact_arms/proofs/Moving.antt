@@ -51,12 +51,8 @@ took_last old new t t' change says after one quiet = record {
 }
 
 -- where nothing is said, the facts stay
-pub over_nothing : (d : Difference) → ((s : Slot) → said_of d s ≡ None) → d.no_properties ≡ false → (m : Map) → over d m ≡ m
-over_nothing d nothing stood m = λ i s. at s i
-  where
-    at : (s : Slot) → over d m s ≡ m s
-    at (Variable b) = ap (λ o. said_else o (m (Variable b))) (nothing (Variable b))
-    at (Property k) = (λ i. said_else (nothing (Property k) i) (if stood i then None else m (Property k)))
+pub over_nothing : (d : Difference) → ((s : Slot) → said_of d s ≡ None) → ((s : Slot) → is_gone d s ≡ false) → (m : Map) → over d m ≡ m
+over_nothing d nothing stood m = λ i s. said_else (nothing s i) (if stood s i then None else m s)
 
 pub leaves_nothing : (d : Difference) (s : Slot) → ((q : Slot) → said_of d q ≡ None) → Leaves s d
 leaves_nothing d s nothing = ap (λ o. said_else o None) (nothing s)
@@ -102,3 +98,9 @@ one_last t t' None one = omega (arith, one)
 
 pub one_same : (t t' : Trail) → IsSame t t' → length t.changes.items ≤ length t'.changes.items + 1
 one_same t t' same = let lengths = ap length same.1 in omega (arith, lengths)
+
+-- where there was a change, one was taken back
+pub one_back : (t t' : Trail) (o : Option Change) → 0 < length t.changes.items → MatchOption o (t.changes.items ≡ []) (λ change. map_of t ≡ before change (map_of t')) → length t.changes.items ≡ length t'.changes.items + (if is_some o then 1 else 0) →
+    length t.changes.items ≡ length t'.changes.items + 1
+one_back t t' (Some change) more after one = one
+one_back t t' None more after one = absurd (let none = ap length after in omega (arith, more, none))

@@ -5,16 +5,18 @@ use Rattle.std.specs.Option.{is_some}
 use Rattle.std.specs.Ordering.{nat_cmp}
 use Rattle.std.specs.BTreeMap.{BTreeMap, get, is_at, Updates, btree_map_len}
 use Rattle.fact_trail.specs.declared.fact.Fact.{Fact}
+use Rattle.fact_trail.specs.declared.class_facts.ClassFacts.{ClassFacts}
 use Rattle.fact_trail.specs.declared.properties.Properties.{Properties}
 use Rattle.fact_trail.specs.declared.slot.Slot.TheVariants.{Variable, Property}
 use Rattle.fact_trail.specs.declared.slot.Key.{Key}
 use Rattle.fact_trail.specs.declared.slot.Slot.{Slot}
-use Rattle.fact_trail.specs.Slots.{Map, key_cmp, at_key, at_slot, is_slot, is_number, is_key}
-use Rattle.fact_trail.specs.Rows.{properties_of}
-use Rattle.fact_trail.specs.Moments.{with_properties}
+use Rattle.fact_trail.specs.Slots.{Map, key_cmp, at_number, at_key, at_slot, is_slot, is_number, is_key, is_class, is_variable, is_property}
+use Rattle.fact_trail.specs.Rows.{class_facts_of, properties_of}
+use Rattle.fact_trail.specs.Moments.{with_class, with_properties}
 use Rattle.fact_trail.proofs.Same.{same_number, same_key, same_slot}
 use Rattle.fact_arms.specs.declared.difference.Difference.{Difference}
-use Rattle.fact_arms.specs.Differences.{said_else, said_of, is_said, is_gone, over, with_variables, with_keys}
+use Rattle.fact_arms.specs.Differences.{said_else, said_of, is_said, class_gone, is_among, is_gone, over, with_variables, with_keys}
+use Rattle.fact_arms.proofs.Classes.{class_among, properties_among}
 
 -- ---- no rows
 
@@ -53,9 +55,8 @@ pub says_at : {T E : Type 0} (r : Result T E) (old new : Difference) (slot t : S
 says_at (Ok x) old new slot t fact here says = λ s. says s ∙ ap (λ (q : Slot). if is_slot q s then Some fact else said_of old s) (sym here)
 says_at (Err x) old new slot t fact here says = tt
 
-pub gone_same : (old new : Difference) → new.no_properties ≡ old.no_properties → (s : Slot) → is_gone new s ≡ is_gone old s
-gone_same old new same (Variable b) = refl
-gone_same old new same (Property k) = same
+pub gone_same : (old new : Difference) → new.gone ≡ old.gone → (s : Slot) → is_gone new s ≡ is_gone old s
+gone_same old new same s = ap (λ g. is_among g s) same
 
 -- what is before something that is settled makes no difference
 pub added_settled : (d : Difference) (slot : Slot) (fact : Option Fact) (b : Bool) → b ≡ (is_said d slot || is_gone d slot) → b ≡ true → (m : Map) → over d m ≡ over d (at_slot slot fact m)
@@ -71,7 +72,7 @@ added_settled d slot fact b tells holds m = λ i s. at s (is_slot slot s) refl i
     at s false other = ap (λ t. said_else (said_of d s) (if is_gone d s then None else (if t then fact else m s))) (sym other)
 
 said_step : (old new : Difference) (slot : Slot) (fact : Option Fact) → (is_said old slot || is_gone old slot) ≡ false → ((s : Slot) → said_of new s ≡ (if is_slot slot s then Some fact else said_of old s)) →
-    new.no_properties ≡ old.no_properties → (m : Map) → over new m ≡ over old (at_slot slot fact m)
+    new.gone ≡ old.gone → (m : Map) → over new m ≡ over old (at_slot slot fact m)
 said_step old new slot fact fails says gone m = λ i s. at s (is_slot slot s) refl i
   where
     unsaid : (o : Option (Option Fact)) (g : Bool) (x : Option Fact) → (is_some o || g) ≡ false → said_else o (if g then None else x) ≡ x
@@ -92,7 +93,7 @@ said_step old new slot fact fails says gone m = λ i s. at s (is_slot slot s) re
 
 -- what is before something that is not said is said
 pub added_said : {T E : Type 0} (r : Result T E) (old new : Difference) (slot : Slot) (fact : Option Fact) (b : Bool) → b ≡ (is_said old slot || is_gone old slot) → b ≡ false →
-    OnOk r ((s : Slot) → said_of new s ≡ (if is_slot slot s then Some fact else said_of old s)) → new.no_properties ≡ old.no_properties → OnOk r ((m : Map) → over new m ≡ over old (at_slot slot fact m))
+    OnOk r ((s : Slot) → said_of new s ≡ (if is_slot slot s then Some fact else said_of old s)) → new.gone ≡ old.gone → OnOk r ((m : Map) → over new m ≡ over old (at_slot slot fact m))
 added_said (Ok x) old new slot fact b tells fails says gone = said_step old new slot fact (sym tells ∙ fails) says gone
 added_said (Err x) old new slot fact b tells fails says gone = tt
 
@@ -113,26 +114,77 @@ popped_property p p' k fact was facts m = λ i s. at s i
             ∙ ap (λ t. if t then None else properties_of p q) other
             )
 
--- where no row is left, the properties are gone
-pub properties_gone : (old new : Difference) (p : Properties) → new.variables ≡ old.variables → new.properties ≡ old.properties → new.no_properties ≡ true → old.no_properties ≡ false → ((k : Key) → properties_of p k ≡ None) →
-    (m : Map) → over new m ≡ over old (with_properties p m)
-properties_gone old new p variables properties gone stood none m = λ i s. at s i
+-- the same of variables of a class
+pub popped_of_class : (c c' : ClassFacts) (b : ℕ) (fact : Fact) → class_facts_of c b ≡ Some fact → is_class c.constant b ≡ true → c'.constant ≡ c.constant → class_facts_of c' ≡ at_number b None (class_facts_of c) → (m : Map) →
+    with_class c m ≡ at_slot (Variable b) (Some fact) (with_class c' m)
+popped_of_class c c' b fact was own same_class facts m = λ i s. at s i
   where
-    at : (s : Slot) → over new m s ≡ over old (with_properties p m) s
-    at (Variable b) = ap (λ rows. said_else (get nat_cmp rows b) (m (Variable b))) variables
-    at (Property k) =
-        (λ i. said_else (get key_cmp (properties i) k) (if gone i then None else m (Property k)))
-        ∙ sym (λ i. said_else (get key_cmp old.properties k) (if stood i then None else none k i))
+    at : (s : Slot) → with_class c m s ≡ at_slot (Variable b) (Some fact) (with_class c' m) s
+    at (Property k) = refl
+    at (Variable q) = by (is_number b q) refl
+      where
+        by : (t : Bool) → is_number b q ≡ t → with_class c m (Variable q) ≡ (if is_number b q then Some fact else with_class c' m (Variable q))
+        by true same =
+            ap (λ t. if t then class_facts_of c q else m (Variable q)) (sym (ap (is_class c.constant) (same_number b q same)) ∙ own) ∙ ap (class_facts_of c) (sym (same_number b q same)) ∙ was
+            ∙ sym (ap (λ t. if t then Some fact else with_class c' m (Variable q)) same)
+        by false other = sym (
+            ap (λ t. if t then Some fact else with_class c' m (Variable q)) other
+            ∙ (λ i. if is_class (same_class i) q then (ap (λ (f : ℕ → Option Fact). f q) facts ∙ ap (λ t. if t then None else class_facts_of c q) other) i else m (Variable q))
+            )
 
--- what all properties had makes no difference where they are gone
-pub properties_settled : (d : Difference) (p : Properties) → d.no_properties ≡ true → (m : Map) → over d m ≡ over d (with_properties p m)
-properties_settled d p gone m = λ i s. at s i
+-- where the slots of a class are gone, what they had makes no difference
+pub class_settled : (d : Difference) (of : Slot → Bool) (m n : Map) → ((s : Slot) → of s ≡ true → is_gone d s ≡ true) → ((s : Slot) → of s ≡ false → n s ≡ m s) → over d m ≡ over d n
+class_settled d of m n gone others = λ i s. at s (of s) refl i
   where
-    at : (s : Slot) → over d m s ≡ over d (with_properties p m) s
-    at (Variable b) = refl
-    at (Property k) =
-        ap (λ t. said_else (get key_cmp d.properties k) (if t then None else m (Property k))) gone
-        ∙ ap (λ t. said_else (get key_cmp d.properties k) (if t then None else properties_of p k)) (sym gone)
+    at : (s : Slot) (t : Bool) → of s ≡ t → over d m s ≡ over d n s
+    at s true is = ap (λ t. said_else (said_of d s) (if t then None else m s)) (gone s is) ∙ sym (ap (λ t. said_else (said_of d s) (if t then None else n s)) (gone s is))
+    at s false is = ap (λ (x : Option Fact). said_else (said_of d s) (if is_gone d s then None else x)) (sym (others s is))
+
+-- where no fact of a class is left, its slots are gone
+pub class_gone_too : (old new : Difference) (of : Slot → Bool) (m n : Map) → ((s : Slot) → said_of new s ≡ said_of old s) → ((s : Slot) → is_gone new s ≡ (of s || is_gone old s)) → ((s : Slot) → of s ≡ true → n s ≡ None) → ((s : Slot) → of s ≡ false → n s ≡ m s) →
+    over new m ≡ over old n
+class_gone_too old new of m n said gone none others = λ i s. at s (of s) refl i
+  where
+    nothing : (t : Bool) (x : Option Fact) → x ≡ None → (if t then None else x) ≡ None
+    nothing true x is = refl
+    nothing false x is = is
+
+    at : (s : Slot) (t : Bool) → of s ≡ t → over new m s ≡ over old n s
+    at s true is = (λ i. said_else (said s i) (if (gone s ∙ ap (λ t. t || is_gone old s) is) i then None else m s)) ∙ ap (said_else (said_of old s)) (sym (nothing (is_gone old s) (n s) (none s is)))
+    at s false is = (λ i. said_else (said s i) (if (gone s ∙ ap (λ t. t || is_gone old s) is) i then None else sym (others s is) i))
+
+other_property : (p : Properties) (m : Map) (s : Slot) → is_property s ≡ false → with_properties p m s ≡ m s
+other_property p m (Variable b) is = refl
+other_property p m (Property k) is = cc
+
+other_class : (c : ClassFacts) (m : Map) (s : Slot) → is_variable c.constant s ≡ false → with_class c m s ≡ m s
+other_class c m (Variable b) is = ap (λ t. if t then class_facts_of c b else m (Variable b)) is
+other_class c m (Property k) is = refl
+
+-- all properties
+pub properties_settled : (d : Difference) (p : Properties) → d.gone.properties ≡ true → (m : Map) → over d m ≡ over d (with_properties p m)
+properties_settled d p gone m = class_settled d is_property m (with_properties p m) (properties_among d.gone gone) (other_property p m)
+
+pub properties_gone : (old new : Difference) (p : Properties) → ((s : Slot) → said_of new s ≡ said_of old s) → ((s : Slot) → is_gone new s ≡ (is_property s || is_gone old s)) → ((k : Key) → properties_of p k ≡ None) → (m : Map) → over new m ≡ over old (with_properties p m)
+properties_gone old new p said gone none m = class_gone_too old new is_property m (with_properties p m) said gone (λ s is. at s is) (other_property p m)
+  where
+    at : (s : Slot) → is_property s ≡ true → with_properties p m s ≡ None
+    at (Property k) is = none k
+    at (Variable b) is = cc
+
+-- all variables of a class
+pub variables_settled : (d : Difference) (c : ClassFacts) (constant t : Bool) → constant ≡ c.constant → t ≡ class_gone d.gone constant → t ≡ true → (m : Map) → over d m ≡ over d (with_class c m)
+variables_settled d c constant t is tells holds m =
+    class_settled d (is_variable c.constant) m (with_class c m) (class_among d.gone c.constant (ap (class_gone d.gone) (sym is) ∙ sym tells ∙ holds)) (other_class c m)
+
+pub variables_gone : (old new : Difference) (c : ClassFacts) (constant : Bool) → constant ≡ c.constant → ((s : Slot) → said_of new s ≡ said_of old s) → ((s : Slot) → is_gone new s ≡ (is_variable constant s || is_gone old s)) → ((b : ℕ) → class_facts_of c b ≡ None) →
+    (m : Map) → over new m ≡ over old (with_class c m)
+variables_gone old new c constant same said gone none m =
+    class_gone_too old new (is_variable c.constant) m (with_class c m) said (λ s. gone s ∙ ap (λ t. is_variable t s || is_gone old s) same) (λ s is. at s is) (other_class c m)
+  where
+    at : (s : Slot) → is_variable c.constant s ≡ true → with_class c m s ≡ None
+    at (Variable b) is = ap (λ t. if t then class_facts_of c b else m (Variable b)) is ∙ none b
+    at (Property k) is = cc
 
 -- ---- one difference behind another
 
@@ -181,13 +233,13 @@ ended_keys rows none m = λ i s. at s i
     at (Variable b) = refl
     at (Property k) = ap (λ o. said_else o (m (Property k))) (none_in key_cmp rows (no_entries rows (λ more. wrong (none more))) k)
 
--- what is said of variables and of properties was put before what is said, and at last whether all properties are gone
+-- what is said of variables and of properties was put before what is said, and at last which classes are gone
 pub behind_all : (self first one two both : Difference) → ((m : Map) → over one m ≡ over self (with_variables first.variables m)) → ((m : Map) → over two m ≡ over one (with_keys first.properties m)) →
-    both.variables ≡ two.variables → both.properties ≡ two.properties → both.no_properties ≡ (two.no_properties || first.no_properties) → (m : Map) → over both m ≡ over self (over first m)
+    both.variables ≡ two.variables → both.properties ≡ two.properties → ((s : Slot) → is_gone both s ≡ (is_gone two s || is_gone first s)) → (m : Map) → over both m ≡ over self (over first m)
 behind_all self first one two both variables keys same_variables same_keys gone m =
     (λ i s. at s i) ∙ keys left ∙ variables (with_keys first.properties left) ∙ ap (over self) (λ i s. whole s i)
   where
-    -- the facts, without those on properties where they are gone
+    -- the facts, without those of classes that are gone
     left : Map
     left s = if is_gone first s then None else m s
 
@@ -196,10 +248,12 @@ behind_all self first one two both variables keys same_variables same_keys gone 
     both_gone false b x = refl
 
     at : (s : Slot) → over both m s ≡ over two left s
-    at (Variable b) = ap (λ rows. said_else (get nat_cmp rows b) (m (Variable b))) same_variables
+    at (Variable b) =
+        (λ i. said_else (get nat_cmp (same_variables i) b) (if gone (Variable b) i then None else m (Variable b)))
+        ∙ ap (said_else (get nat_cmp two.variables b)) (both_gone (is_gone two (Variable b)) (is_gone first (Variable b)) (m (Variable b)))
     at (Property k) =
-        (λ i. said_else (get key_cmp (same_keys i) k) (if gone i then None else m (Property k)))
-        ∙ ap (said_else (get key_cmp two.properties k)) (both_gone two.no_properties first.no_properties (m (Property k)))
+        (λ i. said_else (get key_cmp (same_keys i) k) (if gone (Property k) i then None else m (Property k)))
+        ∙ ap (said_else (get key_cmp two.properties k)) (both_gone (is_gone two (Property k)) (is_gone first (Property k)) (m (Property k)))
 
     whole : (s : Slot) → with_variables first.variables (with_keys first.properties left) s ≡ over first m s
     whole (Variable b) = refl

@@ -1,5 +1,5 @@
 -- What facts became since an earlier moment, slot by slot.
-use Rattle.std.specs.Prelude.{ℕ, ◌≡◌, ◌≤◌, ◌+◌, Bool, false, List, Option, Some, None, length, if◌then◌else◌}
+use Rattle.std.specs.Prelude.{ℕ, ◌≡◌, ◌≤◌, ◌+◌, Bool, true, false, List, Option, Some, None, length, if◌then◌else◌}
 use Rattle.std.specs.List.{list_any}
 use Rattle.std.specs.Option.{is_some, option_map}
 use Rattle.std.specs.Ordering.{nat_cmp}
@@ -14,6 +14,8 @@ use Rattle.fact_trail.specs.declared.slot.Slot.{Slot}
 use Rattle.fact_trail.specs.Types.{ty_of}
 use Rattle.fact_trail.specs.Slots.{Map, key_cmp, is_slot}
 use Rattle.fact_trail.specs.Moments.{map_of, before, KeepsMoments, IsNew}
+use Rattle.flow_facts.specs.Known.{is_constant_number}
+use Rattle.fact_arms.specs.declared.gone.Gone.{Gone}
 use Rattle.fact_arms.specs.declared.difference.Difference.{Difference}
 
 -- what is said of a slot, and else another fact
@@ -33,10 +35,19 @@ is_said d s = is_some (said_of d s)
 abbrev pub count_of : Difference → ℕ
 count_of d = btree_map_len d.variables + btree_map_len d.properties
 
+-- the variables of a class, those that are constant (true) or the others, are among these
+abbrev pub class_gone : Gone → Bool → Bool
+class_gone g true = g.constants
+class_gone g false = g.changing
+
+-- the slot is of one of these classes
+abbrev pub is_among : Gone → Slot → Bool
+is_among g (Variable b) = class_gone g (is_constant_number b)
+is_among g (Property k) = g.properties
+
 -- the slot has no fact unless something is said of it
 abbrev pub is_gone : Difference → Slot → Bool
-is_gone d (Variable b) = false
-is_gone d (Property k) = d.no_properties
+is_gone d s = is_among d.gone s
 
 -- the map that a difference makes of another one
 abbrev pub over : Difference → Map → Map

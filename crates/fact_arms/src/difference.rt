@@ -4,28 +4,22 @@ ghost use Rattle.std.specs.Option.{option_copied, IfSome, IfNone};
 ghost use Rattle.fact_trail.specs.declared.slot.Slot.TheVariants.{Variable, Property};
 ghost use Rattle.fact_trail.specs.declared.slot.Slot.{Slot};
 ghost use Rattle.fact_trail.specs.Slots.{Map, at_slot, is_slot};
-ghost use Rattle.fact_trail.specs.Moments.{before, with_properties};
+ghost use Rattle.fact_trail.specs.Moments.{before, with_class, with_properties};
 
-use fact_trail::{Change, Fact, Key, Properties, Slot};
+use crate::gone::Gone;
+use fact_trail::{Change, ClassFacts, Fact, Key, Properties, Slot};
 use flow_values::NoMemory;
 use std::alloc::Global;
 use std::collections::BTreeMap;
 
-/// What facts became since an earlier moment: what some slots have, and whether the other properties
+/// What facts became since an earlier moment: what some slots have, and which classes of other slots
 /// have no fact.
 #[derive(Drop)]
 pub struct Difference {
     pub(crate) alloc: Global,
-    pub(crate) no_properties: bool,
+    pub(crate) gone: Gone,
     pub(crate) variables: BTreeMap<u32, Option<Fact>>,
     pub(crate) properties: BTreeMap<Key, Option<Fact>>,
-}
-
-// Whether one of two holds.
-pub(crate) fn either(a: bool, b: bool) -> bool
-    ensures { result ≡ (a || b) }
-{
-    a || b
 }
 
 impl Difference {
@@ -33,13 +27,13 @@ impl Difference {
 
     // Nothing is said.
     #[tactic(auto, using(crate::proofs::Over::nothing_said))]
-    pub(crate) fn new(alloc: Global, no_properties: bool) -> Difference
+    pub(crate) fn new(alloc: Global, gone: Gone) -> Difference
         ensures said { (s : Slot) → said_of result s ≡ None }
-        ensures gone { result.no_properties ≡ no_properties }
+        ensures gone { result.gone ≡ gone }
     {
         Difference {
             alloc,
-            no_properties,
+            gone,
             variables: BTreeMap::new(alloc),
             properties: BTreeMap::new(alloc),
         }
@@ -58,7 +52,7 @@ impl Difference {
     // Says what a slot has.
     pub(crate) fn say(&mut self, slot: Slot, fact: Option<Fact>) -> Result<(), NoMemory>
         ensures said { OnOk result ((s : Slot) → said_of self.new s ≡ (if is_slot slot s then Some fact else said_of self.old s)) }
-        ensures gone { self.new.no_properties ≡ self.old.no_properties }
+        ensures gone { self.new.gone ≡ self.old.gone }
     {
         match slot {
             Slot::Variable(binding) => self.say_variable(binding, fact),
@@ -70,7 +64,7 @@ impl Difference {
     #[tactic(auto, using(crate::proofs::Over::says_variable))]
     fn say_variable(&mut self, binding: u32, fact: Option<Fact>) -> Result<(), NoMemory>
         ensures said { OnOk result ((s : Slot) → said_of self.new s ≡ (if is_slot (Variable binding) s then Some fact else said_of self.old s)) }
-        ensures gone { self.new.no_properties ≡ self.old.no_properties }
+        ensures gone { self.new.gone ≡ self.old.gone }
     {
         self.variables.insert(binding, fact)?;
         Ok(())
@@ -80,7 +74,7 @@ impl Difference {
     #[tactic(auto, using(crate::proofs::Over::says_property))]
     fn say_property(&mut self, key: Key, fact: Option<Fact>) -> Result<(), NoMemory>
         ensures said { OnOk result ((s : Slot) → said_of self.new s ≡ (if is_slot (Property key) s then Some fact else said_of self.old s)) }
-        ensures gone { self.new.no_properties ≡ self.old.no_properties }
+        ensures gone { self.new.gone ≡ self.old.gone }
     {
         self.properties.insert(key, fact)?;
         Ok(())
@@ -90,7 +84,7 @@ impl Difference {
     pub(crate) fn take_said(&mut self, slot: Slot) -> Option<Option<Fact>>
         ensures was { result ≡ said_of self.old slot }
         ensures said { (s : Slot) → said_of self.new s ≡ (if is_slot slot s then None else said_of self.old s) }
-        ensures gone { self.new.no_properties ≡ self.old.no_properties }
+        ensures gone { self.new.gone ≡ self.old.gone }
     {
         match slot {
             Slot::Variable(binding) => self.take_variable(binding),
@@ -103,7 +97,7 @@ impl Difference {
     fn take_variable(&mut self, binding: u32) -> Option<Option<Fact>>
         ensures was { result ≡ said_of self.old (Variable binding) }
         ensures said { (s : Slot) → said_of self.new s ≡ (if is_slot (Variable binding) s then None else said_of self.old s) }
-        ensures gone { self.new.no_properties ≡ self.old.no_properties }
+        ensures gone { self.new.gone ≡ self.old.gone }
     {
         self.variables.remove(&binding)
     }
@@ -113,7 +107,7 @@ impl Difference {
     fn take_property(&mut self, key: Key) -> Option<Option<Fact>>
         ensures was { result ≡ said_of self.old (Property key) }
         ensures said { (s : Slot) → said_of self.new s ≡ (if is_slot (Property key) s then None else said_of self.old s) }
-        ensures gone { self.new.no_properties ≡ self.old.no_properties }
+        ensures gone { self.new.gone ≡ self.old.gone }
     {
         self.properties.remove(&key)
     }
@@ -124,7 +118,7 @@ impl Difference {
         ensures none { IfNone result ((s : Slot) → said_of self.old s ≡ None) }
         ensures was { IfSome result (λ row. said_of self.old row.0 ≡ Some row.1) }
         ensures said { IfSome result (λ row. (s : Slot) → said_of self.new s ≡ (if is_slot row.0 s then None else said_of self.old s)) }
-        ensures gone { self.new.no_properties ≡ self.old.no_properties }
+        ensures gone { self.new.gone ≡ self.old.gone }
         ensures fewer { IfSome result (λ row. count_of self.new < count_of self.old) }
     {
         if let Some((binding, fact)) = self.variables.pop_first() {
@@ -150,21 +144,18 @@ impl Difference {
         self.says(slot) || self.drops(slot)
     }
 
-    // Whether a slot is a property, where all of them have no fact.
+    // Whether a slot is of a class of which no other slot has a fact.
     pub(crate) fn drops(&self, slot: Slot) -> bool
         ensures { result ≡ is_gone self.now slot }
     {
-        match slot {
-            Slot::Variable(_) => false,
-            Slot::Property(_) => self.no_properties,
-        }
+        self.gone.has(slot)
     }
 
     // Puts a change of a slot before what is said.
-    #[tactic(auto, using(crate::proofs::Over::added_settled, crate::proofs::Over::added_said))]
+    #[tactic(auto, using(crate::proofs::Over::added_said))]
     pub(crate) fn add(&mut self, slot: Slot, fact: Option<Fact>) -> Result<(), NoMemory>
         ensures made { OnOk result ((m : Map) → over self.new m ≡ over self.old (at_slot slot fact m)) }
-        ensures gone { self.new.no_properties ≡ self.old.no_properties }
+        ensures gone { self.new.gone ≡ self.old.gone }
     {
         if self.settles(slot) {
             return Ok(());
@@ -172,25 +163,41 @@ impl Difference {
         self.say(slot, fact)
     }
 
+    // Puts a change of all variables of a class before what is said.
+    fn add_class(&mut self, facts: ClassFacts) -> Result<(), NoMemory>
+        ensures { OnOk result ((m : Map) → over self.new m ≡ over self.old (with_class facts m)) }
+    {
+        let constant = facts.is_constant();
+        if self.gone.has_variables(constant) {
+            return Ok(());
+        }
+        let mut facts = facts;
+        while let Some((binding, fact)) = facts.pop() {
+            self.add(Slot::Variable(binding), Some(fact))?;
+        }
+        self.gone = self.gone.with_variables(constant);
+        Ok(())
+    }
+
     // Puts a change of all properties before what is said.
     fn add_properties(&mut self, properties: Properties) -> Result<(), NoMemory>
         ensures { OnOk result ((m : Map) → over self.new m ≡ over self.old (with_properties properties m)) }
     {
-        if self.no_properties {
+        if self.gone.properties {
             return Ok(());
         }
         let mut properties = properties;
         while let Some((key, fact)) = properties.pop() {
             self.add(Slot::Property(key), Some(fact))?;
         }
-        self.no_properties = true;
+        self.gone = self.gone.with_properties();
         Ok(())
     }
 
     // Puts what variables have before what is said.
     fn add_variables(&mut self, rows: BTreeMap<u32, Option<Fact>>) -> Result<(), NoMemory>
         ensures made { OnOk result ((m : Map) → over self.new m ≡ over self.old (with_variables rows m)) }
-        ensures gone { self.new.no_properties ≡ self.old.no_properties }
+        ensures gone { self.new.gone ≡ self.old.gone }
     {
         let mut rows = rows;
         while let Some((binding, fact)) = rows.pop_first() {
@@ -202,7 +209,7 @@ impl Difference {
     // Puts what properties have before what is said.
     fn add_keys(&mut self, rows: BTreeMap<Key, Option<Fact>>) -> Result<(), NoMemory>
         ensures made { OnOk result ((m : Map) → over self.new m ≡ over self.old (with_keys rows m)) }
-        ensures gone { self.new.no_properties ≡ self.old.no_properties }
+        ensures gone { self.new.gone ≡ self.old.gone }
     {
         let mut rows = rows;
         while let Some((key, fact)) = rows.pop_first() {
@@ -217,6 +224,7 @@ impl Difference {
     {
         match change {
             Change::At(slot, fact) => self.add(slot, fact),
+            Change::Variables(facts) => self.add_class(facts),
             Change::Properties(properties) => self.add_properties(properties),
         }
     }
@@ -242,13 +250,13 @@ impl Difference {
         let mut both = self;
         let Difference {
             alloc: _,
-            no_properties,
+            gone,
             variables,
             properties,
         } = first;
         both.add_variables(variables)?;
         both.add_keys(properties)?;
-        both.no_properties = either(both.no_properties, no_properties);
+        both.gone = both.gone.or(gone);
         Ok(both)
     }
 }

@@ -12,7 +12,6 @@ ghost use Rattle.fact_arms.specs.Differences.{over, type_of, said_of, is_said, i
 ghost use Rattle.fact_arms.specs.Joining.{joined_type};
 
 use crate::Difference;
-use crate::difference::either;
 use crate::slots::{add_rough, add_said};
 use fact_trail::{Fact, Slot, Trail};
 use flow_values::{List, NoMemory};
@@ -133,7 +132,7 @@ impl Difference {
     ) -> Result<Option<Fact>, NoMemory>
         ensures fact { IfOk result (λ fact. type_of fact ≡ type_of (over self.old (map_of trail.now) slot)) }
         ensures said { (s : Slot) → said_of self.new s ≡ (if is_slot slot s then None else said_of self.old s) }
-        ensures gone { self.new.no_properties ≡ self.old.no_properties }
+        ensures gone { self.new.gone ≡ self.old.gone }
     {
         match self.take_said(slot) {
             Some(fact) => Ok(fact),
@@ -153,7 +152,7 @@ fn join_at(
 ) -> Result<Option<Fact>, NoMemory>
     ensures fact { IfOk result (λ fact. type_of fact ≡ joined_type first.now second.old (map_of trail.now) slot) }
     ensures said { (s : Slot) → said_of second.new s ≡ (if is_slot slot s then None else said_of second.old s) }
-    ensures gone { second.new.no_properties ≡ second.old.no_properties }
+    ensures gone { second.new.gone ≡ second.old.gone }
 {
     let other = second.take_look(alloc, trail, slot)?;
     join_of_facts(alloc, first.look(slot, trail.get(slot)), other, joins)
@@ -194,10 +193,10 @@ pub fn meet(
 ) -> Result<Difference, NoMemory>
     ensures { IfOk result (λ d. (s : Slot) → type_of (over d (map_of trail.now) s) ≡ joined_type first.now second (map_of trail.now) s) }
 {
-    let no_properties = either(first.no_properties, second.no_properties);
+    let gone = first.gone.or(second.gone);
     let mut slots = slots_of(alloc, trail, first, &second)?;
     let mut rest = second;
-    let mut difference = Difference::new(alloc, no_properties);
+    let mut difference = Difference::new(alloc, gone);
     while let Some(slot) = slots.pop() {
         if difference.says(slot) {
             continue;

@@ -3,9 +3,11 @@
 #![tactic(auto)]
 
 mod difference;
+mod gone;
 mod joining;
 mod slots;
 mod trails;
 
 pub use difference::Difference;
 pub use joining::{Joins, meet};
+pub use trails::go_back;

@@ -81,7 +81,8 @@ pub(crate) fn add_rough(trail: &Trail, slots: &mut Vec<Slot>) -> Result<(), NoMe
     ensures adds { OnOk result ((s : Slot) → is_rough_at (map_of trail.now s) ≡ true → is_listed slots.new.items s ≡ true) }
     ensures keeps { OnOk result ((s : Slot) → is_listed slots.old.items s ≡ true → is_listed slots.new.items s ≡ true) }
 {
-    add_variables(trail.variables().rough(), slots)?;
+    add_variables(trail.variables().constants().rough(), slots)?;
+    add_variables(trail.variables().changing().rough(), slots)?;
     add_properties(trail.properties().rough(), slots)?;
     Ok(())
 }

@@ -1,13 +1,14 @@
 //! Differences and trails: taking one off a trail, and making it again.
-ghost use Rattle.std.specs.Prelude.{◌≡◌, ◌<◌, ◌≤◌, ◌+◌, false, true, length, OnOk, IfOk, Some, None, if◌then◌else◌};
+ghost use Rattle.std.specs.Prelude.{◌≡◌, ◌&&◌, ◌<◌, ◌≤◌, ◌+◌, false, true, length, OnOk, IfOk, Some, None, if◌then◌else◌};
 ghost use Rattle.std.specs.Option.{is_some};
 ghost use Rattle.fact_trail.specs.declared.slot.Slot.{Slot};
-ghost use Rattle.fact_trail.specs.Slots.{at_slot, is_slot};
+ghost use Rattle.fact_trail.specs.Slots.{at_slot, is_slot, is_variable, is_property};
 ghost use Rattle.fact_trail.specs.Moments.{map_of, map_at, KeepsMoments, IsNew, Adds};
-ghost use Rattle.fact_arms.specs.Differences.{SameTypes, is_gone};
+ghost use Rattle.fact_arms.specs.Differences.{SameTypes, GoesBack, class_gone, is_gone};
 ghost use Rattle.fact_arms.specs.Joining.{said_at};
 
 use crate::Difference;
+use crate::gone::Gone;
 use crate::slots::add_said;
 use fact_trail::{Fact, Slot, Trail};
 use flow_values::NoMemory;
@@ -55,8 +56,26 @@ fn give_own(trail: &mut Trail, slot: Slot, fact: Option<Fact>) -> Result<(), NoM
     }
 }
 
+/// Takes the changes of a trail back, down to this number of them, and hands out nothing of them.
+///
+/// # Errors
+///
+/// `NoMemory` where memory is refused. Some changes may be taken back then.
+pub fn go_back(trail: &mut Trail, number: usize) -> Result<(), NoMemory>
+    requires { number ≤ length trail.old.changes.items }
+    ensures back { OnOk result (map_of trail.new ≡ map_at number trail.old) }
+    ensures within { number ≤ length trail.new.changes.items }
+    ensures goes { GoesBack trail.old trail.new }
+{
+    while trail.len() > number {
+        let change = trail.undo()?;
+        drop(change);
+    }
+    Ok(())
+}
+
 impl Difference {
-    ghost use Rattle.fact_arms.specs.Differences.{over, GoesBack, TakesLast, Leaves, Goes};
+    ghost use Rattle.fact_arms.specs.Differences.{over, TakesLast, Leaves, Goes};
 
     // Takes the last change of a trail back, and puts it before what is said.
     #[tactic(auto, using(crate::proofs::Moving::took_one, crate::proofs::Moving::goes_last, crate::proofs::Moving::one_last, crate::proofs::Moving::one_same, crate::proofs::Moving::goes_same))]
@@ -84,7 +103,7 @@ impl Difference {
         ensures within { number ≤ length trail.new.changes.items }
         ensures goes { GoesBack trail.old trail.new }
     {
-        let mut difference = Difference::new(alloc, false);
+        let mut difference = Difference::new(alloc, Gone::none());
         while trail.len() > number {
             difference.take_last(trail)?;
         }
@@ -102,14 +121,34 @@ impl Difference {
         }
     }
 
+    // Drops the facts on the variables of a class where it says that none has one.
+    fn make_class_gone(&self, constant: bool, trail: &mut Trail)
+        ensures made { (s : Slot) → map_of trail.new s ≡ (if is_variable constant s && class_gone self.now.gone constant then None else map_of trail.old s) }
+        ensures goes { Goes self.now trail.old trail.new }
+    {
+        if self.gone.has_variables(constant) {
+            trail.drop_variables(constant);
+        }
+    }
+
     // Drops the facts on properties where it says that none has one.
+    fn make_properties_gone(&self, trail: &mut Trail)
+        ensures made { (s : Slot) → map_of trail.new s ≡ (if is_property s && self.now.gone.properties then None else map_of trail.old s) }
+        ensures goes { Goes self.now trail.old trail.new }
+    {
+        if self.gone.properties {
+            trail.drop_properties();
+        }
+    }
+
+    // Drops the facts of each class of which it says that no slot has one.
     fn make_gone(&self, trail: &mut Trail)
         ensures made { (s : Slot) → map_of trail.new s ≡ (if is_gone self.now s then None else map_of trail.old s) }
         ensures goes { Goes self.now trail.old trail.new }
     {
-        if self.no_properties {
-            trail.drop_properties();
-        }
+        self.make_class_gone(true, trail);
+        self.make_class_gone(false, trail);
+        self.make_properties_gone(trail);
     }
 
     /// Makes these changes on a trail again.

@@ -1,20 +1,25 @@
 -- Changes on a trail, and the facts after each number of them.
-use Rattle.std.proofs.Common.{◌≡◌, ◌≤◌, ◌<◌, ◌+◌, ℕ, Option, Some, None, Bool, true, false, List, [], ◌∷◌, ◌++◌, drop, length, refl, sym, ap, ◌∙◌, inl, inr, ◌⊎◌, if◌then◌else◌, arith}
+use Rattle.std.proofs.Common.{◌≡◌, ◌≤◌, ◌<◌, ◌+◌, ℕ, Option, Some, None, Bool, true, false, List, [], ◌∷◌, ◌++◌, drop, length, refl, sym, ap, ◌∙◌, inl, inr, ◌⊎◌, IsTrue, ◌↔◌, if◌then◌else◌, arith}
 use Rattle.std.specs.Option.{is_some}
+use Rattle.std.specs.Ordering.{nat_cmp}
+use Rattle.std.specs.BTreeMap.{btree_map_len}
 use Rattle.std.proofs.lemmas.Bool.{cases_lt}
 use Rattle.std.proofs.lemmas.List.{drop-append-le, length-append}
 use Rattle.std.proofs.Math.ListN.{drop_of_length-le}
 use Rattle.fact_trail.specs.declared.fact.Fact.{Fact}
+use Rattle.fact_trail.specs.declared.class_facts.ClassFacts.{ClassFacts}
+use Rattle.fact_trail.specs.declared.variables.Variables.{Variables}
 use Rattle.fact_trail.specs.declared.properties.Properties.{Properties}
 use Rattle.fact_trail.specs.declared.trail.Trail.{Trail}
 use Rattle.fact_trail.specs.declared.trail.Change.{Change}
-use Rattle.fact_trail.specs.declared.trail.Change.TheVariants.{At, Properties as all_properties}
+use Rattle.fact_trail.specs.declared.trail.Change.TheVariants.{At, Variables as all_variables, Properties as all_properties}
 use Rattle.fact_trail.specs.declared.slot.Slot.TheVariants.{Variable, Property}
-use Rattle.fact_trail.specs.Rows.{properties_of}
-use Rattle.fact_trail.specs.Slots.{Key, Slot, Map, at_slot, is_slot, without}
-use Rattle.fact_trail.specs.Moments.{map_of, map_at, with_properties, before, undone, KeepsMoments, IsNew, IsQuiet, AreQuiet, Adds, Drops, TakesBack, IsSame}
+use Rattle.fact_trail.specs.Rows.{variables_of, class_facts_of, properties_of}
+use Rattle.fact_trail.specs.Slots.{Key, Slot, Map, at_slot, is_slot, is_class, is_variable, without}
+use Rattle.fact_trail.specs.Moments.{map_of, map_at, with_class, with_properties, before, undone, KeepsMoments, IsNew, IsQuiet, AreQuiet, Adds, Drops, TakesBack, IsSame}
 use Rattle.fact_trail.proofs.Same.{same_slot}
-use Rattle.fact_trail.proofs.Dropped.{all_dropped, nothing_dropped}
+use Rattle.fact_trail.proofs.Kept.{none_in}
+use Rattle.fact_trail.proofs.Dropped.{all_dropped, nothing_dropped, class_dropped}
 
 pub undone_end : (es : List Change) (e : Change) (m : Map) → undone (es ++ e ∷ []) m ≡ undone es (before e m)
 undone_end [] e m = refl
@@ -203,3 +208,73 @@ back_at slot v was old new same is had = record {
 -- what had no fact has none where nothing was changed
 pub new_same : (old new : Trail) (s : Slot) → IsSame old new → IsNew s old → IsNew s new
 new_same old new s same fresh n = (λ i. is_some (undone (drop n (same.1 i)) (same.0 i) s)) ∙ fresh n
+
+-- ---- all variables of a class
+
+-- the facts of a class are these, and the others stay
+abbrev Replaces : ClassFacts → Variables → Variables → Type 0
+Replaces facts old new = (b : ℕ) → variables_of new b ≡ (if is_class facts.constant b then class_facts_of facts b else variables_of old b)
+
+-- these were there
+abbrev AreThere : ClassFacts → ClassFacts → Variables → Type 0
+AreThere facts were old = (b : ℕ) → variables_of old b ≡ (if is_class facts.constant b then class_facts_of were b else variables_of old b)
+
+class_back : (facts were : ClassFacts) (old new : Variables) → Replaces facts old new → AreThere facts were old → were.constant ≡ facts.constant → (b : ℕ) → (if is_class were.constant b then class_facts_of were b else variables_of new b) ≡ variables_of old b
+class_back facts were old new made was same b = ap (λ c. if is_class c b then class_facts_of were b else variables_of new b) same ∙ at (is_class facts.constant b) refl
+  where
+    at : (t : Bool) → is_class facts.constant b ≡ t → (if is_class facts.constant b then class_facts_of were b else variables_of new b) ≡ variables_of old b
+    at true is = ap (λ t. if t then class_facts_of were b else variables_of new b) is ∙ sym (was b ∙ ap (λ t. if t then class_facts_of were b else variables_of old b) is)
+    at false is = ap (λ t. if t then class_facts_of were b else variables_of new b) is ∙ made b ∙ ap (λ t. if t then class_facts_of facts b else variables_of old b) is
+
+-- what was there leads back
+class_led_back : (facts were : ClassFacts) (old new : Trail) → Replaces facts old.variables new.variables → AreThere facts were old.variables → were.constant ≡ facts.constant → new.properties ≡ old.properties → with_class were (map_of new) ≡ map_of old
+class_led_back facts were old new made was same others = λ i s. at s i
+  where
+    at : (s : Slot) → with_class were (map_of new) s ≡ map_of old s
+    at (Variable b) = class_back facts were old.variables new.variables made was same b
+    at (Property k) = ap (λ p. properties_of p k) others
+
+class_made : (facts : ClassFacts) (old new : Trail) → Replaces facts old.variables new.variables → new.properties ≡ old.properties → map_of new ≡ with_class facts (map_of old)
+class_made facts old new made others = λ i s. at s i
+  where
+    at : (s : Slot) → map_of new s ≡ with_class facts (map_of old) s
+    at (Variable b) = made b
+    at (Property k) = ap (λ p. properties_of p k) others
+
+none_made : (facts : ClassFacts) (constant : Bool) (old new : Trail) → ((b : ℕ) → class_facts_of facts b ≡ None) → facts.constant ≡ constant → Replaces facts old.variables new.variables → new.properties ≡ old.properties → map_of new ≡ without (is_variable constant) (map_of old)
+none_made facts constant old new none same made others =
+    class_dropped (map_of old) (map_of new) constant (λ b. made b ∙ (λ i. if is_class (same i) b then none b i else variables_of old.variables b)) (λ k. ap (λ p. properties_of p k) others)
+
+-- the facts of a class are dropped with one change more
+pub class_goes : (constant : Bool) (none were : ClassFacts) (old new : Trail) → ((b : ℕ) → class_facts_of none b ≡ None) → none.constant ≡ constant → Replaces none old.variables new.variables → AreThere none were old.variables → were.constant ≡ none.constant →
+    new.properties ≡ old.properties → new.changes.items ≡ old.changes.items ++ all_variables were ∷ [] → Drops (is_variable constant) old new
+class_goes constant none were old new empty is made was same others are =
+    drops_one (is_variable constant) (all_variables were) old new are (none_made none constant old new empty is made others) (class_led_back none were old new made was same others)
+
+-- there were none
+pub class_stays : (constant : Bool) (none were : ClassFacts) (old new : Trail) → ((b : ℕ) → class_facts_of none b ≡ None) → none.constant ≡ constant → Replaces none old.variables new.variables → AreThere none were old.variables →
+    (t : Bool) → (IsTrue t ↔ (btree_map_len were.rows ≡ 0)) → t ≡ true → new.properties ≡ old.properties → new.changes.items ≡ old.changes.items → Drops (is_variable constant) old new
+class_stays constant none were old new empty is made was t tells nothing others are =
+    drops_none (is_variable constant) old new are (none_made none constant old new empty is made others) (class_made none old new made others ∙ (λ i s. at s i))
+  where
+    at : (s : Slot) → with_class none (map_of old) s ≡ map_of old s
+    at (Property k) = refl
+    at (Variable b) = (λ i. if is_class none.constant b then (empty b ∙ sym (none_in nat_cmp were.rows (tells.0 nothing) b)) i else variables_of old.variables b) ∙ sym (was b)
+
+-- a class that has what it had before
+pub class_taken_back : (facts were : ClassFacts) (old new : Trail) → Replaces facts old.variables new.variables → AreThere facts were old.variables → were.constant ≡ facts.constant → new.properties ≡ old.properties → new.changes.items ≡ old.changes.items →
+    TakesBack (all_variables facts) (all_variables were) old new
+class_taken_back facts were old new made was same others are = record {
+  made = class_made facts old new made others;
+  after = sym (class_led_back facts were old new made was same others);
+  quiet = λ s none m here. quiet s none m here;
+  changes = are;
+}
+  where
+    quiet : (s : Slot) → map_of old s ≡ None → (m : Map) → m s ≡ None → with_class were m s ≡ None
+    quiet (Property k) none m here = here
+    quiet (Variable b) none m here = ap (λ c. if is_class c b then class_facts_of were b else m (Variable b)) same ∙ at (is_class facts.constant b) refl
+      where
+        at : (t : Bool) → is_class facts.constant b ≡ t → (if is_class facts.constant b then class_facts_of were b else m (Variable b)) ≡ None
+        at true is = ap (λ t. if t then class_facts_of were b else m (Variable b)) is ∙ sym (was b ∙ ap (λ t. if t then class_facts_of were b else variables_of old.variables b) is) ∙ none
+        at false is = ap (λ t. if t then class_facts_of were b else m (Variable b)) is ∙ here

@@ -3,7 +3,7 @@ use Rattle.std.proofs.Common.{◌≡◌, ◌==◌, ℕ, Bool, true, false, Optio
 use Rattle.std.proofs.lemmas.Bool.{eqb-true}
 use Rattle.fact_trail.specs.declared.fact.Fact.{Fact}
 use Rattle.fact_trail.specs.declared.slot.Slot.TheVariants.{Variable, Property}
-use Rattle.fact_trail.specs.Slots.{Key, Slot, Map, at_number, at_key, at_slot, is_slot, is_named, is_of, is_property, without}
+use Rattle.fact_trail.specs.Slots.{Key, Slot, Map, at_number, at_key, at_slot, is_slot, is_named, is_of, is_class, is_variable, is_property, without}
 use Rattle.fact_trail.proofs.Same.{same_slot}
 
 -- a change of a property, which leaves the variables
@@ -45,6 +45,14 @@ named_gone n name none (Property k) is = none k (sym (eqb-true name k.name is))
 pub of_gone : (n : Map) (binding : ℕ) → ((k : Key) → k.binding ≡ binding → n (Property k) ≡ None) → (s : Slot) → is_of binding s ≡ true → n s ≡ None
 of_gone n binding none (Variable b) is = cc
 of_gone n binding none (Property k) is = none k (sym (eqb-true binding k.binding is))
+
+-- no variable of a class has one
+pub class_dropped : (m n : Map) (constant : Bool) → ((b : ℕ) → n (Variable b) ≡ (if is_class constant b then None else m (Variable b))) → ((k : Key) → n (Property k) ≡ m (Property k)) → n ≡ without (is_variable constant) m
+class_dropped m n constant variables others = λ i s. at s i
+  where
+    at : (s : Slot) → n s ≡ without (is_variable constant) m s
+    at (Variable b) = variables b
+    at (Property k) = others k
 
 -- no property has one
 pub properties_dropped : (m n : Map) → ((b : ℕ) → n (Variable b) ≡ m (Variable b)) → ((k : Key) → n (Property k) ≡ None) → n ≡ without is_property m

@@ -5,7 +5,7 @@ use Rattle.std.specs.Map.{lookup}
 use Rattle.std.specs.Option.{is_some, IsSome, IfSome, IfNone}
 use Rattle.std.specs.Result.{is_err}
 use Rattle.std.specs.Ordering.{nat_cmp, is_eq}
-use Rattle.std.specs.BTreeMap.{BTreeMap, get, is_at, Updates}
+use Rattle.std.specs.BTreeMap.{BTreeMap, get, is_at, Updates, btree_map_len}
 use Rattle.std.specs.BTreeSet.{BTreeSet, contains}
 use Rattle.std.specs.BTreeSet as sets
 use Rattle.fact_trail.specs.declared.fact.Fact.{Fact}
@@ -141,23 +141,31 @@ turned_less (Some p) r r' s updates same kept c is = kept c (still (is_at (key_c
     still true o is = cc
     still false o is = is
 
-pub rough_less : (o : Option (Key × Fact)) (r r' : BTreeMap Key Fact) (s : BTreeSet Key) → IfSome o (λ p. Updates key_cmp r r' p.0 None) → IfNone o (r'.entries ≡ r.entries) →
-    ((c : Key) → is_rough_at (get key_cmp r c) ≡ true → contains key_cmp s c ≡ true) → (c : Key) → is_rough_at (get key_cmp r' c) ≡ true → contains key_cmp s c ≡ true
-rough_less None r r' s updates same kept c is = kept c (sym (ap (λ es. is_rough_at (lookup (is_at (key_cmp c)) es)) same) ∙ is)
-rough_less (Some p) r r' s updates same kept c is = kept c (still (is_at (key_cmp p.0) c) (get key_cmp r c) (sym (ap is_rough_at (updates.0 c)) ∙ is))
+pub rough_less : {K : Type 0} (cmp : K → K → Ordering) (o : Option (K × Fact)) (r r' : BTreeMap K Fact) (s : BTreeSet K) → IfSome o (λ p. Updates cmp r r' p.0 None) → IfNone o (r'.entries ≡ r.entries) →
+    ((c : K) → is_rough_at (get cmp r c) ≡ true → contains cmp s c ≡ true) → (c : K) → is_rough_at (get cmp r' c) ≡ true → contains cmp s c ≡ true
+rough_less cmp None r r' s updates same kept c is = kept c (sym (ap (λ es. is_rough_at (lookup (is_at (cmp c)) es)) same) ∙ is)
+rough_less cmp (Some p) r r' s updates same kept c is = kept c (still (is_at (cmp p.0) c) (get cmp r c) (sym (ap is_rough_at (updates.0 c)) ∙ is))
   where
     still : (b : Bool) (o : Option Fact) → is_rough_at (cond b None o) ≡ true → is_rough_at o ≡ true
     still true o is = cc
     still false o is = is
 
 -- there was none
-pub empty_less : (o : Option (Key × Fact)) (r : BTreeMap Key Fact) → (IsSome o ↔ (0 < length r.entries)) → IfNone o ((c : Key) → get key_cmp r c ≡ None)
-empty_less (Some p) r variant = tt
-empty_less None r variant = λ c. ap (lookup (is_at (key_cmp c))) (at r.entries refl)
+pub empty_less : {K : Type 0} (cmp : K → K → Ordering) (o : Option (K × Fact)) (r : BTreeMap K Fact) → (IsSome o ↔ (0 < length r.entries)) → IfNone o ((c : K) → get cmp r c ≡ None)
+empty_less cmp (Some p) r variant = tt
+empty_less {K} cmp None r variant = λ c. ap (lookup (is_at (cmp c))) (at r.entries refl)
   where
     wrong : false ≡ true → ⊥
     wrong both = cc
 
-    at : (es : List (Key × Fact)) → r.entries ≡ es → r.entries ≡ []
+    at : (es : List (K × Fact)) → r.entries ≡ es → r.entries ≡ []
     at [] is = is
-    at (e ∷ es) is = absurd (wrong (variant.1 (subst (λ (l : List (Key × Fact)). 0 < length l) (sym is) (omega arith))))
+    at (e ∷ es) is = absurd (wrong (variant.1 (subst (λ (l : List (K × Fact)). 0 < length l) (sym is) (omega arith))))
+
+-- no fact is there
+pub none_in : {K : Type 0} (cmp : K → K → Ordering) (r : BTreeMap K Fact) → btree_map_len r ≡ 0 → (c : K) → get cmp r c ≡ None
+none_in {K} cmp r none c = ap (lookup (is_at (cmp c))) (at r.entries refl)
+  where
+    at : (es : List (K × Fact)) → r.entries ≡ es → r.entries ≡ []
+    at [] is = is
+    at (e ∷ es) is = absurd (let some = ap length is in omega (arith, none, some))

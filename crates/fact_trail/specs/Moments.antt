@@ -1,19 +1,25 @@
 -- What facts with their trail stand for: the facts now, and as they were after each number of changes.
-use Rattle.std.specs.Prelude.{ℕ, ◌≡◌, ◌≤◌, Bool, false, List, [], ◌∷◌, Option, None, drop, length}
+use Rattle.std.specs.Prelude.{ℕ, ◌≡◌, ◌≤◌, Bool, false, List, [], ◌∷◌, Option, None, drop, length, if◌then◌else◌}
 use Rattle.std.specs.Option.{is_some}
 use Rattle.fact_trail.specs.declared.fact.Fact.{Fact}
+use Rattle.fact_trail.specs.declared.class_facts.ClassFacts.{ClassFacts}
 use Rattle.fact_trail.specs.declared.properties.Properties.{Properties}
 use Rattle.fact_trail.specs.declared.trail.Trail.{Trail}
 use Rattle.fact_trail.specs.declared.trail.Change.{Change}
-use Rattle.fact_trail.specs.declared.trail.Change.TheVariants.{At, Properties as all_properties}
+use Rattle.fact_trail.specs.declared.trail.Change.TheVariants.{At, Variables as all_variables, Properties as all_properties}
 use Rattle.fact_trail.specs.declared.slot.Slot.TheVariants.{Variable, Property}
-use Rattle.fact_trail.specs.Slots.{Slot, Map, at_slot, is_slot, without}
-use Rattle.fact_trail.specs.Rows.{variables_of, properties_of}
+use Rattle.fact_trail.specs.Slots.{Slot, Map, at_slot, is_slot, is_class, without}
+use Rattle.fact_trail.specs.Rows.{variables_of, class_facts_of, properties_of}
 
 -- the facts now
 abbrev pub map_of : Trail → Map
 map_of f (Variable b) = variables_of f.variables b
 map_of f (Property k) = properties_of f.properties k
+
+-- the map with these facts on the variables of their class
+abbrev pub with_class : ClassFacts → Map → Map
+with_class c m (Variable b) = if is_class c.constant b then class_facts_of c b else m (Variable b)
+with_class c m (Property k) = m (Property k)
 
 -- the map with these properties
 abbrev pub with_properties : Properties → Map → Map
@@ -23,6 +29,7 @@ with_properties p m (Property k) = properties_of p k
 -- the map before a change
 abbrev pub before : Change → Map → Map
 before (At slot fact) m = at_slot slot fact m
+before (all_variables c) m = with_class c m
 before (all_properties p) m = with_properties p m
 
 -- the map before these changes

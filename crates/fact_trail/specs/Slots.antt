@@ -1,7 +1,8 @@
 -- Slots, which have facts, and maps from them.
-use Rattle.std.specs.Prelude.{ℕ, ◌==◌, Bool, true, false, Option, Some, None, if◌then◌else◌}
+use Rattle.std.specs.Prelude.{ℕ, ◌==◌, Bool, true, false, not, nat_lt, Option, Some, None, if◌then◌else◌}
 use Rattle.std.specs.Ordering.{nat_cmp, is_eq, ordering_then}
 use Rattle.std.specs.declared.cmp.Ordering.{Ordering}
+use Rattle.flow_facts.specs.Known.{is_constant_number}
 use Rattle.fact_trail.specs.declared.fact.Fact.{Fact}
 pub use Rattle.fact_trail.specs.declared.slot.Key.{Key}
 pub use Rattle.fact_trail.specs.declared.slot.Turned.{Turned}
@@ -55,6 +56,22 @@ without gone m q = if gone q then None else m q
 abbrev pub is_property : Slot → Bool
 is_property (Variable b) = false
 is_property (Property k) = true
+
+-- a variable is of the class of constants (true), or of the other one
+abbrev pub is_class : Bool → ℕ → Bool
+is_class true b = is_constant_number b
+is_class false b = not (is_constant_number b)
+
+-- a variable of this class
+abbrev pub is_variable : Bool → Slot → Bool
+is_variable constant (Variable b) = is_class constant b
+is_variable constant (Property k) = false
+
+-- the lower one of two numbers that may be there
+abbrev pub first_of : Option ℕ → Option ℕ → Option ℕ
+first_of None b = b
+first_of (Some x) None = Some x
+first_of (Some x) (Some y) = if nat_lt y x then Some y else Some x
 
 -- a property of this name
 abbrev pub is_named : ℕ → Slot → Bool

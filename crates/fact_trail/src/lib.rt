@@ -2,6 +2,7 @@
 //! those that go back takes memory.
 #![tactic(auto)]
 
+mod class_facts;
 mod fact;
 mod marks;
 mod properties;
@@ -9,8 +10,9 @@ mod slot;
 mod trail;
 mod variables;
 
+pub use class_facts::ClassFacts;
 pub use fact::Fact;
 pub use properties::Properties;
-pub use slot::{Key, Slot};
+pub use slot::{Key, Slot, is_constant};
 pub use trail::{Change, Trail};
 pub use variables::Variables;

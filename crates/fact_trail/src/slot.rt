@@ -1,4 +1,6 @@
 //! Where facts stand.
+ghost use Rattle.std.specs.Prelude.{◌≡◌};
+ghost use Rattle.flow_facts.specs.Known.{is_constant_number};
 
 /// A property of a variable: the number of the property's name, and the variable. Properties of one
 /// name stand together.
@@ -22,4 +24,11 @@ pub enum Slot {
     Variable(u32),
     /// A property of a variable.
     Property(Key),
+}
+
+/// Whether a variable is constant, by its number.
+pub fn is_constant(binding: u32) -> bool
+    ensures { result ≡ is_constant_number binding }
+{
+    binding % 2 == 1
 }

@@ -3,10 +3,11 @@ ghost use Rattle.std.specs.Prelude.{◌≡◌, ◌<◌, ◌≤◌, ◌+◌, ℕ,
 ghost use Rattle.std.specs.Option.{option_copied, is_some};
 ghost use Rattle.std.specs.BTreeMap.{btree_map_len};
 ghost use Rattle.std.specs.BTreeSet.{btree_set_len, contains};
-ghost use Rattle.fact_trail.specs.Slots.{Slot, turn, turned_cmp, at_slot, is_slot, is_property, is_named, is_of, without};
+ghost use Rattle.fact_trail.specs.Rows.{facts_count};
+ghost use Rattle.fact_trail.specs.Slots.{Slot, turn, turned_cmp, at_slot, is_slot, is_variable, is_property, is_named, is_of, without};
 ghost use Rattle.fact_trail.specs.declared.slot.Slot.TheVariants.{Variable, Property};
 
-use crate::{Fact, Key, Properties, Slot, Variables};
+use crate::{ClassFacts, Fact, Key, Properties, Slot, Variables};
 use flow_values::NoMemory;
 use std::alloc::Global;
 use std::mem;
@@ -16,6 +17,8 @@ use std::mem;
 pub enum Change {
     /// At one slot.
     At(Slot, Option<Fact>),
+    /// At all variables of one class.
+    Variables(ClassFacts),
     /// At all properties.
     Properties(Properties),
 }
@@ -28,12 +31,25 @@ pub struct Trail {
     properties: Properties,
     changes: Vec<Change>,
     // Each fact has room for the change that drops it, so that dropping takes no memory.
-    ghost room: { vec_len changes + (btree_map_len variables.rows + btree_map_len properties.rows) ≤ vec_capacity changes },
+    ghost room: { vec_len changes + (facts_count variables + btree_map_len properties.rows) ≤ vec_capacity changes },
+}
+
+// Makes room for this many changes and more.
+fn make_room(changes: &mut Vec<Change>, count: usize, more: usize) -> Result<(), NoMemory>
+    ensures room { OnOk result (vec_len changes.new + count + more ≤ vec_capacity changes.new) }
+    ensures capacity { vec_capacity changes.old ≤ vec_capacity changes.new }
+    ensures items { changes.new.items ≡ changes.old.items }
+{
+    let Some(room) = count.checked_add(more) else {
+        return Err(NoMemory);
+    };
+    changes.reserve(room)?;
+    Ok(())
 }
 
 impl Trail {
     ghost use Rattle.fact_trail.specs.Rows.{properties_of};
-    ghost use Rattle.fact_trail.specs.declared.trail.Change.TheVariants.{At, Properties as all_properties};
+    ghost use Rattle.fact_trail.specs.declared.trail.Change.TheVariants.{At, Variables as all_variables, Properties as all_properties};
     ghost use Rattle.fact_trail.specs.Moments.{map_of, before, KeepsMoments, IsNew, IsQuiet, Adds, Drops, TakesBack, IsSame};
 
     /// No facts and no changes. It takes no memory.
@@ -90,21 +106,22 @@ impl Trail {
 
     // The number of facts.
     fn rows(&self) -> usize
-        ensures { result ≡ btree_map_len self.now.variables.rows + btree_map_len self.now.properties.rows }
+        ensures { result ≡ facts_count self.now.variables + btree_map_len self.now.properties.rows }
     {
+        let _most = self.changes.capacity();
         self.variables.len() + self.properties.len()
     }
 
     // Sets a fact, and gives the one before it, without a change on the trail.
     fn set(&mut self, slot: Slot, fact: Fact) -> Result<Option<Fact>, Fact>
-        requires room { vec_len self.old.changes + (btree_map_len self.old.variables.rows + btree_map_len self.old.properties.rows) < vec_capacity self.old.changes }
+        requires room { vec_len self.old.changes + (facts_count self.old.variables + btree_map_len self.old.properties.rows) < vec_capacity self.old.changes }
         ensures facts { OnOk result (map_of self.new ≡ at_slot slot (Some fact) (map_of self.old)) }
         ensures was { IfOk result (λ was. was ≡ map_of self.old slot) }
         ensures err { OnErr result (map_of self.new ≡ map_of self.old) }
         ensures back { IfErr result (λ back. back ≡ fact) }
         ensures changes { self.new.changes ≡ self.old.changes }
-        ensures rows { IfOk result (λ was. btree_map_len self.new.variables.rows + btree_map_len self.new.properties.rows ≡ btree_map_len self.old.variables.rows + btree_map_len self.old.properties.rows + (if is_some was then 0 else 1)) }
-        ensures err_rows { OnErr result (btree_map_len self.new.variables.rows + btree_map_len self.new.properties.rows ≡ btree_map_len self.old.variables.rows + btree_map_len self.old.properties.rows) }
+        ensures rows { IfOk result (λ was. facts_count self.new.variables + btree_map_len self.new.properties.rows ≡ facts_count self.old.variables + btree_map_len self.old.properties.rows + (if is_some was then 0 else 1)) }
+        ensures err_rows { OnErr result (facts_count self.new.variables + btree_map_len self.new.properties.rows ≡ facts_count self.old.variables + btree_map_len self.old.properties.rows) }
     {
         match slot {
             Slot::Variable(binding) => self.variables.insert(binding, fact),
@@ -117,7 +134,7 @@ impl Trail {
         ensures facts { map_of self.new ≡ at_slot slot None (map_of self.old) }
         ensures was { result ≡ map_of self.old slot }
         ensures changes { self.new.changes ≡ self.old.changes }
-        ensures rows { btree_map_len self.new.variables.rows + btree_map_len self.new.properties.rows + (if is_some result then 1 else 0) ≡ btree_map_len self.old.variables.rows + btree_map_len self.old.properties.rows }
+        ensures rows { facts_count self.new.variables + btree_map_len self.new.properties.rows + (if is_some result then 1 else 0) ≡ facts_count self.old.variables + btree_map_len self.old.properties.rows }
     {
         match slot {
             Slot::Variable(binding) => self.variables.remove(binding),
@@ -135,10 +152,8 @@ impl Trail {
         ensures err { OnErr result (map_of self.new ≡ map_of self.old) }
         ensures adds { Adds slot self.old self.new }
     {
-        let Some(room) = self.rows().checked_add(2) else {
-            return Err(NoMemory);
-        };
-        self.changes.reserve(room)?;
+        let rows = self.rows();
+        make_room(&mut self.changes, rows, 2)?;
         match self.set(slot, fact) {
             Ok(before) => {
                 self.changes.push_reserved(Change::At(slot, before));
@@ -181,6 +196,19 @@ impl Trail {
             let slot = Slot::Property(key);
             self.changes.push_reserved(Change::At(slot, Some(fact)));
         }
+    }
+
+    /// Drops the facts on all variables of a class, those that are constant (true) or the others, as
+    /// one change.
+    pub fn drop_variables(&mut self, constant: bool)
+        ensures { Drops (is_variable constant) self.old self.new }
+    {
+        let none = ClassFacts::new(self.alloc, constant);
+        let facts = self.variables.replace(none);
+        if facts.is_empty() {
+            return;
+        }
+        self.changes.push_reserved(Change::Variables(facts));
     }
 
     /// Drops the facts on all properties, as one change.
@@ -250,19 +278,20 @@ impl Trail {
     // Takes a change back that was taken off the trail, and gives the opposite one. Where memory is
     // refused, the change is put on the trail again.
     fn take_back(&mut self, change: Change) -> Result<Change, NoMemory>
-        requires room { vec_len self.old.changes + (btree_map_len self.old.variables.rows + btree_map_len self.old.properties.rows) < vec_capacity self.old.changes }
+        requires room { vec_len self.old.changes + (facts_count self.old.variables + btree_map_len self.old.properties.rows) < vec_capacity self.old.changes }
         ensures back { IfOk result (λ opposite. TakesBack change opposite self.old self.new) }
         ensures err { OnErr result ((map_of self.new ≡ map_of self.old) × (self.new.changes.items ≡ self.old.changes.items ++ change ∷ [])) }
     {
         match change {
             Change::At(slot, fact) => self.put_back(slot, fact),
+            Change::Variables(facts) => self.put_variables_back(facts),
             Change::Properties(properties) => self.put_properties_back(properties),
         }
     }
 
     // Gives a slot again what it had.
     fn put_back(&mut self, slot: Slot, fact: Option<Fact>) -> Result<Change, NoMemory>
-        requires room { vec_len self.old.changes + (btree_map_len self.old.variables.rows + btree_map_len self.old.properties.rows) < vec_capacity self.old.changes }
+        requires room { vec_len self.old.changes + (facts_count self.old.variables + btree_map_len self.old.properties.rows) < vec_capacity self.old.changes }
         ensures back { IfOk result (λ opposite. TakesBack (At slot fact) opposite self.old self.new) }
         ensures err { OnErr result ((map_of self.new ≡ map_of self.old) × (self.new.changes.items ≡ self.old.changes.items ++ At slot fact ∷ [])) }
     {
@@ -279,14 +308,30 @@ impl Trail {
         }
     }
 
+    // Gives the variables of a class again what they had.
+    #[tactic(auto, using(crate::proofs::Changes::class_taken_back))]
+    fn put_variables_back(&mut self, facts: ClassFacts) -> Result<Change, NoMemory>
+        requires room { vec_len self.old.changes + (facts_count self.old.variables + btree_map_len self.old.properties.rows) < vec_capacity self.old.changes }
+        ensures back { IfOk result (λ opposite. TakesBack (all_variables facts) opposite self.old self.new) }
+        ensures err { OnErr result ((map_of self.new ≡ map_of self.old) × (self.new.changes.items ≡ self.old.changes.items ++ all_variables facts ∷ [])) }
+    {
+        let rows = self.rows();
+        if make_room(&mut self.changes, rows, facts.len()).is_err() {
+            self.changes.push_reserved(Change::Variables(facts));
+            return Err(NoMemory);
+        }
+        let before = self.variables.replace(facts);
+        Ok(Change::Variables(before))
+    }
+
     // Gives all properties again what they had.
     fn put_properties_back(&mut self, properties: Properties) -> Result<Change, NoMemory>
-        requires room { vec_len self.old.changes + (btree_map_len self.old.variables.rows + btree_map_len self.old.properties.rows) < vec_capacity self.old.changes }
+        requires room { vec_len self.old.changes + (facts_count self.old.variables + btree_map_len self.old.properties.rows) < vec_capacity self.old.changes }
         ensures back { IfOk result (λ opposite. TakesBack (all_properties properties) opposite self.old self.new) }
         ensures err { OnErr result ((map_of self.new ≡ map_of self.old) × (self.new.changes.items ≡ self.old.changes.items ++ all_properties properties ∷ [])) }
     {
-        let rows = self.variables.len() + properties.len();
-        if self.changes.reserve(rows).is_err() {
+        let rows = self.rows();
+        if make_room(&mut self.changes, rows, properties.len()).is_err() {
             self.changes.push_reserved(Change::Properties(properties));
             return Err(NoMemory);
         }

@@ -1,127 +1,143 @@
 //! The facts on variables.
-ghost use Rattle.std.specs.Prelude.{◌≡◌, ◌<◌, ◌≤◌, ◌+◌, ◌^◌, ℕ, true, false, Some, None, MatchOption, OnOk, OnErr, IfOk, IfErr, if◌then◌else◌};
+ghost use Rattle.std.specs.Prelude.{◌≡◌, ◌<◌, ◌≤◌, ◌+◌, ℕ, true, false, Some, None, MatchOption, OnOk, OnErr, IfOk, IfErr, if◌then◌else◌};
 ghost use Rattle.std.specs.Option.{option_copied, is_some};
-ghost use Rattle.std.specs.Ordering.{nat_cmp};
-ghost use Rattle.std.specs.BTreeMap.{btree_map_len, get};
-ghost use Rattle.std.specs.BTreeSet.{contains};
-ghost use Rattle.fact_trail.specs.Slots.{is_number, at_number, is_rough_at};
+ghost use Rattle.std.specs.BTreeMap.{btree_map_len};
+ghost use Rattle.fact_trail.specs.Slots.{at_number, is_class, first_of};
 
-use crate::Fact;
-use crate::marks::mark;
+use crate::slot::is_constant;
+use crate::{ClassFacts, Fact};
 use std::alloc::Global;
-use std::collections::{BTreeMap, BTreeSet};
-use std::ops::Bound;
+use std::mem;
 
-/// The facts on variables.
+/// The facts on variables, those on constants apart from the others.
 #[derive(Drop)]
 pub struct Variables {
-    rows: BTreeMap<u32, Fact>,
-    // Those whose facts are rough are all here.
-    rough: BTreeSet<u32>,
-    ghost rough_too: { (b : ℕ) → is_rough_at (get nat_cmp rows b) ≡ true → contains nat_cmp rough b ≡ true },
+    constants: ClassFacts,
+    changing: ClassFacts,
+    ghost classes: { (constants.constant ≡ true) × (changing.constant ≡ false) },
+}
+
+// The lower one of two numbers that may be there.
+fn first_of(a: Option<u32>, b: Option<u32>) -> Option<u32>
+    ensures { result ≡ first_of a b }
+{
+    match (a, b) {
+        (Some(x), Some(y)) => {
+            if y < x {
+                return Some(y);
+            }
+            Some(x)
+        }
+        (Some(x), None) => Some(x),
+        (None, b) => b,
+    }
 }
 
 impl Variables {
-    ghost use Rattle.fact_trail.specs.Rows.{variables_of};
+    ghost use Rattle.fact_trail.specs.Rows.{variables_of, class_facts_of, facts_count};
 
-    #[tactic(auto, using(crate::proofs::Kept::rough_none))]
+    #[tactic(auto, using(crate::proofs::Classes::none_in_both))]
     pub(crate) fn new(alloc: Global) -> Variables
         ensures facts { (b : ℕ) → variables_of result b ≡ None }
-        ensures len { btree_map_len result.rows ≡ 0 }
+        ensures len { facts_count result ≡ 0 }
     {
         Variables {
-            rows: BTreeMap::new(alloc),
-            rough: BTreeSet::new(alloc),
+            constants: ClassFacts::new(alloc, true),
+            changing: ClassFacts::new(alloc, false),
         }
+    }
+
+    /// The facts on constants.
+    pub fn constants(&self) -> &ClassFacts
+        ensures { result.now ≡ self.now.constants }
+    {
+        &self.constants
+    }
+
+    /// The facts on the other variables.
+    pub fn changing(&self) -> &ClassFacts
+        ensures { result.now ≡ self.now.changing }
+    {
+        &self.changing
     }
 
     // The number of facts.
     pub(crate) fn len(&self) -> usize
-        ensures len { result ≡ btree_map_len self.now.rows }
-        ensures small { result < 2 ^ 63 }
+        ensures { result ≡ facts_count self.now }
     {
-        self.rows.len()
+        self.constants.len() + self.changing.len()
     }
 
     /// The fact on a variable.
+    #[tactic(auto, using(crate::proofs::Classes::constant_at, crate::proofs::Classes::changing_at))]
     pub fn get(&self, binding: u32) -> Option<&Fact>
         ensures { option_copied result ≡ variables_of self.now binding }
     {
-        self.rows.get(&binding)
+        if is_constant(binding) {
+            return self.constants.get(binding);
+        }
+        self.changing.get(binding)
     }
 
     /// Sets a variable's fact, and gives the one before it. Where memory is refused, the fact comes
     /// back.
-    #[tactic(auto, using(crate::proofs::Kept::number_set, crate::proofs::Kept::number_refused))]
+    #[tactic(auto, using(crate::proofs::Classes::set_constant, crate::proofs::Classes::set_changing, crate::proofs::Classes::same_constants, crate::proofs::Classes::same_changing, crate::proofs::Classes::constant_at, crate::proofs::Classes::changing_at, crate::proofs::Classes::of_class))]
     pub(crate) fn insert(&mut self, binding: u32, fact: Fact) -> Result<Option<Fact>, Fact>
         ensures facts { OnOk result (variables_of self.new ≡ at_number binding (Some fact) (variables_of self.old)) }
         ensures was { IfOk result (λ was. was ≡ variables_of self.old binding) }
         ensures err { OnErr result (variables_of self.new ≡ variables_of self.old) }
         ensures back { IfErr result (λ back. back ≡ fact) }
-        ensures len { IfOk result (λ was. btree_map_len self.new.rows ≡ btree_map_len self.old.rows + (if is_some was then 0 else 1)) }
-        ensures err_len { OnErr result (btree_map_len self.new.rows ≡ btree_map_len self.old.rows) }
+        ensures len { IfOk result (λ was. facts_count self.new ≡ facts_count self.old + (if is_some was then 0 else 1)) }
+        ensures err_len { OnErr result (facts_count self.new ≡ facts_count self.old) }
     {
-        if mark(&mut self.rough, binding, fact.is_rough()).is_err() {
-            return Err(fact);
+        if is_constant(binding) {
+            return self.constants.insert(binding, fact);
         }
-        match self.rows.insert(binding, fact) {
-            Ok(before) => Ok(before),
-            Err(refused) => Err(refused.value.1),
-        }
+        self.changing.insert(binding, fact)
     }
 
     /// Drops a variable's fact, and gives it.
-    #[tactic(auto, using(crate::proofs::Kept::number_unset))]
+    #[tactic(auto, using(crate::proofs::Classes::constant_at, crate::proofs::Classes::changing_at))]
     pub(crate) fn remove(&mut self, binding: u32) -> Option<Fact>
         ensures facts { variables_of self.new ≡ at_number binding None (variables_of self.old) }
         ensures was { result ≡ variables_of self.old binding }
-        ensures len { btree_map_len self.new.rows + (if is_some result then 1 else 0) ≡ btree_map_len self.old.rows }
+        ensures len { facts_count self.new + (if is_some result then 1 else 0) ≡ facts_count self.old }
     {
-        self.rough.remove(&binding);
-        self.rows.remove(&binding)
+        if is_constant(binding) {
+            return self.constants.remove(binding);
+        }
+        self.changing.remove(binding)
+    }
+
+    /// Gives the variables of a class these facts, and gives those that they had.
+    #[tactic(auto, using(crate::proofs::Classes::replaced_constants, crate::proofs::Classes::replaced_changing, crate::proofs::Classes::were_constants, crate::proofs::Classes::were_changing))]
+    pub(crate) fn replace(&mut self, facts: ClassFacts) -> ClassFacts
+        ensures facts { (b : ℕ) → variables_of self.new b ≡ (if is_class facts.constant b then class_facts_of facts b else variables_of self.old b) }
+        ensures was { (b : ℕ) → variables_of self.old b ≡ (if is_class facts.constant b then class_facts_of result b else variables_of self.old b) }
+        ensures class { result.constant ≡ facts.constant }
+        ensures len { facts_count self.new + btree_map_len result.rows ≡ facts_count self.old + btree_map_len facts.rows }
+    {
+        if facts.is_constant() {
+            return mem::replace(&mut self.constants, facts);
+        }
+        mem::replace(&mut self.changing, facts)
     }
 
     /// The first variable with a fact from a number on.
+    #[tactic(auto, using(crate::proofs::Classes::first_from))]
     pub(crate) fn from(&self, binding: u32) -> Option<u32>
         ensures { MatchOption result ((b : ℕ) → binding ≤ b → variables_of self.now b ≡ None)
             (λ next. (binding ≤ next) × ((b : ℕ) → binding ≤ b → b < next → variables_of self.now b ≡ None)) }
     {
-        match self
-            .rows
-            .range((Bound::Included(binding), Bound::Unbounded))
-            .next()
-        {
-            Some((next, _)) => Some(*next),
-            None => None,
-        }
+        first_of(self.constants.from(binding), self.changing.from(binding))
     }
 
     /// The first variable with a fact after a number.
+    #[tactic(auto, using(crate::proofs::Classes::first_after))]
     pub(crate) fn after(&self, binding: u32) -> Option<u32>
         ensures { MatchOption result ((b : ℕ) → binding < b → variables_of self.now b ≡ None)
             (λ next. (binding < next) × ((b : ℕ) → binding < b → b < next → variables_of self.now b ≡ None)) }
     {
-        match self
-            .rows
-            .range((Bound::Excluded(binding), Bound::Unbounded))
-            .next()
-        {
-            Some((next, _)) => Some(*next),
-            None => None,
-        }
-    }
-
-    /// The facts by their variables.
-    pub fn rows(&self) -> &BTreeMap<u32, Fact>
-        ensures { (b : ℕ) → get nat_cmp result.now b ≡ variables_of self.now b }
-    {
-        &self.rows
-    }
-
-    /// The variables whose facts may be rough.
-    pub fn rough(&self) -> &BTreeSet<u32>
-        ensures { (b : ℕ) → is_rough_at (variables_of self.now b) ≡ true → contains nat_cmp result.now b ≡ true }
-    {
-        &self.rough
+        first_of(self.constants.after(binding), self.changing.after(binding))
     }
 }

@@ -3,7 +3,7 @@ use Rattle.std.proofs.Common.{◌≡◌, ◌<◌, ◌+◌, Option, Some, None, r
 use Rattle.refine_flow.specs.declared.facts.Facts.{Facts}
 use Rattle.refine_flow.specs.declared.facts.Mark.{Mark}
 use Rattle.refine_flow.specs.declared.facts.Arm.{Arm}
-use Rattle.refine_flow.specs.Standing.{known_over, open_marks, depth_of, IsOf, IsLast, IsUpTo, IsArmOf, KeepsMark, KeepsMarks, KeepsMarksUpTo, SpendsMark, SpendsInner, OpensMark}
+use Rattle.refine_flow.specs.Standing.{known_over, open_marks, depth_of, IsOf, IsLast, IsUpTo, IsArmOf, KeepsMark, KeepsMarks, KeepsMarksUpTo, SpendsMark, SpendsInner, OpensMark, EntersMark}
 use Rattle.fact_ways.specs.declared.fork.Fork.{Fork}
 use Rattle.fact_ways.specs.Ways.{Fits, IsBefore, Goes, Leads, StandsBefore}
 
@@ -157,3 +157,23 @@ lengthens k j last a b c same is spent kept of =
             (subst (λ mark. IsUpTo m mark × (depth_of m < depth_of mark)) same earlier, keeps_twice m a b c first (kept.each m first.0 earlier.0));
       };
     }
+
+-- ---- functions inside
+
+-- the facts go on, and the mark of those around stays the last one
+pub enters_on : (mark : Mark) (a b c : Facts) → EntersMark mark a b → Goes None b None c → EntersMark mark a c
+enters_on mark a b c enters goes =
+    let kept = (goes.each mark (last_is_of mark b enters.last) tt).1 in
+    record {
+      last = last_stays mark b c goes.count enters.last kept;
+      depth = enters.depth;
+      before = kept.1 ∙ enters.before;
+      each = λ m is. let once = enters.each m is in (once.0, keeps_twice m a b c once.1 (goes.each m once.1.0 tt).1);
+    }
+
+-- the mark is spent, and as many stand as before it
+pub enters_ends : (mark : Mark) (a b c : Facts) → EntersMark mark a b → SpendsMark mark b c → Goes None a None c
+enters_ends mark a b c enters spent = record {
+  count = spent.count ∙ enters.depth;
+  each = λ m is earlier. let once = enters.each m is in (tt, keeps_twice m a b c once.1 (spent.each m once.1.0 once.0 (omega (arith, is.0, enters.depth))));
+}

@@ -1,5 +1,5 @@
 -- Facts: a map from places to types, or dead, and what changes them.
-use Rattle.std.specs.Prelude.{ℕ, ◌==◌, ◌&&◌, ◌||◌, Bool, false, not, List, [], ◌∷◌, filter, Option, Some, None, unwrap_or, if◌then◌else◌}
+use Rattle.std.specs.Prelude.{ℕ, suc, ◌+◌, ◌%◌, ◌==◌, ◌&&◌, ◌||◌, Bool, true, false, not, List, [], ◌∷◌, filter, Option, Some, None, unwrap_or, if◌then◌else◌}
 use Rattle.std.specs.List.{list_any}
 use Rattle.std.specs.Option.{is_some, option_map, option_cmp}
 use Rattle.std.specs.Ordering.{nat_cmp, is_eq, ordering_then}
@@ -12,6 +12,15 @@ use Rattle.flow_facts.specs.declared.place.Killed.{Killed}
 use Rattle.flow_facts.specs.declared.test.Test.{Test}
 use Rattle.flow_facts.specs.Cells.{is_text}
 use Rattle.flow_facts.specs.Narrowing.{narrowed}
+
+-- The number of the n-th variable, one that is constant (true) or not: the number of a constant is odd.
+abbrev pub numbered : Bool → ℕ → ℕ
+numbered true n = suc (n + n)
+numbered false n = n + n
+
+-- whether a number is that of a constant
+abbrev pub is_constant_number : ℕ → Bool
+is_constant_number number = number % 2 == 1
 
 -- variables before properties, and properties by their names and then by their variables
 abbrev pub place_cmp : Place → Place → Ordering

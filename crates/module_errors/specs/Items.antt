@@ -88,10 +88,10 @@ list_handed_on w p is_type spec (export_list f t ns comma) notes = handed_on w p
 
 -- ---- aliases
 
--- the binding is the one that stands at this token
+-- the binding is the alias that stands at this token
 abbrev pub is_bound_at : ℕ → Option Binding → Bool
 is_bound_at token None = false
-is_bound_at token (Some b) = b.number == number_at token
+is_bound_at token (Some b) = b.number == number_at false token
 
 -- an alias that counts and lies on a cycle is a fault; the names in every alias's type are read
 abbrev pub alias_read : World → Program → Scope → AliasOf → Notes → Notes

@@ -7,7 +7,7 @@ use Rattle.check_values.specs.declared.codes.Code.TheVariants.{NameAlreadyBound}
 use Rattle.type_values.specs.declared.types.FlowType.{FlowType}
 use Rattle.type_values.specs.declared.types.FlowType as made
 use Rattle.local_signatures.specs.Scope.{default_name}
-use Rattle.typing.specs.Names.{Kind, constant, type_name, Binding, number_at}
+use Rattle.typing.specs.Names.{Kind, constant, type_name, Binding, number_at, is_constant_kind}
 use Rattle.typing.specs.Changes.{Change, changes_of_function, changes_of_declaration, changes_of_simple, changes_of_ex}
 use Rattle.typing.specs.States.{World, Notes, fault_at, name_fault}
 use Rattle.typing.specs.Functions.{Bound, bind, bind_declaration, bind_function}
@@ -17,7 +17,7 @@ use Rattle.module_errors.specs.Program.{Program, said, value_said}
 
 -- a name of the top level whose type is known from the start
 abbrev pub top_binding : Bytes → ℕ → Kind → FlowType → Binding
-top_binding name token kind t = record { name = name; number = number_at token; kind = kind; depth = 0; is_read = true; declared = Some t }
+top_binding name token kind t = record { name = name; number = number_at (is_constant_kind kind) token; kind = kind; depth = 0; is_read = true; declared = Some t }
 
 -- the name of another module at a token
 abbrev pub import_binding : Program → Bool → Bytes → Bytes → Bytes → ℕ → Binding

@@ -10,4 +10,4 @@ mod tokens;
 pub use goals::{Goal, Target, ask_each, element_goal, property_goal, variable_goal};
 pub use members::{Given, called, element, property};
 pub use operators::{ask_number, operator_type};
-pub use tokens::next;
+pub use tokens::{is_const, next};

@@ -84,8 +84,8 @@ impl Equality {
     }
 }
 
-// The number of the `undefined` of the prelude.
-const UNDEFINED: u32 = 0;
+// The number of the `undefined` of the prelude, the first constant.
+const UNDEFINED: u32 = 1;
 
 impl Against {
     ghost use Rattle.place_tests.specs.View.{against_view};

@@ -5,17 +5,18 @@ use Rattle.std.specs.Option.{option_map}
 use Rattle.std.proofs.lemmas.Bool.{eq-eqb}
 use Rattle.std.specs.Cmp.Lexicographic.{bytes_decides}
 use Rattle.type_values.specs.declared.types.FlowType.{FlowType}
+use Rattle.fact_trail.specs.Slots.{is_class, is_variable}
 use Rattle.fact_trail.specs.Moments.{Drops}
 use Rattle.flow_facts.specs.declared.place.Place.{Place}
 use Rattle.flow_facts.specs.declared.place.Killed.{Killed}
 use Rattle.flow_facts.specs.declared.test.Test.{Test}
 use Rattle.flow_facts.specs.Cells.{is_text}
 use Rattle.flow_facts.specs.Narrowing.{narrowed}
-use Rattle.flow_facts.specs.Known.{Map, Known, live, type_at, at_place, is_place, without, without_properties, is_property, is_of, is_named, is_some_text, overwrites, narrowed_at, fact_of_value, assigned, entered_loop, entered_function}
+use Rattle.flow_facts.specs.Known.{Map, Known, live, type_at, at_place, is_place, without, without_properties, is_property, is_of, is_named, is_some_text, overwrites, narrowed_at, fact_of_value, assigned, entered_loop, entered_function, is_constant_number}
 use Rattle.refine_flow.specs.declared.facts.Facts.{Facts}
 use Rattle.refine_flow.specs.Standing.{shown, known, is_lost, with_told, Changes}
 use Rattle.refine_flow.proofs.Places.{same_place}
-use Rattle.refine_flow.proofs.Gone.{without_three, lost_alike}
+use Rattle.refine_flow.proofs.Gone.{without_both, without_three, lost_alike, class_alike}
 use Rattle.refine_flow.proofs.MarkLemmas.{changed_twice, changed_as, known_changed}
 use Rattle.refine_flow.proofs.Dropping.{dropped_slots, settled_facts}
 
@@ -133,3 +134,29 @@ function_entered kept old b c k first second is = is ∙ ap Some (second.types �
     at : (dead : Bool) → Some (without (is_left_out dead kept) (without_properties (shown old))) ≡ entered_function kept (if dead then None else Some (shown old))
     at true = λ i. Some (λ q. none (is_property q) (not (kept q.binding)) (shown old q) i)
     at false = λ i. Some (λ q. some (is_property q) (kept q.binding) (shown old q) i)
+
+-- the variables of a class go
+pub class_left_out : (old new : Facts) (constant : Bool) → new.names ≡ old.names → new.dead ≡ old.dead → new.marks ≡ old.marks → Drops (is_variable constant) old.trail new.trail → Changes (without (λ q. not (is_property q) && is_class constant q.binding)) old new
+class_left_out old new constant names same marks drops =
+    dropped_slots old new (is_variable constant) (λ q. not (is_property q) && is_class constant q.binding) names same marks (class_alike old.names constant) drops
+
+-- those that are not constant go, and the others where none is kept
+pub constants_left : (keeps all : Bool) (old mid new : Facts) → all ≡ (old.dead || not keeps) → Changes (without (λ q. not (is_property q) && is_class false q.binding)) old mid →
+    Changes (without (λ q. all && (not (is_property q) && is_constant_number q.binding))) mid new → Changes (without (is_left_out old.dead (λ b. keeps && is_constant_number b))) old new
+constants_left keeps all old mid new is first second =
+    let g : Place → Bool = λ q. not (is_property q) && is_class false q.binding in
+    let h : Place → Bool = λ q. all && (not (is_property q) && is_constant_number q.binding) in
+    changed_as (λ m. without h (without g m)) (without (is_left_out old.dead (λ b. keeps && is_constant_number b))) old new
+    (λ m. without_both g h m ∙ (λ i. without (λ q. (ap (λ t. not (is_property q) && not (is_constant_number q.binding) || t && (not (is_property q) && is_constant_number q.binding)) is ∙ at (is_property q) (is_constant_number q.binding) old.dead keeps) i) m))
+    (changed_twice (without g) (without h) old mid new first second)
+  where
+    at : (p k dead keeps : Bool) → (not p && not k || (dead || not keeps) && (not p && k)) ≡ (not p && (dead || not (keeps && k)))
+    at true k true keeps = refl
+    at true k false true = refl
+    at true k false false = refl
+    at false true true keeps = refl
+    at false true false true = refl
+    at false true false false = refl
+    at false false true keeps = refl
+    at false false false true = refl
+    at false false false false = refl

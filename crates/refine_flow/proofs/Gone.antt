@@ -109,3 +109,11 @@ without_three g h k m = λ i q. at (g q) (h q) (k q) (m q) i
     at false true false o = refl
     at false false true o = refl
     at false false false o = refl
+
+class_by : (names : Names) (constant : Bool) (b : ℕ) (x : Option (List ℕ)) (t : Slot) → slot_by names b x ≡ Some t → slots.is_variable constant t ≡ (not (is_some x) && slots.is_class constant b)
+class_by names constant b None t here = ap (slots.is_variable constant) (sym (some_same (Variable b) t here))
+class_by names constant b (Some own) t here = let there = named_slot names b own t (number_of names own) refl here in ap (slots.is_variable constant) (sym there.2)
+
+-- places of variables of a class
+pub class_alike : (names : Names) (constant : Bool) (q : Place) (t : Slot) → slot_of names q ≡ Some t → slots.is_variable constant t ≡ (not (is_property q) && slots.is_class constant q.binding)
+class_alike names constant q t here = class_by names constant q.binding q.prop t here

@@ -13,4 +13,3 @@ pub mod Assigning
 pub mod Lengthening
 pub mod Copying
 pub mod OwnJoins
-pub mod Keeping

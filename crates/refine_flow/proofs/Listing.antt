@@ -8,9 +8,11 @@ use Rattle.std.specs.BTreeMap.{is_at}
 use Rattle.type_values.specs.declared.types.FlowType.{FlowType}
 use Rattle.type_terms.specs.Join.{join_of}
 use Rattle.fact_trail.specs.declared.fact.Fact.{Fact}
+use Rattle.fact_trail.specs.declared.class_facts.ClassFacts.{ClassFacts}
 use Rattle.fact_trail.specs.declared.slot.Slot.TheVariants.{Variable, Property}
 use Rattle.fact_trail.specs.declared.slot.Slot.{Slot}
 use Rattle.fact_trail.specs.declared.slot.Key.{Key}
+use Rattle.fact_trail.specs.Rows.{class_facts_of}
 use Rattle.fact_trail.specs.Types.{ty_of}
 use Rattle.fact_trail.specs.Slots.{key_cmp, is_number, is_key}
 use Rattle.fact_trail.proofs.Same.{same_number, same_key}
@@ -171,12 +173,16 @@ rows_left {J} {K} key place test P ks rest k old new are keeps here left j is no
     at true equal = absurd (clash (is_listed new (place j)) (here j equal is) not_listed)
     at false other = sym (ap (λ t. t || list_any (test (key j)) rest) other) ∙ among
 
-pub variables_left : (f : Facts) (ks rest : List ℕ) (k : ℕ) (old new : List Row) → ks ≡ k ∷ rest → AddsTrue (shown f) old new → (is_some (map_of f.trail (Variable k)) ≡ true → is_listed new (variable_place k) ≡ true) →
-    ((b : ℕ) → is_some (map_of f.trail (Variable b)) ≡ true → is_listed old (variable_place b) ≡ false → list_any (is_at (nat_cmp b)) ks ≡ true) →
-    (b : ℕ) → is_some (map_of f.trail (Variable b)) ≡ true → is_listed new (variable_place b) ≡ false → list_any (is_at (nat_cmp b)) rest ≡ true
-variables_left f ks rest k old new are adds here left =
-    rows_left (λ (b : ℕ). b) variable_place is_number (λ b. is_some (map_of f.trail (Variable b)) ≡ true) ks rest k old new are adds.1
-    (λ b same there. let is : b ≡ k = same_number b k same in subst (λ q. is_listed new (variable_place q) ≡ true) (sym is) (here (sym (ap (λ q. is_some (map_of f.trail (Variable q))) is) ∙ there))) left
+-- facts on the variables of a class, of those that have one
+abbrev pub HasBoth : ClassFacts → Facts → ℕ → Type 0
+HasBoth c f b = (is_some (class_facts_of c b) ≡ true) × (is_some (map_of f.trail (Variable b)) ≡ true)
+
+pub variables_left : (c : ClassFacts) (f : Facts) (ks rest : List ℕ) (k : ℕ) (old new : List Row) → ks ≡ k ∷ rest → AddsTrue (shown f) old new → (is_some (map_of f.trail (Variable k)) ≡ true → is_listed new (variable_place k) ≡ true) →
+    ((b : ℕ) → HasBoth c f b → is_listed old (variable_place b) ≡ false → list_any (is_at (nat_cmp b)) ks ≡ true) →
+    (b : ℕ) → HasBoth c f b → is_listed new (variable_place b) ≡ false → list_any (is_at (nat_cmp b)) rest ≡ true
+variables_left c f ks rest k old new are adds here left =
+    rows_left (λ (b : ℕ). b) variable_place is_number (HasBoth c f) ks rest k old new are adds.1
+    (λ b same there. let is : b ≡ k = same_number b k same in subst (λ q. is_listed new (variable_place q) ≡ true) (sym is) (here (sym (ap (λ q. is_some (map_of f.trail (Variable q))) is) ∙ there.1))) left
 
 pub properties_left : (f : Facts) (ks rest : List Key) (k : Key) (old new : List Row) → ks ≡ k ∷ rest → AddsTrue (shown f) old new →
     ((x : List ℕ) → name_of f.names k.name ≡ Some x → is_some (map_of f.trail (Property k)) ≡ true → is_listed new (property_place k.binding x) ≡ true) →

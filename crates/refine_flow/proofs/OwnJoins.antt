@@ -5,14 +5,17 @@ use Rattle.std.specs.List.{list_any}
 use Rattle.std.specs.Ordering.{nat_cmp}
 use Rattle.std.specs.BTreeSet.{BTreeSet, contains}
 use Rattle.fact_trail.specs.declared.fact.Fact.{Fact}
+use Rattle.fact_trail.specs.declared.class_facts.ClassFacts.{ClassFacts}
+use Rattle.fact_trail.specs.declared.variables.Variables.{Variables}
+use Rattle.fact_trail.specs.declared.properties.Properties.{Properties}
 use Rattle.fact_trail.specs.declared.slot.Key.{Key}
 use Rattle.fact_trail.specs.declared.slot.Slot.TheVariants.{Variable, Property}
 use Rattle.fact_trail.specs.declared.slot.Slot.{Slot}
 use Rattle.fact_trail.specs.Types.{ty_of}
 use Rattle.fact_trail.specs.Slots.{Map as Slots, key_cmp, is_rough_at}
-use Rattle.fact_trail.specs.Rows.{variables_of, properties_of}
+use Rattle.fact_trail.specs.Rows.{class_facts_of, properties_of}
 use Rattle.fact_trail.specs.Moments.{map_of}
-use Rattle.flow_facts.specs.Known.{Map, both, joined}
+use Rattle.flow_facts.specs.Known.{Map, both, joined, is_constant_number}
 use Rattle.refine_flow.specs.declared.facts.Facts.{Facts}
 use Rattle.refine_flow.specs.Standing.{slot_of, type_in, shown, known}
 
@@ -38,12 +41,23 @@ own_known : (dead : Bool) (m : Map) → (λ q. both (m q) (m q)) ≡ m → joine
 own_known true m same = refl
 own_known false m same = ap Some same
 
-pub own_join : (f : Facts) (vs : BTreeSet ℕ) (ks : BTreeSet Key) →
-    ((b : ℕ) → is_rough_at (variables_of f.trail.variables b) ≡ true → contains nat_cmp vs b ≡ true) →
-    ((k : Key) → is_rough_at (properties_of f.trail.properties k) ≡ true → contains key_cmp ks k ≡ true) →
-    btree_set_len vs ≡ 0 → btree_set_len ks ≡ 0 → joined (known f) (known f) ≡ known f
-own_join f vs ks variables properties no_variable no_property = own_known f.dead (shown f) (λ i q. smooth_in (map_of f.trail) smooth (slot_of f.names q) i)
+pub own_join : (f : Facts) (v : Variables) (c d : ClassFacts) (p : Properties) (cs ds : BTreeSet ℕ) (ks : BTreeSet Key) → v ≡ f.trail.variables → c ≡ v.constants → d ≡ v.changing → p ≡ f.trail.properties →
+    ((b : ℕ) → is_rough_at (class_facts_of c b) ≡ true → contains nat_cmp cs b ≡ true) →
+    ((b : ℕ) → is_rough_at (class_facts_of d b) ≡ true → contains nat_cmp ds b ≡ true) →
+    ((k : Key) → is_rough_at (properties_of p k) ≡ true → contains key_cmp ks k ≡ true) →
+    btree_set_len cs ≡ 0 → btree_set_len ds ≡ 0 → btree_set_len ks ≡ 0 → joined (known f) (known f) ≡ known f
+own_join f v c d p cs ds ks own one two properties constants changing rest no_constant no_changing no_property = own_known f.dead (shown f) (λ i q. smooth_in (map_of f.trail) smooth (slot_of f.names q) i)
   where
     smooth : (s : Slot) → is_rough_at (map_of f.trail s) ≡ false
-    smooth (Variable b) = not_there (is_rough_at (variables_of f.trail.variables b)) (contains nat_cmp vs b) (variables b) (none_any _ vs.keys no_variable)
-    smooth (Property k) = not_there (is_rough_at (properties_of f.trail.properties k)) (contains key_cmp ks k) (properties k) (none_any _ ks.keys no_property)
+    smooth (Variable b) = at (is_constant_number b)
+      where
+        at : (t : Bool) → is_rough_at (if t then class_facts_of f.trail.variables.constants b else class_facts_of f.trail.variables.changing b) ≡ false
+        at true =
+            ap (λ x. is_rough_at (class_facts_of x b)) (sym (one ∙ ap (λ x. x.constants) own))
+            ∙ not_there (is_rough_at (class_facts_of c b)) (contains nat_cmp cs b) (constants b) (none_any _ cs.keys no_constant)
+        at false =
+            ap (λ x. is_rough_at (class_facts_of x b)) (sym (two ∙ ap (λ x. x.changing) own))
+            ∙ not_there (is_rough_at (class_facts_of d b)) (contains nat_cmp ds b) (changing b) (none_any _ ds.keys no_changing)
+    smooth (Property k) =
+        ap (λ x. is_rough_at (properties_of x k)) (sym properties)
+        ∙ not_there (is_rough_at (properties_of p k)) (contains key_cmp ks k) (rest k) (none_any _ ks.keys no_property)

@@ -16,7 +16,7 @@ use Rattle.refine_flow.specs.declared.facts.Facts.{Facts}
 use Rattle.refine_flow.specs.declared.facts.Mark.{Mark}
 use Rattle.refine_flow.specs.declared.facts.Arm.{Arm}
 use Rattle.refine_flow.specs.Numbers.{IsBeyond}
-use Rattle.refine_flow.specs.Standing.{slot_of, type_in, types_by, shown, known, known_at, known_over, IsOf, IsUpTo, IsAt, IsArmOf, KeepsMark, KeepsMarks, KeepsMarksUpTo, IsLast, OpensMark, SpendsMark}
+use Rattle.refine_flow.specs.Standing.{slot_of, type_in, types_by, shown, known, known_at, known_over, IsOf, IsUpTo, IsAt, IsArmOf, KeepsMark, KeepsMarks, KeepsMarksUpTo, IsLast, OpensMark, EntersMark, SpendsMark}
 use Rattle.refine_flow.proofs.MarkLemmas.{keeps_mark_twice, keeps_marks, grows_twice}
 use Rattle.refine_flow.proofs.Dropping.{same_names}
 
@@ -196,3 +196,17 @@ arm_joined (Ok x) mark arm ours old mid new first second last of kept made joins
 
 pub arm_stays : (mark : Mark) (arm : Arm) (old mid : Facts) → IsLast mark old → IsArmOf arm old → KeepsMarksUpTo mark old mid → IsArmOf arm mid
 arm_stays mark arm old mid last of kept = let is = last_of mark old last in ((kept.each mark is.0 is.1).2 arm of).0
+
+-- ---- functions inside
+
+-- a mark that was made, and facts that changed after it
+pub entered : (mark : Mark) (old mid new : Facts) → OpensMark mark old mid → known mid ≡ known old → KeepsMarks mid new → EntersMark mark old new
+entered mark old mid new opens same kept =
+    let is = last_of mark mid opens.last in
+    let own = kept.each mark is.0 in
+    record {
+      last = (opens.last.0 ∙ sym kept.count, own.0.1);
+      depth = opens.depth;
+      before = own.1 ∙ opens.now ∙ same;
+      each = λ m was. let once = opens.each m was in (once.0, keeps_mark_twice old mid new m once.1 (kept.each m once.1.0));
+    }

@@ -126,6 +126,13 @@ pub record OpensMark (mark : Mark) (old new : Facts) : Type 0 where
   pub now : known_at mark new ≡ known new
   pub each : (m : Mark) → IsOf m old → IsUpTo m mark × KeepsMark m old new
 
+-- a mark is there for the facts before, and those before it stay
+pub record EntersMark (mark : Mark) (old new : Facts) : Type 0 where
+  pub last : IsLast mark new
+  pub depth : depth_of mark ≡ open_marks old
+  pub before : known_at mark new ≡ known old
+  pub each : (m : Mark) → IsOf m old → IsUpTo m mark × KeepsMark m old new
+
 -- a variable that is none of these
 abbrev pub is_lost : (ℕ → Bool) → Slot → Bool
 is_lost kept (Variable b) = not (kept b)

@@ -371,7 +371,7 @@ impl Facts {
     }
 
     // Drops the facts on all properties.
-    fn forget_properties(&mut self)
+    pub(crate) fn forget_properties(&mut self)
         ensures { Changes without_properties self.old self.new }
     {
         self.trail.drop_properties();

@@ -5,11 +5,13 @@
 //! first one; `turn`, which hands out what it made as an arm; assume the opposite and read the other
 //! one; `join_arm`, with the arm; `spend`. `resume` goes on from a mark with an arm that was handed
 //! out.
+//!
+//! A function inside is read between `begin_function` and `end_function`.
 #![tactic(auto)]
 
 mod among;
 mod facts;
-mod inner;
+mod functions;
 mod marks;
 mod names;
 mod smooth;
@@ -17,4 +19,3 @@ mod whole;
 
 pub use fact_arms::Joins;
 pub use facts::{Arm, Facts, Mark};
-pub use inner::Keeps;

@@ -14,6 +14,8 @@ impl Facts {
         ensures { result ≡ true → joined (known self.now) (known self.now) ≡ known self.now }
     {
         let (variables, properties) = (self.trail.variables(), self.trail.properties());
-        variables.rough().is_empty() && properties.rough().is_empty()
+        variables.constants().rough().is_empty()
+            && variables.changing().rough().is_empty()
+            && properties.rough().is_empty()
     }
 }

@@ -3,12 +3,13 @@ ghost use Rattle.std.specs.Prelude.{◌≡◌, ◌∷◌, [], ℕ, List, true, f
 ghost use Rattle.std.specs.Option.{is_some};
 ghost use Rattle.fact_trail.specs.declared.slot.Slot.TheVariants.{Variable, Property};
 ghost use Rattle.fact_trail.specs.declared.slot.Key.{Key};
+ghost use Rattle.fact_trail.specs.Rows.{class_facts_of};
 ghost use Rattle.fact_trail.specs.Moments.{map_of};
 ghost use Rattle.type_terms.specs.Join.{join_of};
 ghost use Rattle.flow_facts.specs.Known.{no_facts, at_place, joined, both, variable_place, property_place};
 
 use crate::facts::Facts;
-use fact_trail::{Key, Slot};
+use fact_trail::{ClassFacts, Key, Slot};
 use flow_facts::Place;
 use flow_values::{List, NoMemory};
 use std::alloc::Global;
@@ -84,7 +85,18 @@ impl Facts {
         ensures adds { OnOk result (AddsTrue (shown self.now) rows.old.items rows.new.items) }
         ensures listed { OnOk result ((b : ℕ) → is_some (map_of self.now.trail (Variable b)) ≡ true → is_listed rows.new.items (variable_place b) ≡ true) }
     {
-        for binding in self.trail.variables().rows().keys() {
+        let variables = self.trail.variables();
+        self.add_class(variables.constants(), rows)?;
+        self.add_class(variables.changing(), rows)?;
+        Ok(())
+    }
+
+    // Adds the facts on those variables that have one among these.
+    fn add_class(&self, facts: &ClassFacts, rows: &mut Vec<Row>) -> Result<(), NoMemory>
+        ensures adds { OnOk result (AddsTrue (shown self.now) rows.old.items rows.new.items) }
+        ensures listed { OnOk result ((b : ℕ) → is_some (class_facts_of facts.now b) ≡ true → is_some (map_of self.now.trail (Variable b)) ≡ true → is_listed rows.new.items (variable_place b) ≡ true) }
+    {
+        for binding in facts.rows().keys() {
             self.add_variable(*binding, rows)?;
         }
         Ok(())

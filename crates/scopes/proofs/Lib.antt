@@ -4,3 +4,4 @@ pub mod Heights
 pub mod Kept
 pub mod Walks
 pub mod Meanings
+pub mod Numbers

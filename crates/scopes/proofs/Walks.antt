@@ -110,13 +110,6 @@ shared_yes = looked_yes is_shared_kind
 pub shared_no : (number : ℕ) (rows : List Row) (next : Option ℕ) → next ≡ None → IsLooked is_shared_kind number rows next → false ≡ list_any (λ (b : typing.Binding). (b.number == number) && is_shared_kind b.kind) (names_view rows)
 shared_no = looked_no is_shared_kind
 
-pub constant_yes : (number : ℕ) (rows : List Row) (next : Option ℕ) (at : ℕ) (row : Row) → next ≡ Some at → row ≡ get_or rows at row → AreLinked is_numbered_like (λ (r : Row). r.outer_number) rows → IsLooked typing.is_constant_kind number rows next → (met : Bool) → met ≡ typing.is_constant_kind (kind_view row.binding.kind) → met ≡ true →
-    true ≡ list_any (λ (b : typing.Binding). (b.number == number) && typing.is_constant b) (names_view rows)
-constant_yes = looked_yes typing.is_constant_kind
-
-pub constant_no : (number : ℕ) (rows : List Row) (next : Option ℕ) → next ≡ None → IsLooked typing.is_constant_kind number rows next → false ≡ list_any (λ (b : typing.Binding). (b.number == number) && typing.is_constant b) (names_view rows)
-constant_no = looked_no typing.is_constant_kind
-
 -- ---- a declaration that was read
 
 -- the names from some place on are changed

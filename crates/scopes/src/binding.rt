@@ -1,5 +1,6 @@
 //! What names are bound to.
 ghost use Rattle.std.specs.Prelude.{◌≡◌, IfOk};
+ghost use Rattle.flow_facts.specs.Known.{numbered, is_constant_number};
 ghost use Rattle.typing.specs.Names.{number_at, is_constant_kind, has_facts_kind};
 ghost use Rattle.typing.specs.Statements.{is_shared_kind};
 
@@ -67,21 +68,40 @@ pub struct Binding {
 }
 
 impl Binding {
-    /// The number of a name that is bound at a token.
+    /// The number of the n-th variable, constant or not: that of a constant is odd.
     ///
     /// # Errors
     ///
-    /// `NoMemory` where the token's number is above 2^32 - 6.
-    pub fn number_at(token: usize) -> Result<u32, NoMemory>
-        ensures { IfOk result (λ number. number ≡ number_at token) }
+    /// `NoMemory` where n is 2^31 or more.
+    #[tactic(auto, using(crate::proofs::Numbers::odd_number, crate::proofs::Numbers::even_number))]
+    pub fn numbered(is_constant: bool, n: usize) -> Result<u32, NoMemory>
+        ensures number { IfOk result (λ number. number ≡ numbered is_constant n) }
+        ensures kind { IfOk result (λ number. is_constant_number number ≡ is_constant) }
     {
-        match u32::try_from(token) {
-            Ok(token) => match token.checked_add(5) {
-                Some(number) => Ok(number),
-                None => Err(NoMemory),
-            },
-            Err(_) => Err(NoMemory),
+        let Ok(n) = u32::try_from(n) else {
+            return Err(NoMemory);
+        };
+        if n >= 1 << 31 {
+            return Err(NoMemory);
         }
+        if is_constant {
+            return Ok(n + n + 1);
+        }
+        Ok(n + n)
+    }
+
+    /// The number of a name that is bound at a token, to a constant or not.
+    ///
+    /// # Errors
+    ///
+    /// `NoMemory` where the token's number is 2^31 - 5 or more.
+    pub fn number_at(is_constant: bool, token: usize) -> Result<u32, NoMemory>
+        ensures { IfOk result (λ number. number ≡ number_at is_constant token) }
+    {
+        let Some(n) = token.checked_add(5) else {
+            return Err(NoMemory);
+        };
+        Binding::numbered(is_constant, n)
     }
 }
 

@@ -4,7 +4,7 @@ ghost use Rattle.std.specs.Option.{option_map};
 ghost use Rattle.std.specs.Ordering.{nat_cmp};
 ghost use Rattle.std.specs.Cmp.Lexicographic.{slice_cmp};
 ghost use Rattle.std.specs.BTreeMap.{get, Updates};
-ghost use Rattle.typing.specs.Names.{binding_of, binds, meaning_by_kind, meaning_of, is_usable, is_constant_number, declares_type};
+ghost use Rattle.typing.specs.Names.{binding_of, binds, meaning_by_kind, meaning_of, is_usable, declares_type};
 ghost use Rattle.typing.specs.Tests.{place_of_meaning, variable_number};
 ghost use Rattle.typing.specs.Statements.{is_shared};
 ghost use Rattle.scopes.specs.Stack.{last_at, AreLinked, at_place};
@@ -296,22 +296,6 @@ impl Scope {
     {
         let binding = self.find(name)?;
         self.variable_of(binding)
-    }
-
-    /// Whether a name with this number is constant.
-    #[tactic(auto, using(crate::proofs::Walks::looked_first, crate::proofs::Walks::constant_yes, crate::proofs::Walks::looked_on, crate::proofs::Walks::looked_falls, crate::proofs::Walks::constant_no))]
-    pub fn is_constant(&self, number: u32) -> bool
-        ensures { result ≡ is_constant_number (scope_view self.now) number }
-    {
-        let mut next = self.place_of_number(number);
-        while let Some(at) = next {
-            let row = &self.rows[at];
-            if row.binding.kind.is_constant() {
-                return true;
-            }
-            next = row.outer_number;
-        }
-        false
     }
 
     /// Whether a name with this number has no facts, as it is assigned in an inner function.

@@ -1,5 +1,5 @@
 -- Functions: their parameters, their types, and the scopes of their bodies and of blocks.
-use Rattle.std.specs.Prelude.{ℕ, suc, ◌++◌, Bool, true, false, List, [], ◌∷◌, Option, Some, None, unwrap_or, if◌then◌else◌}
+use Rattle.std.specs.Prelude.{ℕ, suc, ◌++◌, ◌&&◌, Bool, true, false, List, [], ◌∷◌, Option, Some, None, unwrap_or, if◌then◌else◌}
 use Rattle.js_grammar.specs.Types.{Ty, ty}
 use Rattle.js_grammar.specs.Code.{Binder, const, let_word, Function, function, Sig, sig, Parameter, parameter, Parameters, no_parameter, more_parameter, Stmts, no_stmt, more_stmt, stmt, StmtForm, declares, function_stmt, Declaration, declaration}
 use Rattle.check_values.specs.Rows.{Bytes}
@@ -9,8 +9,8 @@ use Rattle.type_values.specs.declared.types.FlowType as made
 use Rattle.type_values.specs.declared.types.Param as value
 use Rattle.type_terms.specs.Join.{join_of}
 use Rattle.type_terms.specs.Optional.{eff}
-use Rattle.flow_facts.specs.Known.{Known, entered_function}
-use Rattle.typing.specs.Names.{Kind, constant, changing, shared, Binding, Scope, number_at, binds, is_constant_number}
+use Rattle.flow_facts.specs.Known.{Known, is_constant_number, entered_function}
+use Rattle.typing.specs.Names.{Kind, constant, changing, shared, Binding, Scope, number_at, is_const, binds}
 use Rattle.typing.specs.Changes.{Change, is_set_inside}
 use Rattle.typing.specs.States.{World, Notes, Env, fault_at, add_fault, name_fault, asked, returns}
 use Rattle.typing.specs.TypeFaults.{written, annotated, type_read, annotation_read}
@@ -88,7 +88,7 @@ abbrev pub parameter_binding : World → ℕ → List Change → Parameter → B
 parameter_binding w depth changes (parameter f t name optional annotation) =
     record {
       name = name;
-      number = number_at f;
+      number = number_at false f;
       kind = changing_kind changes name;
       depth = depth;
       is_read = true;
@@ -110,7 +110,7 @@ abbrev pub declaration_binding : World → ℕ → List Change → Declaration �
 declaration_binding w depth changes (declaration f t binder name annotation e) =
     record {
       name = name;
-      number = number_at (suc f);
+      number = number_at (is_const binder) (suc f);
       kind = kind_by changes binder name;
       depth = depth;
       is_read = false;
@@ -120,7 +120,7 @@ declaration_binding w depth changes (declaration f t binder name annotation e) =
 -- a function, which may be used before its declaration
 abbrev pub function_binding : World → ℕ → ℕ → Bytes → Sig → Binding
 function_binding w depth token name s =
-    record { name = name; number = number_at token; kind = constant; depth = depth; is_read = true; declared = Some (declared_function w s) }
+    record { name = name; number = number_at true token; kind = constant; depth = depth; is_read = true; declared = Some (declared_function w s) }
 
 -- what a declaration binds
 abbrev pub bind_declaration : World → ℕ → List Change → Declaration → Bound → Bound
@@ -172,10 +172,9 @@ body_env w s scope facts bound =
       breaks = None;
     }
 
--- a function expression or an arrow keeps the facts on constant variables, a declaration none
-abbrev pub kept_facts : Bool → Scope → Known → Known
-kept_facts true scope facts = entered_function (is_constant_number scope) facts
-kept_facts false scope facts = entered_function (λ number. false) facts
+-- a function expression or an arrow (true) keeps the facts on constant variables, a declaration none
+abbrev pub kept_facts : Bool → Known → Known
+kept_facts keeps facts = entered_function (λ number. keeps && is_constant_number number) facts
 
 -- ---- the end of a body
 

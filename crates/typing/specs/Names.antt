@@ -3,11 +3,13 @@ use Rattle.std.specs.Prelude.{ℕ, ◌+◌, ◌==◌, ◌&&◌, ◌||◌, nat_lt
 use Rattle.std.specs.List.{filter_map, list_any}
 use Rattle.std.specs.Option.{is_some}
 use Rattle.std.specs.Str.{bytes_eq}
+use Rattle.js_grammar.specs.Code.{Binder, const, let_word}
 use Rattle.check_values.specs.Rows.{Bytes}
 use Rattle.check_values.specs.declared.codes.Code.{Code}
 use Rattle.check_values.specs.declared.codes.Code.TheVariants.{CannotResolveName, ReferenceBeforeDeclaration, TypeAsValue}
 use Rattle.type_values.specs.declared.types.FlowType.{FlowType}
 use Rattle.type_values.specs.declared.types.FlowType as made
+use Rattle.flow_facts.specs.Known.{numbered}
 
 -- what a name is, which tells whether it may be assigned and has facts
 pub data Kind : Type 0 where
@@ -41,22 +43,27 @@ pub data Meaning : Type 0 where
   variable_of : Binding → FlowType → Meaning
   no_variable : Code → Meaning
 
--- A name of the prelude has one of the first numbers, and each other one a number by the token where it is bound.
-abbrev pub number_at : ℕ → ℕ
-number_at token = token + 5
+abbrev pub is_const : Binder → Bool
+is_const const = true
+is_const let_word = false
 
--- a name of the prelude with its number and its type
+-- A name of the prelude is one of the first variables, and each other one a variable by the token where it is bound, constant (true)
+-- or not.
+abbrev pub number_at : Bool → ℕ → ℕ
+number_at constantly token = numbered constantly (token + 5)
+
+-- a name of the prelude, one of the first variables, and its type
 abbrev pub prelude_name : Bytes → ℕ → FlowType → Binding
-prelude_name name number t = record { name = name; number = number; kind = constant; depth = 0; is_read = true; declared = Some t }
+prelude_name name n t = record { name = name; number = numbered true n; kind = constant; depth = 0; is_read = true; declared = Some t }
 
 -- the number of `undefined`
 abbrev pub undefined_number : ℕ
-undefined_number = 0
+undefined_number = numbered true 0
 
 -- the names that every module knows
 abbrev pub prelude : List Binding
 prelude =
-    prelude_name (codes "undefined") undefined_number made.Void ∷ prelude_name (codes "console") 1 made.Any
+    prelude_name (codes "undefined") 0 made.Void ∷ prelude_name (codes "console") 1 made.Any
     ∷ prelude_name (codes "JSON") 2 made.Any ∷ prelude_name (codes "Math") 3 made.Any ∷ prelude_name (codes "Object") 4 made.Any ∷ []
 
 -- the innermost binding of a name
@@ -106,10 +113,6 @@ is_constant b = is_constant_kind b.kind
 
 abbrev pub has_facts : Binding → Bool
 has_facts b = has_facts_kind b.kind
-
--- whether a place is that of a constant
-abbrev pub is_constant_number : Scope → ℕ → Bool
-is_constant_number scope number = list_any (λ b. b.number == number && is_constant b) scope.names
 
 -- the declaration of a name was read, and this is its type
 abbrev pub binding_read : ℕ → FlowType → Binding → Binding

@@ -11,7 +11,7 @@ use Rattle.type_terms.specs.Join.{widened}
 use Rattle.flow_facts.specs.declared.place.Place.{Place}
 use Rattle.flow_facts.specs.declared.place.Killed.{Killed}
 use Rattle.flow_facts.specs.Known.{Known, joined, live, without, is_named, without_properties, variable_place, assigned, entered_loop}
-use Rattle.typing.specs.Names.{Kind, shared, Binding, Scope, Meaning, variable_of, no_variable, is_constant, has_facts, number_at, declares_type, numbers_of}
+use Rattle.typing.specs.Names.{Kind, shared, Binding, Scope, Meaning, variable_of, no_variable, is_constant, has_facts, number_at, is_const, declares_type, numbers_of}
 use Rattle.typing.specs.Changes.{Change, variable_set, property_set, sets_all}
 use Rattle.typing.specs.States.{World, Want, Notes, Out, Env, no_of, after, with_now, asked, asked_want, add_faults, name_fault, fault_at, returns, dead}
 use Rattle.typing.specs.Members.{levels, Part, steps_type, steps_faults, property_read, property_written, index_written, target_of_prop, target_of_index, the_one}
@@ -139,8 +139,8 @@ declared_type binder (Some declared) t = declared
 abbrev pub declared_env : World → ℕ → Binder → Want → Out → Env → Env
 declared_env w f binder annotation v env =
     record env {
-      scope = declares_type (number_at (suc f)) (declared_type binder annotation v.ty) env.scope;
-      facts = declared_facts w env.scope (number_at (suc f)) annotation v.ty (after v).facts;
+      scope = declares_type (number_at (is_const binder) (suc f)) (declared_type binder annotation v.ty) env.scope;
+      facts = declared_facts w env.scope (number_at (is_const binder) (suc f)) annotation v.ty (after v).facts;
       notes = v.notes;
     }
 

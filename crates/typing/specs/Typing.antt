@@ -169,7 +169,7 @@ abbrev mutual
       let outer = if is_expression then own_scope w name (suc f) s scope else scope in
       let changes = changes_of_stmts ss in
       let params = bind_sig w (suc scope.depth) changes s (none_bound (sig_read w s now.notes)) in
-      let start = body_env w s outer (kept_facts is_expression scope now.facts) (bind_stmts w (suc scope.depth) changes ss params) in
+      let start = body_env w s outer (kept_facts is_expression now.facts) (bind_stmts w (suc scope.depth) changes ss params) in
       made_from w s now (ended w s (read_stmts w ss start))
 
   -- an arrow, whose body is a block or an expression that is returned
@@ -177,11 +177,11 @@ abbrev mutual
   read_arrow w s (arrow_block (block bf bt ss)) scope now =
       let changes = changes_of_stmts ss in
       let params = bind_sig w (suc scope.depth) changes s (none_bound (sig_read w s now.notes)) in
-      let start = body_env w s scope (kept_facts true scope now.facts) (bind_stmts w (suc scope.depth) changes ss params) in
+      let start = body_env w s scope (kept_facts true now.facts) (bind_stmts w (suc scope.depth) changes ss params) in
       made_from w s now (ended w s (read_stmts w ss start))
   read_arrow w s (arrow_value e) scope now =
       let params = bind_sig w (suc scope.depth) (changes_of_ex e) s (none_bound (sig_read w s now.notes)) in
-      let start = body_env w s scope (kept_facts true scope now.facts) params in
+      let start = body_env w s scope (kept_facts true now.facts) params in
       made_from w s now (returned_value (read w e start.scope (result_of w s) (now_of start)) start)
 
   -- the statements of a list, in order

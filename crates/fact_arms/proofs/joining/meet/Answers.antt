@@ -7,7 +7,7 @@ use Rattle.fact_arms.proofs.joining.meet.Goals as goal
 
 pub loop-slot-init : goal.loop-slot-init
 loop-slot-init c =
-    meets_first c.args.first.now c.args.second c.new-difference.result c.in_ok-slots.slots.items (map_of c.args.trail.now) c.either-no_properties.result c.new-difference.ensures.gone c.either-no_properties.ensures
+    meets_first c.args.first.now c.args.second c.new-difference.result c.in_ok-slots.slots.items (map_of c.args.trail.now) c.or-gone.result c.new-difference.ensures.gone c.or-gone.ensures
     c.new-difference.ensures.said c.in_ok-slots.ensures.first c.in_ok-slots.ensures.second c.in_ok-slots.ensures.rough
 
 pub loop-slot-preserved-then-says : goal.loop-slot-preserved-then-says

@@ -6,6 +6,6 @@ use Rattle.check_moves.proofs.state.State.enter_function.Goals as goal
 pub returns-clause-outside : goal.returns-clause-outside
 unfolding now
 returns-clause-outside c =
-    is_outside _ c.args.self.now (record c.args.self.now { facts = c.replace-facts.new.dest; returned = c.replace-returned.new.dest; breaks = c.take-breaks.new.self }) c.enter_names.new.self refl
-    c.replace-facts.ensures.value c.height-height.ensures.top c.in_ok-depth.ensures.follows c.in_ok-depth.ensures.depth c.in_ok-depth.ensures.wanted
+    is_outside _ c.args.self.now (record c.args.self.now { facts = c.begin_function.new.self; returned = c.replace-returned.new.dest; breaks = c.take-breaks.new.self }) c.enter_names.new.self refl
+    c.in_ok-mark.ensures.mark c.height-height.ensures.top c.in_ok-depth.ensures.follows c.in_ok-depth.ensures.depth c.in_ok-depth.ensures.wanted
     c.replace-returned.ensures.value c.take-breaks.ensures.value c.is_stopped-stopped.ensures

@@ -8,7 +8,7 @@ use Rattle.fact_arms.proofs.difference.Difference.add_keys.Given as goal
 abbrev pub invariant-loop-key : goal.invariant-loop-key
 invariant-loop-key l = record {
   made : (m : Map) → over l.self (with_keys l.rows m) ≡ over l.fn.self (with_keys l.fn.rows m);
-  gone : l.self.no_properties ≡ l.fn.self.no_properties;
+  gone : l.self.gone ≡ l.fn.self.gone;
 }
 
 abbrev pub decreases-loop-key : goal.decreases-loop-key

@@ -8,7 +8,7 @@ use Rattle.fact_arms.proofs.difference.Difference.add_variables.Given as goal
 abbrev pub invariant-loop-binding : goal.invariant-loop-binding
 invariant-loop-binding l = record {
   made : (m : Map) → over l.self (with_variables l.rows m) ≡ over l.fn.self (with_variables l.fn.rows m);
-  gone : l.self.no_properties ≡ l.fn.self.no_properties;
+  gone : l.self.gone ≡ l.fn.self.gone;
 }
 
 abbrev pub decreases-loop-binding : goal.decreases-loop-binding

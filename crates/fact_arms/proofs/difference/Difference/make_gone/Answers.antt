@@ -1,16 +1,14 @@
-use Rattle.fact_trail.specs.Slots.{is_property}
 use Rattle.fact_trail.specs.Moments.{map_of}
-use Rattle.fact_arms.proofs.Making.{made_gone, made_stays, goes_itself, goes_dropped}
+use Rattle.fact_arms.proofs.Classes.{all_classes}
+use Rattle.fact_arms.proofs.Making.{goes_then}
 use Rattle.fact_arms.proofs.difference.Difference.make_gone.Goals as goal
 
-pub returns-then-self-clause-made : goal.returns-then-self-clause-made
-returns-then-self-clause-made c = made_gone c.args.self.now c.args.trail.now c.drop_properties.new.self c.if-self.true c.drop_properties.ensures
+pub returns-clause-made : goal.returns-clause-made
+returns-clause-made c =
+    all_classes c.args.self.now.gone (map_of c.args.trail.now) (map_of c.make_class_gone.new.trail) (map_of c.make_class_gone-2.new.trail) (map_of c.make_properties_gone.new.trail) c.make_class_gone.ensures.made c.make_class_gone-2.ensures.made
+    c.make_properties_gone.ensures.made
 
-pub returns-then-self-clause-goes : goal.returns-then-self-clause-goes
-returns-then-self-clause-goes c = goes_dropped c.args.self.now is_property c.args.trail.now c.drop_properties.new.self c.drop_properties.ensures
-
-pub returns-else-self-clause-made : goal.returns-else-self-clause-made
-returns-else-self-clause-made c = made_stays c.args.self.now (map_of c.args.trail.now) c.if-self.false
-
-pub returns-else-self-clause-goes : goal.returns-else-self-clause-goes
-returns-else-self-clause-goes c = goes_itself c.args.self.now c.args.trail.now
+pub returns-clause-goes : goal.returns-clause-goes
+returns-clause-goes c =
+    goes_then c.args.self.now c.args.trail.now c.make_class_gone-2.new.trail c.make_properties_gone.new.trail
+    (goes_then c.args.self.now c.args.trail.now c.make_class_gone.new.trail c.make_class_gone-2.new.trail c.make_class_gone.ensures.goes c.make_class_gone-2.ensures.goes) c.make_properties_gone.ensures.goes

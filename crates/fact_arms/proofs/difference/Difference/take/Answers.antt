@@ -1,11 +1,12 @@
-use Rattle.std.proofs.Common.{◌∙◌, arith}
+use Rattle.std.proofs.Common.{ap, ◌∙◌, arith}
 use Rattle.fact_trail.specs.Moments.{map_of}
+use Rattle.fact_arms.specs.Differences.{is_among}
 use Rattle.fact_arms.proofs.Moving.{over_nothing, leaves_nothing, goes_itself, goes_then, back_at}
 use Rattle.fact_arms.proofs.difference.Difference.take.Goals as goal
 
 pub loop-difference-init : goal.loop-difference-init
 loop-difference-init c = record {
-  made = over_nothing c.new-difference.result c.new-difference.ensures.said c.new-difference.ensures.gone (map_of c.args.trail.now);
+  made = over_nothing c.new-difference.result c.new-difference.ensures.said (λ s. ap (λ g. is_among g s) c.new-difference.ensures.gone ∙ c.none.ensures s) (map_of c.args.trail.now);
   leaves = λ s was. leaves_nothing c.new-difference.result s c.new-difference.ensures.said;
   within = c.requires;
   goes = goes_itself c.args.trail.now;

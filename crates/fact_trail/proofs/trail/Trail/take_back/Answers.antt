@@ -12,5 +12,8 @@ again r old new same is = subst (λ (e : Change). OnErr r ((map_of new ≡ map_o
 pub returns-in-At-clause-err : goal.returns-in-At-clause-err
 returns-in-At-clause-err c = again c.put_back.result c.args.self.now c.put_back.new.self c.in-At.is c.put_back.ensures.err
 
+pub returns-in-Variables-clause-err : goal.returns-in-Variables-clause-err
+returns-in-Variables-clause-err c = again c.put_variables_back.result c.args.self.now c.put_variables_back.new.self c.in-Variables.is c.put_variables_back.ensures.err
+
 pub returns-in-Properties-clause-err : goal.returns-in-Properties-clause-err
 returns-in-Properties-clause-err c = again c.put_properties_back.result c.args.self.now c.put_properties_back.new.self c.in-Properties.is c.put_properties_back.ensures.err
