@@ -90,7 +90,7 @@ fn add_new(met: &mut Met, change: &Change, list: &mut List<Change>) -> Result<()
     Ok(())
 }
 
-/// The changes of a list, none of them twice.
+/// Changes that include what those of a list include; by its code none of them stands there twice.
 ///
 /// # Errors
 ///

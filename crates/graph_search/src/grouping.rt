@@ -103,7 +103,7 @@ fn take_lists(
 }
 
 /// The strongly connected components, each rising, in order of their least members.
-/// Number x has an edge to each number in `edges[x]`. `bench/graphs.sh` measures its time.
+/// Number x has an edge to each number in `edges[x]`. `bench/graphs.py` measures its time.
 ///
 /// # Errors
 ///

@@ -150,7 +150,7 @@ fn height(levels: &[usize]) -> usize
 /// The numbers of the components by wave, those of a wave rising. The wave of a component comes one
 /// behind the last of those of other components on which it depends, and is the first where there
 /// are none. `components` is what the call of this name gives for these edges.
-/// `bench/graphs.sh` measures its time.
+/// `bench/graphs.py` measures its time.
 ///
 /// # Errors
 ///

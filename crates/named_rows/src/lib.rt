@@ -65,6 +65,3 @@ pub fn first_of_each<T: Copy>(alloc: Global, rows: &[(Text, T)]) -> Result<Vec<(
     }
     Ok(firsts)
 }
-
-#[cfg(test)]
-mod tests;

@@ -1,5 +1,5 @@
 //! What names are bound to.
-ghost use Rattle.std.specs.Prelude.{◌≡◌, IfOk};
+ghost use Rattle.std.specs.Prelude.{◌≡◌, ◌≤◌, ◌^◌, IfOk, OnErr};
 ghost use Rattle.flow_facts.specs.Known.{numbered, is_constant_number};
 ghost use Rattle.typing.specs.Names.{number_at, is_constant_kind, has_facts_kind};
 ghost use Rattle.typing.specs.Statements.{is_shared_kind};
@@ -77,6 +77,7 @@ impl Binding {
     pub fn numbered(is_constant: bool, n: usize) -> Result<u32, NoMemory>
         ensures number { IfOk result (λ number. number ≡ numbered is_constant n) }
         ensures kind { IfOk result (λ number. is_constant_number number ≡ is_constant) }
+        ensures err { OnErr result (2 ^ 31 ≤ n) }
     {
         let Ok(n) = u32::try_from(n) else {
             return Err(NoMemory);

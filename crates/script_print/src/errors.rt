@@ -54,25 +54,6 @@ fn push_line(
     Ok(())
 }
 
-/// Appends the line of an error of the module at a path, which has this text.
-///
-/// # Errors
-///
-/// `NoMemory` where memory is refused. Nothing is appended then.
-pub fn push_error(
-    alloc: Global,
-    out: &mut Vec<u8>,
-    path: &Path,
-    text: &[u8],
-    fault: &Fault,
-) -> Result<(), NoMemory>
-    ensures line { IfOk result (λ _. out.new.items ≡ out.old.items ++ error_line path.now text.now fault.now) }
-    ensures same { OnErr result (out.new.items ≡ out.old.items) }
-{
-    let place = locate(text, start(), fault.span.start);
-    push_line(alloc, out, path, place, fault)
-}
-
 /// Appends the lines of errors of the module at a path, which has this text. It takes time in
 /// proportion to the text and the lines where the errors stand in the order of their places.
 ///

@@ -5,5 +5,5 @@ mod errors;
 mod lines;
 mod places;
 
-pub use errors::{push_error, push_errors, status_line};
+pub use errors::{push_errors, status_line};
 pub use lines::{bad_line, done_line, fault_line, files_line, long_line, many_lines, refused_line};

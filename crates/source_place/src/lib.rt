@@ -44,25 +44,3 @@ fn line_start(front: &[u8]) -> &[u8]
 {
     &front[front.len() - line_len(front)..]
 }
-
-#[cfg(test)]
-mod tests {
-    use super::place;
-
-    #[test]
-    fn lines_and_columns_are_counted_from_one(rt: HostRuntime) {
-        let cases: [(&[u8], u32, (u32, u32)); 6] = [
-            (b"a\nbc", 3, (2, 2)),
-            (b"a\nbc", 2, (2, 1)),
-            (b"a\nbc", 4, (2, 3)),
-            (b"\xff", 0, (1, 1)),
-            ("\u{e9}\u{20ac}x".as_bytes(), 5, (1, 3)),
-            (b"a\rb", 2, (1, 3)),
-        ];
-        for (text, at, wanted) in cases {
-            if at == 0 || std::str::from_utf8(text).is_ok() && at as usize <= text.len() && at < 9 {
-                assert_eq!(rt; place(text, at), wanted);
-            }
-        }
-    }
-}
