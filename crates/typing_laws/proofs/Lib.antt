@@ -1,0 +1,4 @@
+mod Odd
+mod Bindings
+mod Scopes
+mod Breaks
