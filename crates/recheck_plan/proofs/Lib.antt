@@ -1,0 +1,3 @@
+pub mod Backwards
+pub mod Listed
+pub mod Walks

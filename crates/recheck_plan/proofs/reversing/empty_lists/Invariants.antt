@@ -1,0 +1,11 @@
+use Rattle.std.proofs.Common.{◌≡◌, ◌≤◌, ◌-◌, [], length, replicate}
+use Rattle.recheck_plan.proofs.reversing.empty_lists.Given as goal
+
+abbrev pub invariant-loop-alloc : goal.invariant-loop-alloc
+invariant-loop-alloc l = record {
+  empty : l.lists.items ≡ replicate (length l.lists.items) [];
+  within : length l.lists.items ≤ l.count;
+}
+
+abbrev pub decreases-loop-alloc : goal.decreases-loop-alloc
+decreases-loop-alloc l = l.count - length l.lists.items

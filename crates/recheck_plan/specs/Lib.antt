@@ -1,0 +1,4 @@
+pub mod Affected
+pub mod Marks
+pub mod Differing
+pub mod Walk
