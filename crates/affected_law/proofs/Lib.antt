@@ -1,0 +1,9 @@
+pub mod Deciding
+pub mod Places
+pub mod Kept
+pub mod NamesIn
+pub mod Named
+pub mod Inside
+pub mod Outside
+pub mod Stays
+pub mod Rechecked
