@@ -25,7 +25,7 @@ use Rattle.import_sayings.proofs.ReachedPaths.{taken}
 use Rattle.check_job.specs.Jobs.{source_in, source_of, IsFronted, HasFaults}
 use Rattle.check_job.specs.declared.job.CheckJob.{CheckJob}
 use Rattle.program_check.specs.Full.{beside}
-use Rattle.check_phases.specs.Phases.{AreParsed, AreChecked, IsCheckedAt}
+use Rattle.check_phases.specs.Phases.{AreChecked, IsCheckedAt}
 use Rattle.check_phases.specs.Sourced.{program_in, AreSources}
 use Rattle.check_phases.specs.Whole.{sigs_by}
 use Rattle.check_phases.specs.Checking.{IsJobOf, AreSigned, picked}

@@ -1,5 +1,5 @@
 -- Each module stands in one component, and each component in one wave, so the waves have as many members as there are modules.
-use Rattle.std.proofs.Common.{◌≡◌, ◌⊎◌, ℕ, zero, suc, ◌+◌, ◌<◌, ◌≤◌, Bool, true, false, List, [], ◌∷◌, ◌++◌, length, get_or, slice_get, sum_by, Some, None, refl, sym, ap, ◌∙◌, subst, inl, inr, arith}
+use Rattle.std.proofs.Common.{◌≡◌, ◌⊎◌, ℕ, zero, suc, ◌+◌, ◌<◌, Bool, true, false, List, [], ◌∷◌, ◌++◌, length, get_or, slice_get, sum_by, Some, None, refl, sym, ap, ◌∙◌, subst, inl, inr, arith}
 use Rattle.std.specs.Prelude.{eqb, ◌||◌}
 use Rattle.std.specs.List.{AllByRecursion, IsDistinct, flat_map, list_any}
 use Rattle.std.proofs.lemmas.Bool.{cases_lt, eqb-true}
@@ -11,7 +11,7 @@ use Rattle.graph_search.specs.Cycles.{here, Has}
 use Rattle.graph_search.specs.Reach.{IsRising}
 use Rattle.graph_search.specs.Components.{AreComponents, AreMutual, StandsIn}
 use Rattle.graph_search.specs.Waves.{AreWaves}
-use Rattle.check_phases.specs.Merging.{IsGraphOf, size_of, members_of, members_from}
+use Rattle.check_phases.specs.Merging.{IsGraphOf, members_of, members_from}
 use Rattle.check_phases.specs.Sourced.{AreSources}
 use Rattle.check_phases.specs.declared.merging.Sources.{Sources}
 use Rattle.check_phases.specs.declared.merging.Graph.{Graph}

@@ -1,5 +1,5 @@
 -- What the sources say, one after the other.
-use Rattle.std.proofs.Common.{◌≡◌, ℕ, ◌+◌, ◌<◌, List, [], ◌∷◌, ◌++◌, map, length, take, get_or, sym, ap, ◌∙◌, subst}
+use Rattle.std.proofs.Common.{◌≡◌, ℕ, ◌+◌, ◌<◌, List, [], ◌∷◌, ◌++◌, length, take, get_or, sym, subst}
 use Rattle.std.specs.List.{AllZip}
 use Rattle.heap_core.proofs.Lists.{get_index}
 use Rattle.flow_base.specs.Program.{Bytes}

@@ -1,5 +1,5 @@
 -- The job of a component tells what the whole program does.
-use Rattle.std.proofs.Common.{◌≡◌, ◌⊎◌, ℕ, zero, suc, ◌+◌, ◌<◌, Bool, true, false, cond, List, [], ◌∷◌, ◌++◌, map, length, find, slice_get, Option, Some, None, is_some, IsSome, inl, inr, refl, sym, ap, ◌∙◌, subst, arith, bytes_eq}
+use Rattle.std.proofs.Common.{◌≡◌, ◌⊎◌, ℕ, zero, suc, ◌+◌, Bool, true, false, cond, List, [], ◌∷◌, ◌++◌, map, find, slice_get, Option, Some, None, is_some, IsSome, inl, inr, refl, sym, ap, ◌∙◌, subst, bytes_eq}
 use Rattle.std.specs.Prelude.{◌||◌, eqb, option_to_list}
 use Rattle.std.specs.List.{AllByRecursion, AllZip, flat_map}
 use Rattle.std.specs.Ordering.{nat_cmp}
@@ -11,18 +11,17 @@ use Rattle.flow_base.proofs.Rising.{below_all, not_below_itself, rising_rest}
 use Rattle.check_values.specs.Rows.{Rows, row_at, is_among}
 use Rattle.check_values.specs.Roots as roots
 use Rattle.check_values.specs.declared.signatures.Deps.{Deps}
-use Rattle.check_values.specs.declared.signatures.DepRow.{DepRow}
 use Rattle.check_values.specs.declared.signatures.Sig.{Sig}
 use Rattle.js_grammar.specs.Items.{Module}
 use Rattle.source_front.specs.declared.parse.Parse.{Parse}
 use Rattle.heap_core.specs.Meaning.{names}
 use Rattle.heap_core.proofs.Names.{names-first, names-later}
-use Rattle.graph_search.specs.Cycles.{Has, Edge}
+use Rattle.graph_search.specs.Cycles.{Has}
 use Rattle.module_resolution.specs.Resolution.{resolved, candidates}
 use Rattle.module_resolution.specs.Dependencies.{specifiers, dependencies_of}
 use Rattle.merged_signatures.specs.Chains.{Known, found, found_in}
 use Rattle.merged_signatures.specs.Merged.{merged, merged_known}
-use Rattle.merged_signatures.specs.Job.{Job, members_view, job_signatures}
+use Rattle.merged_signatures.specs.Job.{job_signatures}
 use Rattle.merged_signatures.specs.Settled.{IsSettled, AJobTellsTheProgram}
 use Rattle.program_check.specs.Full.{beside, module_in, deps_in}
 use Rattle.check_phases.specs.Phases.{AreParsed, lists_in, knowns}

@@ -1,5 +1,5 @@
 -- The work that is left, from phase to phase.
-use Rattle.std.proofs.Common.{◌≡◌, ℕ, ◌+◌, ◌-◌, ◌^◌, ◌<◌, ◌≤◌, List, [], length, get_or, min, refl, sym, ap, ◌∙◌, subst, arith}
+use Rattle.std.proofs.Common.{◌≡◌, ℕ, ◌+◌, ◌-◌, ◌<◌, ◌≤◌, [], length, get_or, refl, sym, ap, ◌∙◌, subst, arith}
 use Rattle.analyst.specs.Work.{Work, work_of, fronts_of, merging, checks_of, done, IsWithin, IsCounted}
 use Rattle.check_phases.specs.Checking.{batch_after}
 use Rattle.check_phases.specs.Merging.{members_of, members_from}

@@ -1,13 +1,11 @@
 -- Jobs, and the signatures that they give.
-use Rattle.std.proofs.Common.{◌≡◌, ◌≢◌, ℕ, zero, suc, ◌+◌, ◌<◌, ◌≤◌, Bool, true, false, List, [], ◌∷◌, ◌++◌, All, map, length, take, drop, set, get_or, slice_get, Option, Some, None, refl, sym, ap, ◌∙◌, subst, inl, inr, arith, append-nil, append_assoc, length-set}
+use Rattle.std.proofs.Common.{◌≡◌, ℕ, zero, suc, ◌+◌, ◌<◌, List, [], ◌∷◌, ◌++◌, All, map, length, take, get_or, slice_get, Option, Some, None, refl, sym, ap, ◌∙◌, subst, append-nil, append_assoc}
 use Rattle.std.specs.Prelude.{option_to_list}
 use Rattle.std.specs.List.{AllZip, flat_map}
 use Rattle.std.proofs.lemmas.List.{length-map}
-use Rattle.std.proofs.lemmas.List.Elements.{All-get_or, All-from_get_or}
-use mathlib.Core.Logic.{dite}
-use native.Mathlib.Decide.{ℕ_discrete}
-use Rattle.heap_core.proofs.Lists.{get_index, get_there, put_here, put_else}
-use Rattle.flow_base.specs.Program.{Bytes, Program, IsRising, paths_of}
+use Rattle.std.proofs.lemmas.List.Elements.{All-from_get_or}
+use Rattle.heap_core.proofs.Lists.{get_index, get_there}
+use Rattle.flow_base.specs.Program.{Bytes, paths_of}
 use Rattle.check_values.specs.Rows.{Rows}
 use Rattle.check_values.specs.Roots as roots
 use Rattle.check_values.specs.declared.root.RootRow.{RootRow}
@@ -18,12 +16,12 @@ use Rattle.check_values.specs.declared.signatures.LocalSig.{LocalSig}
 use Rattle.check_values.specs.declared.signatures.Sig.{Sig}
 use Rattle.source_front.specs.declared.parse.Parse.{Parse}
 use Rattle.named_rows.proofs.Lists.{flat_more}
-use Rattle.graph_search.specs.Cycles.{Has, AreWithin}
-use Rattle.graph_search.specs.Components.{AreComponents, StandsIn}
+use Rattle.graph_search.specs.Cycles.{AreWithin}
+use Rattle.graph_search.specs.Components.{AreComponents}
 use Rattle.graph_search.specs.Waves.{AreWaves}
 use Rattle.merged_signatures.specs.Chains.{Known}
 use Rattle.program_check.specs.Full.{beside}
-use Rattle.check_phases.specs.Phases.{AreParsed, lists_in, knowns}
+use Rattle.check_phases.specs.Phases.{AreParsed, knowns}
 use Rattle.check_phases.specs.Edges.{LeadTo, AreEdges}
 use Rattle.check_phases.specs.Sourced.{program_in, paths_in, AreSources}
 use Rattle.check_phases.specs.Merging.{IsGraphOf, known_rows, member_at, made_row, made_at, outside_of, outside_at}

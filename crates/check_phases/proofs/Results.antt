@@ -1,5 +1,5 @@
 -- The lists that the phases made are the full check.
-use Rattle.std.proofs.Common.{◌≡◌, ℕ, zero, suc, ◌+◌, List, [], ◌∷◌, map, length, sum_by, Some, refl, sym, ap, ◌∙◌, subst, arith}
+use Rattle.std.proofs.Common.{◌≡◌, suc, List, [], ◌∷◌, map, length, sum_by, refl, sym, ap, subst, arith}
 use Rattle.std.proofs.lemmas.List.Sums.{sum_by-cons}
 use Rattle.flow_base.specs.Program.{Bytes, Program, paths_of}
 use Rattle.check_values.specs.Rows.{row_at}

@@ -1,5 +1,5 @@
 -- Components are merged one after the other, and waves.
-use Rattle.std.proofs.Common.{◌≡◌, ◌≢◌, ◌⊎◌, ℕ, zero, suc, ◌+◌, ◌<◌, ◌≤◌, Bool, true, false, List, [], ◌∷◌, ◌++◌, All, map, length, take, drop, set, replicate, get_or, slice_get, sum_by, Option, Some, None, refl, sym, ap, ◌∙◌, subst, inl, inr, arith, length-set}
+use Rattle.std.proofs.Common.{◌≡◌, ◌≢◌, ℕ, zero, suc, ◌+◌, ◌<◌, ◌≤◌, Bool, true, false, List, [], ◌∷◌, ◌++◌, All, map, length, take, drop, set, replicate, get_or, slice_get, sum_by, Option, Some, None, refl, sym, ap, ◌∙◌, subst, inl, inr, arith, length-set}
 use Rattle.std.specs.Prelude.{eqb, ◌||◌, option_to_list}
 use Rattle.std.specs.Option.{option_map}
 use Rattle.analyst.specs.Work.{Work, done, IsWithin, merging}
@@ -7,13 +7,13 @@ use Rattle.std.specs.List.{AllByRecursion, AllZip, flat_map}
 use Rattle.std.proofs.lemmas.Bool.{cases_lt, eqb-true}
 use Rattle.std.proofs.lemmas.List.{length-map, length-replicate}
 use Rattle.std.proofs.lemmas.List.Elements.{All-get_or, All-from_get_or}
-use Rattle.std.proofs.lemmas.List.Sums.{sum_by-cons, sum_by_more}
+use Rattle.std.proofs.lemmas.List.Sums.{sum_by-cons}
 use mathlib.Core.Logic.{dite}
 use native.Mathlib.Decide.{ℕ_discrete}
 use Rattle.heap_core.specs.Meaning.{names}
 use Rattle.heap_core.proofs.Names.{names-first, names-later, names-skip}
 use Rattle.heap_core.proofs.Lists.{get_there, get_index, put_here, put_else, drop_step, drop_past}
-use Rattle.flow_base.specs.Program.{Bytes, Program, IsRising, paths_of}
+use Rattle.flow_base.specs.Program.{Bytes, IsRising, paths_of}
 use Rattle.check_values.specs.Roots as roots
 use Rattle.check_values.specs.declared.root.RootRow.{RootRow}
 use Rattle.check_values.specs.declared.signatures.Deps.{Deps}
@@ -29,10 +29,10 @@ use Rattle.merged_signatures.specs.Settled.{AJobTellsTheProgram}
 use Rattle.program_check.specs.Full.{beside}
 use Rattle.check_phases.specs.Phases.{AreMerged, knowns}
 use Rattle.check_phases.specs.Sourced.{program_in, paths_in, view_in, AreSources}
-use Rattle.check_phases.specs.Merging.{IsGraphOf, IsMade, AreRight, HasMade, HasMadeWaves, AreMergedTo, known_rows, member_at, job_for, put_all, HasMerged, IsReady, size_of, members_of, members_from}
+use Rattle.check_phases.specs.Merging.{IsGraphOf, IsMade, AreRight, HasMadeWaves, AreMergedTo, known_rows, member_at, job_for, put_all, HasMerged, IsReady, size_of, members_of, members_from}
 use Rattle.check_phases.specs.declared.merging.Sources.{Sources}
 use Rattle.check_phases.specs.declared.merging.Graph.{Graph}
-use Rattle.check_phases.proofs.Jobs.{row_there, job_right, beside_at, beside_path}
+use Rattle.check_phases.proofs.Jobs.{row_there, job_right, beside_at}
 use Rattle.check_phases.proofs.Lists.{one_value, within_there, value_at, place_at, same_paths, take_whole, zip_length}
 use Rattle.check_phases.proofs.Merges.{edges_many, edges_within}
 

@@ -1,5 +1,5 @@
 -- How the signatures of modules are merged, wave by wave.
-use Rattle.std.specs.Prelude.{◌≡◌, ℕ, ◌<◌, ◌≤◌, true, false, List, [], ◌∷◌, length, take, drop, slice_get, slice_set, get_or, sum_by, Option, Some, None, option_to_list}
+use Rattle.std.specs.Prelude.{◌≡◌, ℕ, ◌<◌, true, false, List, [], ◌∷◌, length, drop, slice_get, slice_set, get_or, sum_by, Option, Some, None, option_to_list}
 use Rattle.std.specs.List.{flat_map}
 use Rattle.flow_base.specs.Program.{Bytes}
 use Rattle.check_values.specs.Rows.{Rows}

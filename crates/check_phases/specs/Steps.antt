@@ -7,8 +7,6 @@ use Rattle.check_phases.specs.Phases.{AreParsed, AreMerged, AreChecked}
 use Rattle.check_phases.specs.Sourced.{program_in, view_in, AreSources}
 use Rattle.check_phases.specs.Merging.{IsGraphOf, AreRight, HasMadeWaves, members_from}
 use Rattle.check_phases.specs.Whole.{sigs_by, AreMade, whole_work}
-use Rattle.check_phases.specs.declared.merging.Sources.{Sources}
-use Rattle.check_phases.specs.declared.phases.Made.{Made}
 use Rattle.check_phases.specs.declared.phases.Phase.{Phase}
 use Rattle.check_phases.specs.declared.phases.Phase.TheVariants.{Fronts, Lists, Merges, Checks}
 use Rattle.check_phases.specs.declared.phases.Next.{Next}

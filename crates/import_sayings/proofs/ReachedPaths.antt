@@ -1,16 +1,16 @@
 -- What numbers reach, as the modules that a module reaches.
-use Rattle.std.proofs.Common.{◌≡◌, ℕ, zero, suc, ◌+◌, ◌<◌, ◌≤◌, Bool, true, false, ◌||◌, ◌&&◌, ◌==◌, List, [], ◌∷◌, ◌++◌, map, length, take, drop, get_or, slice_get, if◌then◌else◌, Option, Some, None, cond, option_map, bytes_eq, refl, sym, ap, ◌∙◌, subst, subst₂, ap₂, inl, inr, ◌⊎◌, All, arith, true≢false, unwrap_or, drop_of_length-le, drop-cons, add-one, take-suc, take_all, append_assoc, append-nil, ◌^◌}
-use Rattle.std.specs.List.{flat_map, filter_map, list_any, cons_option}
+use Rattle.std.proofs.Common.{◌≡◌, ℕ, zero, suc, ◌+◌, ◌<◌, ◌≤◌, Bool, true, false, ◌||◌, ◌&&◌, ◌==◌, List, [], ◌∷◌, ◌++◌, length, take, drop, get_or, slice_get, if◌then◌else◌, Option, Some, None, cond, option_map, bytes_eq, refl, sym, ap, ◌∙◌, subst, ap₂, inl, inr, ◌⊎◌, arith, true≢false, unwrap_or, drop_of_length-le, drop-cons, add-one, take-suc, take_all, append_assoc, append-nil}
+use Rattle.std.specs.List.{flat_map, list_any, cons_option}
 use Rattle.std.specs.Option.{option_to_list, option_or}
 use Rattle.std.specs.Ordering.{nat_cmp}
 use Rattle.std.specs.Cmp.Lexicographic.{slice_cmp, bytes_decides}
 use Rattle.std.specs.BTreeMap.{BTreeMap, get, is_at, Updates}
 use Rattle.std.specs.Map.{lookup}
 use Rattle.std.proofs.lemmas.Bool.{eqb-true, eq-eqb}
-use Rattle.std.proofs.lemmas.List.{length-map, map-append}
-use Rattle.std.proofs.lemmas.Option.{slice_get_past, slice_get-get_or, slice_get_within, slice_get-map, get_or_from_slice_get}
+use Rattle.std.proofs.lemmas.List.{map-append}
+use Rattle.std.proofs.lemmas.Option.{slice_get_past}
 use Rattle.std.proofs.lemmas.Map.Text.{is_eq-slice_cmp}
-use Rattle.graph_search.specs.Cycles.{Leads, here, along, Has, Edge, AreWithin}
+use Rattle.graph_search.specs.Cycles.{Leads, here, along, Has, Edge}
 use Rattle.graph_search.proofs.Searches.{joined}
 use Rattle.alias_table.specs.Aliases.{Row, Key, is_text, alias_type}
 use Rattle.type_values.specs.declared.types.FlowType.{FlowType}

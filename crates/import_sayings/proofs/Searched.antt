@@ -1,9 +1,9 @@
 -- A search among the modules that signatures name.
 use Rattle.std.proofs.Common.{◌≡◌, ℕ, zero, suc, ◌++◌, ◌<◌, Bool, true, List, [], ◌∷◌, length, get_or, slice_get, replicate, Some, option_map, refl, sym, ap, ◌∙◌, subst, subst₂, All, arith}
 use Rattle.std.specs.BTreeMap.{BTreeMap}
-use Rattle.std.proofs.lemmas.List.{length-map, length-replicate}
+use Rattle.std.proofs.lemmas.List.{length-map}
 use Rattle.std.proofs.lemmas.Option.{slice_get-get_or, slice_get_within, slice_get-map, get_or_from_slice_get}
-use Rattle.graph_search.specs.Cycles.{Leads, here, along, Has, Edge, IsOn, AreWithin}
+use Rattle.graph_search.specs.Cycles.{Leads, here, along, Edge, IsOn, AreWithin}
 use Rattle.graph_search.specs.Searching.{Within, HasFound}
 use Rattle.graph_search.proofs.Lists.{get_index}
 use Rattle.graph_search.proofs.Pivots.{widened}

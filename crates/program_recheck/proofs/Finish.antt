@@ -1,17 +1,14 @@
 -- A recheck comes to its end.
-use Rattle.std.proofs.Common.{◌≡◌, ◌≢◌, ℕ, zero, suc, ◌+◌, ◌*◌, ◌^◌, ◌<◌, ◌≤◌, Bool, true, false, List, [], ◌∷◌, map, length, sum_by, slice_get, Option, Some, None, refl, sym, ap, ◌∙◌, subst, arith}
-use Rattle.std.specs.Prelude.{eqb}
-use Rattle.std.specs.List.{AllByRecursion, list_any}
+use Rattle.std.proofs.Common.{◌≡◌, ◌≢◌, ℕ, zero, suc, ◌+◌, ◌*◌, ◌<◌, ◌≤◌, Bool, false, List, [], ◌∷◌, map, length, sum_by, slice_get, Option, Some, None, refl, sym, ap, ◌∙◌, subst, arith}
+use Rattle.std.specs.List.{AllByRecursion}
 use Rattle.std.proofs.lemmas.List.{length-map}
 use Rattle.std.proofs.lemmas.Map.Steps.{length-le_from_distinct_below}
-use Rattle.heap_core.specs.Meaning.{Meaning, AllFit, IsSound, Appends, none_of, opened, after_commit, after_rollback}
+use Rattle.heap_core.specs.Meaning.{Meaning, IsSound, Appends, none_of, opened, after_commit, after_rollback}
 use Rattle.heap_core.specs.Transactions.{IsStaging}
 use Rattle.heap_core.proofs.Lists.{get_there}
 use Rattle.heap_core.proofs.TransactionLaws.{given_up}
 use Rattle.flow_base.specs.Program.{Bytes, Program, IsRising, paths_of}
-use Rattle.flow_base.specs.Outside.{WhereTold}
 use Rattle.flow_base.specs.Seen.{FolderSeen}
-use Rattle.flow_base.specs.Causes.{raised}
 use Rattle.check_values.specs.Rows.{Rows}
 use Rattle.check_values.specs.Roots as roots
 use Rattle.check_values.specs.declared.faults.Errs.{Errs}
@@ -30,7 +27,7 @@ use Rattle.pending_edits.specs.Counting.{StandsOn}
 use Rattle.pending_edits.specs.Rows.{row_of, kept_rows, next_from, AreNumbered, Follows}
 use Rattle.pending_edits.specs.declared.edit.Edit.{Edit}
 use Rattle.check_phases.specs.Phases.{AreChecked, results_by, lists_in}
-use Rattle.check_phases.specs.Sourced.{program_in, paths_in, view_in}
+use Rattle.check_phases.specs.Sourced.{program_in, view_in}
 use Rattle.check_phases.specs.Whole.{sigs_by, AreMade, whole_work}
 use Rattle.check_phases.specs.declared.phases.Made.{Made}
 use Rattle.check_phases.proofs.Lists.{one_value, same_paths}

@@ -1,8 +1,7 @@
 -- A state that is staged whole fits its root.
-use Rattle.std.proofs.Common.{◌≡◌, ◌≢◌, ◌⊎◌, ℕ, zero, suc, ◌+◌, ◌*◌, ◌<◌, ◌≤◌, Bool, true, false, not, cond, List, [], ◌∷◌, All, map, filter, length, get_or, slice_get, Option, Some, None, refl, sym, ap, ◌∙◌, subst, inl, inr, arith}
+use Rattle.std.proofs.Common.{◌≡◌, ◌≢◌, ℕ, zero, suc, ◌<◌, Bool, true, false, not, cond, List, [], ◌∷◌, All, map, filter, length, get_or, slice_get, Some, None, refl, sym, ap, ◌∙◌, subst, inl, inr, arith}
 use Rattle.std.specs.Prelude.{eqb, ◌||◌}
 use Rattle.std.specs.List.{AllByRecursion}
-use Rattle.std.proofs.lemmas.List.{length-map}
 use Rattle.std.proofs.lemmas.List.Elements.{All-from_get_or}
 use Rattle.heap_core.specs.Meaning.{Meaning, AllFit, IsSound, names, none_of}
 use mathlib.Core.Logic.{∥∥₁_map}
@@ -17,16 +16,16 @@ use Rattle.check_values.specs.declared.signatures.Sig.{Sig}
 use Rattle.source_front.specs.declared.parse.Parse.{Parse}
 use Rattle.program_check.specs.Full.{Results, IsFull}
 use Rattle.payloads.specs.Entities.{parse_entity, deps_entity, signature_entity, errors_entity}
-use Rattle.payloads.specs.State.{program_of, HaveOwnRows, IsRoot, payload_in, payload_at, fits, StandsIn}
+use Rattle.payloads.specs.State.{program_of, IsRoot, payload_in, payload_at, fits, StandsIn}
 use Rattle.payloads.specs.declared.payload.Payload.{Payload}
 use Rattle.payloads.specs.declared.payload.Payload.TheVariants as payload
-use Rattle.payloads.proofs.Places.{IsOfRow, StandHere, one_row, stand_here, nothing_here}
+use Rattle.payloads.proofs.Places.{IsOfRow, one_row, stand_here, nothing_here}
 use Rattle.check_phases.specs.Phases.{results_by}
 use Rattle.check_phases.specs.declared.phases.Made.{Made}
 use Rattle.check_phases.proofs.Lists.{one_value, within_there}
-use Rattle.check_phases.proofs.Waves.{named_has, has_named}
+use Rattle.check_phases.proofs.Waves.{named_has}
 use Rattle.program_recheck.specs.Numbering.{rows_in, freed_from}
-use Rattle.program_recheck.specs.Staging.{of_row, of_rows, of_all, state_of, StandAt, IsVacant, Stages}
+use Rattle.program_recheck.specs.Staging.{of_row, of_all, state_of, StandAt, IsVacant, Stages}
 
 -- ---- what the new state has
 

@@ -1,5 +1,5 @@
 -- What was read of a folder, and a folder that gives it.
-use Rattle.std.proofs.Common.{◌≡◌, ◌≢◌, Bool, true, false, List, [], ◌∷◌, Option, Some, None, refl, sym, ap, ◌∙◌, subst, inl, inr, if◌then◌else◌}
+use Rattle.std.proofs.Common.{◌≡◌, ◌≢◌, Bool, List, [], ◌∷◌, Option, Some, None, refl, sym, ap, ◌∙◌, subst, inl, inr, if◌then◌else◌}
 use Rattle.std.specs.Prelude.{nat_eq}
 use Rattle.std.specs.List.{AllByRecursion}
 use Rattle.std.specs.List.Sorted.{IsStrictlySortedBy}
@@ -14,7 +14,7 @@ use Rattle.flow_base.proofs.Rising.{found_itself, not_below_itself}
 use Rattle.check_values.specs.Rows.{Rows}
 use Rattle.pending_edits.specs.declared.edit.Edit.{Edit}
 use Rattle.pending_edits.specs.declared.edit.Edit.TheVariants.{Put, Touch, Delete}
-use Rattle.pending_edits.specs.Pending.{with_text, text_by, edited, MayBecome, IsTouched}
+use Rattle.pending_edits.specs.Pending.{with_text, edited, MayBecome, IsTouched}
 use Rattle.flow_base.specs.Seen.{FolderSeen}
 use Rattle.flow_base.specs.Causes.{raised}
 use Rattle.program_recheck.specs.Reading.{Gives, IsUnread}

@@ -1,7 +1,7 @@
 -- The rows that are given: by marks, one after the other, and what the new root is by them.
-use Rattle.std.proofs.Common.{◌≡◌, ◌≢◌, ◌⊎◌, ℕ, zero, suc, ◌+◌, ◌*◌, ◌<◌, ◌≤◌, Bool, true, false, cond, List, [], ◌∷◌, ◌++◌, map, length, take, drop, slice_get, get_or, Option, Some, None, refl, sym, ap, ◌∙◌, subst, inl, inr, arith, append-nil, append_assoc, bytes_eq}
+use Rattle.std.proofs.Common.{◌≡◌, ◌≢◌, ◌⊎◌, ℕ, zero, suc, ◌+◌, ◌*◌, ◌<◌, ◌≤◌, Bool, true, false, cond, List, [], ◌∷◌, ◌++◌, map, length, drop, slice_get, get_or, Option, Some, None, refl, sym, ap, ◌∙◌, subst, inl, inr, arith, append-nil, append_assoc, bytes_eq}
 use Rattle.std.specs.Prelude.{eqb, ◌||◌, option_to_list}
-use Rattle.std.specs.List.{AllByRecursion, flat_map}
+use Rattle.std.specs.List.{AllByRecursion}
 use Rattle.std.specs.List.Sorted.{IsStrictlySortedBy}
 use Rattle.std.specs.Map.{keys_of}
 use Rattle.std.specs.Ordering.{nat_cmp}
@@ -16,10 +16,10 @@ use Rattle.flow_base.proofs.Rising.{IsBelowAll, below_all, not_below_itself, ris
 use Rattle.check_values.specs.declared.root.RootRow.{RootRow}
 use Rattle.check_values.specs.declared.root.Root.{Root}
 use Rattle.payloads.specs.Entities.{errors_entity}
-use Rattle.payloads.specs.State.{program_of, HaveOwnRows, IsRoot}
+use Rattle.payloads.specs.State.{HaveOwnRows, IsRoot}
 use Rattle.pending_edits.specs.Rows.{row_of, kept_rows, IsRowOf, next_from, AreNumbered, Follows}
 use Rattle.check_phases.proofs.Lists.{within_there, place_at, drop_none}
-use Rattle.program_recheck.specs.Numbering.{somes, AreMarks, FindsFree, IsGivenRow, AreGiven}
+use Rattle.program_recheck.specs.Numbering.{somes, AreMarks, IsGivenRow, AreGiven}
 use Rattle.program_recheck.proofs.Marks.{same_kept, least_free}
 
 -- ---- one row after the other

@@ -1,7 +1,7 @@
 -- Marks on the rows that are used.
 use Rattle.std.proofs.Common.{◌≡◌, ◌≢◌, ℕ, zero, suc, ◌+◌, ◌*◌, ◌<◌, ◌≤◌, Bool, true, false, not, cond, List, [], ◌∷◌, ◌++◌, length, set, slice_get, get_or, take, map, filter, replicate, Option, Some, None, refl, sym, ap, ◌∙◌, subst, arith, append-nil, length-set}
 use Rattle.std.specs.Prelude.{eqb, ◌||◌, option_to_list}
-use Rattle.std.specs.List.{AllByRecursion, flat_map}
+use Rattle.std.specs.List.{AllByRecursion}
 use Rattle.std.proofs.lemmas.Bool.{eqb-true}
 use Rattle.std.proofs.lemmas.List.Folds.{flat_map-map}
 use mathlib.Core.Logic.{dite}
@@ -12,11 +12,11 @@ use Rattle.named_rows.proofs.Lists.{flat_more}
 use Rattle.flow_base.specs.Program.{Bytes, Program}
 use Rattle.check_values.specs.declared.root.RootRow.{RootRow}
 use Rattle.check_values.specs.declared.root.Root.{Root}
-use Rattle.pending_edits.specs.Rows.{row_of, kept_rows, IsLeastFree, IsRowOf, next_from, AreNumbered, Follows}
+use Rattle.pending_edits.specs.Rows.{row_of, kept_rows, IsLeastFree}
 use Rattle.heap_core.proofs.Names.{names-last}
 use Rattle.check_phases.proofs.Lists.{one_value, place_at, take_whole}
 use Rattle.payloads.specs.Entities.{errors_entity}
-use Rattle.program_recheck.specs.Numbering.{rows_in, freed_from, somes, AreMarks, Marks, FindsFree, IsGivenRow, AreGiven}
+use Rattle.program_recheck.specs.Numbering.{rows_in, freed_from, somes, AreMarks, Marks, FindsFree}
 
 -- the rows of modules
 abbrev pub rows_of : List RootRow → List ℕ

@@ -1,20 +1,18 @@
 -- Staging one payload, and one after the other.
-use Rattle.std.proofs.Common.{Result, Ok, Err, IfOk, ◌≡◌, ◌≢◌, ◌⊎◌, ℕ, ◌+◌, ◌*◌, ◌<◌, ◌≤◌, Bool, true, false, List, [], ◌∷◌, All, length, take, set, get_or, slice_get, refl, sym, ap, ◌∙◌, subst, inl, inr, arith, Some, length-set}
+use Rattle.std.proofs.Common.{Result, Ok, Err, IfOk, ◌≡◌, ◌≢◌, ◌⊎◌, ℕ, ◌+◌, ◌*◌, ◌<◌, ◌≤◌, true, List, [], length, take, set, get_or, slice_get, refl, sym, ap, ◌∙◌, subst, inl, inr, arith, Some, length-set}
 use Rattle.std.specs.Prelude.{OnErr}
 use mathlib.Core.Logic.{dite}
 use native.Mathlib.Decide.{ℕ_discrete}
 use Rattle.std.proofs.lemmas.Bool.{cases_lt}
-use Rattle.std.proofs.lemmas.List.Elements.{All-get_or}
 use Rattle.heap_core.specs.Meaning.{Meaning, IsSound, staging}
 use Rattle.payloads.specs.State.{fits}
 use Rattle.heap_core.specs.Transactions.{IsStaging}
 use Rattle.heap_core.proofs.Lists.{put_here, put_else}
-use Rattle.graph_search.specs.Cycles.{Has}
 use Rattle.graph_search.proofs.Lists.{has_more, has_none, take_whole}
 use Rattle.payloads.specs.Entities.{parse_entity, deps_entity, signature_entity, errors_entity}
 use Rattle.payloads.specs.declared.payload.Payload.{Payload}
 use Rattle.payloads.specs.declared.payload.Payload.TheVariants as payload
-use Rattle.program_recheck.specs.Staging.{Entities, only, of_row, of_rows, State, StandAt, IsVacant, IsRight, Stages}
+use Rattle.program_recheck.specs.Staging.{Entities, only, of_row, of_rows, State, StandAt, IsVacant, Stages}
 
 -- nothing else changes
 pub staging_one : (e : ℕ) (x : Payload) (old new : Meaning Payload) → new ≡ staging e x old → IsStaging old new

@@ -1,15 +1,15 @@
 -- The texts of a root's modules, put into a map one after the other.
-use Rattle.std.proofs.Common.{◌≡◌, ℕ, zero, suc, ◌+◌, ◌<◌, List, [], ◌∷◌, map, length, take, get_or, slice_get, Option, Some, None, refl, sym, ap, ◌∙◌, subst, arith}
+use Rattle.std.proofs.Common.{◌≡◌, ℕ, zero, suc, ◌+◌, ◌<◌, List, [], ◌∷◌, map, length, take, get_or, slice_get, Some, None, sym, ap, ◌∙◌, arith}
 use Rattle.std.specs.BTreeMap.{insert_entry}
 use Rattle.std.specs.Ordering.{nat_cmp, match_ordering, ordering_reverse}
 use Rattle.std.specs.Cmp.Lexicographic.{slice_cmp, nat_list_cmp_total}
 use Rattle.std.specs.declared.cmp.Ordering.{Ordering}
-use Rattle.std.specs.declared.cmp.Ordering.TheVariants.{Less, Equal, Greater}
+use Rattle.std.specs.declared.cmp.Ordering.TheVariants.{Less, Greater}
 use Rattle.heap_core.proofs.Lists.{get_index}
-use Rattle.flow_base.specs.Program.{Bytes, Program}
+use Rattle.flow_base.specs.Program.{Program}
 use Rattle.flow_base.proofs.Rising.{below_all, rising_rest}
 use Rattle.flow_values.specs.Path.{IsRising}
-use Rattle.check_values.specs.Roots.{paths_of, paths_of_rows}
+use Rattle.check_values.specs.Roots.{paths_of_rows}
 use Rattle.check_values.specs.declared.root.RootRow.{RootRow}
 use Rattle.check_values.specs.declared.root.Root.{Root}
 use Rattle.payloads.specs.State.{program_of}

@@ -1,5 +1,5 @@
 -- What a recheck leaves.
-use Rattle.std.specs.Prelude.{◌≡◌, ℕ, ◌+◌, ◌*◌, ◌^◌, ◌<◌, ◌≤◌, List, [], length, slice_get, Option, Some, true, false}
+use Rattle.std.specs.Prelude.{◌≡◌, ℕ, ◌+◌, ◌*◌, ◌^◌, ◌<◌, ◌≤◌, List, [], length, slice_get, Option, Some, false}
 use Rattle.flow_base.specs.Program.{Bytes, Program}
 use Rattle.flow_base.specs.Causes.{raised}
 use Rattle.flow_base.specs.Seen.{FolderSeen}

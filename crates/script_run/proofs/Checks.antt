@@ -1,5 +1,5 @@
 -- What is printed of the full check of a program is one.
-use Rattle.std.proofs.Common.{◌≡◌, ℕ, ◌+◌, List, [], ◌∷◌, ◌++◌, length, slice_get, Option, Some, None, refl, sym, ap, ◌∙◌, zero, suc}
+use Rattle.std.proofs.Common.{◌≡◌, ℕ, ◌+◌, List, [], ◌∷◌, ◌++◌, length, slice_get, Some, None, refl, sym, ap, ◌∙◌, zero, suc}
 use Rattle.std.specs.Coded.{coded_ℕ, coded_list}
 use Rattle.std.specs.List.{flat_map}
 use denote.Struct.Props.{≡_prop}

@@ -1,6 +1,5 @@
 -- The edits that wait for the next recheck.
-use Rattle.std.proofs.Common.{◌≡◌, ℕ, zero, suc, ◌+◌, ◌-◌, ◌*◌, ◌^◌, ◌<◌, ◌≤◌, cond, List, [], ◌∷◌, ◌++◌, length, take, map, get_or, count_by, refl, sym, ap, ◌∙◌, subst, arith}
-use Rattle.std.specs.BTreeMap.{insert_entry}
+use Rattle.std.proofs.Common.{◌≡◌, ℕ, zero, suc, ◌+◌, ◌-◌, ◌^◌, ◌<◌, ◌≤◌, cond, List, [], ◌∷◌, ◌++◌, length, take, get_or, refl, sym, ap, ◌∙◌, subst, arith}
 use Rattle.std.specs.Prelude.{Result, Ok, Err}
 use Rattle.std.specs.Map.{values_of}
 use Rattle.std.specs.Ordering.{nat_cmp, match_ordering, ordering_reverse}
@@ -10,7 +9,7 @@ use Rattle.std.specs.declared.cmp.Ordering.TheVariants.{Less, Greater}
 use Rattle.std.proofs.lemmas.List.{take_more, length-take-le}
 use Rattle.std.proofs.lemmas.List.Sums.{sum_by-cons}
 use Rattle.flow_base.specs.Program as base
-use Rattle.flow_base.specs.Program.{Bytes, Program, IsRising}
+use Rattle.flow_base.specs.Program.{Bytes, IsRising}
 use Rattle.flow_base.proofs.Rising.{IsBelowAll, below_all, rising_rest}
 use Rattle.heap_core.specs.Meaning.{Meaning, IsSound}
 use Rattle.check_values.specs.Rows.{Rows}
@@ -22,7 +21,7 @@ use Rattle.payloads.specs.declared.payload.Payload.{Payload}
 use Rattle.payloads.specs.declared.payload.Payload.TheVariants as payload
 use Rattle.pending_edits.specs.Pending as pending
 use Rattle.pending_edits.specs.Pending.{Pending}
-use Rattle.pending_edits.specs.Counting.{counted, keeps, kept_in, edits_of, StandsOn, LimitsModules}
+use Rattle.pending_edits.specs.Counting.{counted, keeps, kept_in, StandsOn, LimitsModules}
 use Rattle.pending_edits.specs.declared.edit.Edit.{Edit}
 use Rattle.pending_edits.specs.declared.edit.Edit.TheVariants.{Touch}
 use Rattle.pending_edits.specs.declared.edit.EditFault.{EditFault}

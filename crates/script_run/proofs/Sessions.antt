@@ -1,28 +1,26 @@
 -- A heap of modules and the edits that wait, as the walk sees them.
-use Rattle.std.proofs.Common.{◌≡◌, ℕ, zero, suc, ◌+◌, ◌*◌, ◌^◌, ◌<◌, ◌≤◌, List, [], ◌∷◌, ◌++◌, length, map, false, Option, Some, None, refl, sym, ap, ◌∙◌, subst, arith, inl, inr}
+use Rattle.std.proofs.Common.{◌≡◌, ℕ, zero, suc, ◌+◌, ◌^◌, ◌<◌, List, [], ◌∷◌, ◌++◌, length, Some, None, refl, sym, ap, ◌∙◌, subst, arith, inl, inr}
 use Rattle.std.specs.Prelude.{slice_get, Result, Ok, Err, IfOk, OnOk, OnErr}
-use Rattle.std.specs.Coded.{Coded-set, coded_list}
+use Rattle.std.specs.Coded.{coded_list}
 use Rattle.std.specs.List.{AllByRecursion, flat_map}
 use denote.Struct.Props.{≡_prop}
 use mathlib.Core.Logic.{∥∥₁_elim, ∥∥₁_map}
 use Rattle.std.proofs.lemmas.Option.{same_Some}
-use Rattle.flow_base.specs.Program.{Bytes, Program, IsRising}
+use Rattle.flow_base.specs.Program.{Bytes, Program}
 use Rattle.flow_base.specs.Program as program
 use Rattle.flow_base.specs.Causes.{raised, RoseBy}
 use Rattle.flow_base.specs.Seen.{FolderSeen}
 use Rattle.heap_core.proofs.Lists.{get_there}
-use Rattle.heap_core.specs.Meaning.{Meaning, AllFit, IsSound}
+use Rattle.heap_core.specs.Meaning.{Meaning, AllFit}
 use Rattle.check_values.specs.Rows.{Rows}
-use Rattle.check_values.specs.Roots.{paths_of_rows, paths_of}
 use Rattle.check_values.specs.contracts.faults.Fault as fault_type
-use Rattle.check_values.specs.declared.faults.Fault.{Fault}
 use Rattle.check_values.specs.declared.root.RootRow.{RootRow}
 use Rattle.check_values.specs.declared.root.Root.{Root}
 use Rattle.program_check.specs.Full.{Results, IsFull}
 use Rattle.program_check.specs.Law.{OneFull}
 use Rattle.program_check.specs.Status.{error_count, error_line, error_lines, status_line}
 use Rattle.payloads.specs.Entities.{errors_entity}
-use Rattle.payloads.specs.State.{program_of, HaveOwnRows, IsRoot, fits, payload_at, payload_in, StandsIn}
+use Rattle.payloads.specs.State.{program_of, IsRoot, fits, payload_at, payload_in, StandsIn}
 use Rattle.payloads.proofs.Places.{stand_here}
 use Rattle.payloads.specs.declared.payload.Payload.{Payload}
 use Rattle.payloads.specs.declared.payload.Payload.TheVariants as payload
@@ -32,7 +30,7 @@ use Rattle.pending_edits.specs.declared.edit.Edit.{Edit}
 use Rattle.pending_edits.specs.declared.edit.Edit.TheVariants.{Put}
 use Rattle.pending_edits.specs.declared.edit.EditFault.{EditFault}
 use Rattle.pending_edits.specs.declared.edit.EditFault.TheVariants.{TooManyModules, NoMemory}
-use Rattle.program_recheck.specs.Recheck.{Commits, HasRoom, RecheckState, Rechecked, CountsReads}
+use Rattle.program_recheck.specs.Recheck.{Commits, RecheckState, Rechecked, CountsReads}
 use Rattle.program_recheck.specs.declared.outcome.Outcome.{Outcome}
 use Rattle.program_recheck.specs.declared.outcome.Outcome.TheVariants as outcome
 use Rattle.script_print.specs.Printed.{done_line, fault_line, refused_line}

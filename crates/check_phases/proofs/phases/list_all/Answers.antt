@@ -1,4 +1,4 @@
-use Rattle.std.proofs.Common.{◌<◌, ◌^◌, length, refl, ap, ◌∙◌, arith, rules}
+use Rattle.std.proofs.Common.{length, refl, ap, arith, rules}
 use Rattle.std.proofs.lemmas.Result.{err_from_is_err_and}
 use Rattle.analyst.specs.Work.{work_of}
 use Rattle.check_phases.proofs.Lefts.{lists_left}

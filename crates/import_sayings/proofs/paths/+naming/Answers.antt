@@ -1,4 +1,4 @@
-use Rattle.std.proofs.Common.{◌++◌, List, ℕ, sym, ap, ◌∙◌, arith}
+use Rattle.std.proofs.Common.{◌++◌, sym, ap, ◌∙◌, arith}
 use Rattle.type_values.specs.declared.types.FlowProp.{FlowProp, out-FlowProp}
 use Rattle.type_values.specs.declared.types.Param.{Param, out-Param}
 use Rattle.merged_signatures.specs.Reach.{paths_in}

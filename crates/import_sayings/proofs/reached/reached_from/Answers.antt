@@ -1,6 +1,6 @@
 use Rattle.std.proofs.Common.{ap, length, ◌∙◌}
 use Rattle.std.proofs.lemmas.List.{length-replicate}
-use Rattle.import_sayings.proofs.Searched.{starts_within, all_found}
+use Rattle.import_sayings.proofs.Searched.{starts_within}
 use Rattle.import_sayings.proofs.reached.reached_from.Goals as goal
 
 pub search-requires-clause-starts : goal.search-requires-clause-starts

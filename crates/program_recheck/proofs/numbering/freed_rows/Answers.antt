@@ -1,4 +1,4 @@
-use Rattle.std.proofs.Common.{◌+◌, ◌*◌, ◌<◌, true, false, List, [], ◌∷◌, ◌++◌, ap, ◌∙◌, length, refl, sym, subst, arith, rules}
+use Rattle.std.proofs.Common.{◌+◌, ◌*◌, ◌<◌, true, false, List, [], ◌∷◌, ◌++◌, ap, ◌∙◌, refl, sym, subst, arith, rules}
 use Rattle.std.specs.List.{AllByRecursion}
 use Rattle.check_values.specs.declared.root.RootRow.{RootRow}
 use Rattle.payloads.specs.Entities.{errors_entity}

@@ -1,4 +1,4 @@
-use Rattle.std.proofs.Common.{◌≡◌, length, refl, ap, ◌∙◌, arith, rules}
+use Rattle.std.proofs.Common.{◌≡◌, length, refl, ap, arith, rules}
 use Rattle.program_recheck.proofs.Giving.{gives_none, gives_more, gives_all}
 use Rattle.program_recheck.proofs.numbering.give_rows.Goals as goal
 

@@ -1,7 +1,7 @@
 use Rattle.std.proofs.Common.{slice_get, refl, sym, ap, ◌∙◌}
 use Rattle.heap_core.specs.Meaning.{Meaning}
 use Rattle.payloads.specs.declared.payload.Payload.{Payload}
-use Rattle.program_recheck.proofs.Finish.{begun_fresh, begun_room, rolled_back, is_done, room_left, told_state}
+use Rattle.program_recheck.proofs.Finish.{begun_fresh, begun_room, rolled_back, is_done}
 use Rattle.program_recheck.proofs.rechecking.recheck.Goals as goal
 
 pub stage_edited-requires-clause-fresh : goal.stage_edited-requires-clause-fresh

@@ -1,4 +1,4 @@
-use Rattle.std.proofs.Common.{ℕ, ◌<◌, All, length, sym, ◌∙◌, subst, rules}
+use Rattle.std.proofs.Common.{ℕ, ◌<◌, All, sym, ◌∙◌, subst, rules}
 use Rattle.payloads.specs.Entities.{errors_entity}
 use Rattle.payloads.specs.State.{IsRoot}
 use Rattle.program_recheck.specs.Numbering.{rows_in}
