@@ -78,6 +78,7 @@ depths "statements inside blocks" "'$head' + '{ '.repeat(deep) + $statements + '
 depths "statements inside loops" "'$head' + 'while (b) { '.repeat(deep) + $statements + '} '.repeat(deep) + '}'"
 depths "statements inside arrows" "'const g = ' + '(p: number) => '.repeat(deep) + '{ let c: number = 0; ' + $statements + '};'"
 each "arms of else-if" 10000 "'$head' + times(n, (i) => 'if (b) { c = 1; } else ') + '{ c = null; } }'"
+each "arms of else-if, another variable each" 4000 "'$head' + times(n, (i) => 'let v' + i + ': number | null = null; ') + times(n, (i) => 'if (b) { v' + i + ' = 1; } else ') + '{ c = null; } }'"
 each "arms of else-if, another literal each" 10000 "'$head' + times(n, (i) => 'if (a === ' + i + ') { c = a; } else ') + '{ c = null; } }'"
 each "statements" 20000 "'$head' + $statements + '}'"
 each "functions" 20000 "times(n, (i) => 'function f' + i + '(p: number): number { return p; } ')"

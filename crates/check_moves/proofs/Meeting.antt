@@ -1,19 +1,17 @@
 -- Ways that meet one by one.
-use Rattle.std.proofs.Common.{◌≡◌, ℕ, List, [], ◌∷◌, ◌++◌, map, reverse, Some, None, refl, ◌∙◌, subst}
+use Rattle.std.proofs.Common.{◌≡◌, ℕ, List, [], ◌∷◌, ◌++◌, map, reverse, Some, refl, ◌∙◌, subst}
 use Rattle.refine_flow.specs.declared.facts.Facts.{Facts}
-use Rattle.refine_flow.specs.Standing.{known}
-use Rattle.flow_facts.specs.Known.{joined}
 use Rattle.scopes.specs.View.{KeepsHeights}
 use Rattle.typing.specs.States.{World}
 use Rattle.typing.specs.Forms.{choices_out}
 use Rattle.fact_ways.specs.declared.fork.Fork.{Fork}
-use Rattle.fact_ways.specs.Ways.{Fits, Goes, AreNested, outermost, way_of, ways_of, all_joined}
+use Rattle.fact_ways.specs.Ways.{Fits, Goes, AreNested, outermost, way_of, ways_of}
 use Rattle.fact_ways.proofs.Marks.{goes_through, goes_nowhere}
-use Rattle.fact_ways.proofs.Nests.{nested_on, ways_on, outermost_on, nested_less, reverse_last}
+use Rattle.fact_ways.proofs.Nests.{nested_on, ways_on, outermost_on, reverse_last}
 use Rattle.check_moves.specs.declared.state.State.{State}
 use Rattle.check_moves.specs.declared.state.Read.{Read}
 use Rattle.check_moves.specs.declared.branches.Chosen.{Chosen}
-use Rattle.check_moves.specs.View.{around, now, told}
+use Rattle.check_moves.specs.View.{around, told}
 use Rattle.check_moves.specs.Follows.{Follows}
 use Rattle.check_moves.specs.Moves.{chosen_view, choices_left}
 use Rattle.check_moves.proofs.Following.{heights_twice}
@@ -66,38 +64,7 @@ pub branches_last : (w : World) (t : ℕ) (all : List Chosen) (last : Read) (a :
 branches_last w t all last a k waiting left r s b c before is read same follows =
     branches_one w t all last a k (reverse left) r s b c (subst (λ (l : List Chosen). BranchesMet w t all last a l r b) (reverse_last waiting left k is) before) read same follows
 
--- Some arms of an `if` met what follows them.
-pub record ArmsMet (all : List Fork) (a : State) (left : List Fork) (b : State) : Type 0 where
-  pub facts : record (now b) { facts = all_joined (ways_of b.facts left) (known b.facts) } ≡ record (now a) { facts = all_joined (ways_of a.facts all) (known a.facts) }
-  pub nested : AreNested left None b.facts
-  pub same : around b ≡ around a
-  pub goes : Goes (outermost all None) a.facts (outermost left None) b.facts
-  pub heights : KeepsHeights a.scope b.scope
-
-pub arms_none : (all : List Fork) (a : State) → AreNested all None a.facts → ArmsMet all a all a
-arms_none all a nested = record { facts = refl; nested = nested; same = refl; goes = goes_nowhere (outermost all None) a.facts; heights = λ height is. (is, refl) }
-
-pub arms_one : (all : List Fork) (a : State) (k : Fork) (left : List Fork) (b c : State) → ArmsMet all a (k ∷ left) b →
-    now c ≡ record (now b) { facts = joined (way_of b.facts k) (known b.facts) } → around c ≡ around b → Follows (Some k) b None c → ArmsMet all a left c
-unfolding now
-arms_one all a k left b c before is same follows = record {
-  facts = (λ i. record { facts = all_joined (ways_on left (Some k) None b.facts c.facts follows.leads.goes before.nested.1 i) (is i).facts; notes = (is i).notes }) ∙ before.facts;
-  nested = nested_on left (Some k) None b.facts c.facts follows.leads.goes before.nested.1;
-  same = same ∙ before.same;
-  goes = goes_through (outermost all None) (outermost left (Some k)) (outermost left None) a.facts b.facts c.facts before.goes (outermost_on left (Some k) None b.facts c.facts follows.leads.goes before.nested.1);
-  heights = heights_twice a.scope b.scope c.scope before.heights follows.heights;
-}
-
-pub arms_last : (all : List Fork) (a : State) (k : Fork) (waiting left : List Fork) (b c : State) → ArmsMet all a (reverse waiting) b → waiting ≡ left ++ k ∷ [] →
-    now c ≡ record (now b) { facts = joined (way_of b.facts k) (known b.facts) } → around c ≡ around b → Follows (Some k) b None c → ArmsMet all a (reverse left) c
-arms_last all a k waiting left b c before is meets same follows =
-    arms_one all a k (reverse left) b c (subst (λ (l : List Fork). ArmsMet all a l b) (reverse_last waiting left k is) before) meets same follows
-
--- the last arm stands
-pub arm_stands : (all : List Fork) (a : State) (k : Fork) (waiting left : List Fork) (b : State) → ArmsMet all a (reverse waiting) b → waiting ≡ left ++ k ∷ [] → Fits (Some k) b.facts
-arm_stands all a k waiting left b before is = nested_less (reverse left) k b.facts (subst (λ (l : List Fork). AreNested l None b.facts) (reverse_last waiting left k is) before.nested)
-
--- and the last branch stands round what follows it
+-- the last branch stands round what follows it
 pub branch_stands : (w : World) (t : ℕ) (all : List Chosen) (last : Read) (a : State) (k : Chosen) (waiting left : List Chosen) (r : Read) (b : State) → BranchesMet w t all last a (reverse waiting) r b →
     waiting ≡ left ++ k ∷ [] → AreNested (k.fork ∷ []) r.fork b.facts
 branch_stands w t all last a k waiting left r b before is =
@@ -107,6 +74,3 @@ branch_stands w t all last a k waiting left r b before is =
 
 pub branches_all : (w : World) (t : ℕ) (all : List Chosen) (last : Read) (a : State) (waiting : List Chosen) (r : Read) (b : State) → BranchesMet w t all last a (reverse waiting) r b → waiting ≡ [] → BranchesMet w t all last a [] r b
 branches_all w t all last a waiting r b before is = subst (λ (l : List Chosen). BranchesMet w t all last a (reverse l) r b) is before
-
-pub arms_all : (all : List Fork) (a : State) (waiting : List Fork) (b : State) → ArmsMet all a (reverse waiting) b → waiting ≡ [] → ArmsMet all a [] b
-arms_all all a waiting b before is = subst (λ (l : List Fork). ArmsMet all a (reverse l) b) is before

@@ -10,7 +10,7 @@ ghost use Rattle.fact_ways.specs.Ways.{Fits, AreNested, outermost, ways_of, all_
 
 use crate::state::{Read, State};
 use check_world::World;
-use fact_ways::{Fork, outermost_live};
+use fact_ways::{Fork, meet_arms};
 use flow_values::{List, NoMemory};
 use refine_flow::Joins;
 use type_terms::join;
@@ -95,19 +95,13 @@ impl State {
     /// # Errors
     ///
     /// `NoMemory` where memory is refused.
-    #[tactic(auto, using(crate::proofs::Meeting::arms_none, crate::proofs::Meeting::arms_last, crate::proofs::Meeting::arm_stands, crate::proofs::Meeting::arms_all), unfolding(crate::specs::View::around, crate::specs::View::now, crate::specs::View::told))]
+    #[tactic(auto, using(crate::proofs::Following::follows_facts), unfolding(crate::specs::View::around, crate::specs::View::now, crate::specs::View::told))]
     pub fn meet_arms(&mut self, arms: Vec<Fork>) -> Result<(), NoMemory>
         requires { AreNested (reverse arms.items) None self.old.facts }
         ensures now { OnOk result (now self.new ≡ record (now self.old) { facts = all_joined (ways_of self.old.facts (reverse arms.items)) (known self.old.facts) }) }
         ensures around { OnOk result (around self.new ≡ around self.old) }
         ensures follows { OnOk result (Follows (outermost (reverse arms.items) None) self.old None self.new) }
     {
-        let outermost = outermost_live(arms.as_slice());
-        let mut arms = arms;
-        while let Some(arm) = arms.pop() {
-            let joins = Joins::waiting_if(arms.len() > outermost);
-            self.meet(arm, joins)?;
-        }
-        Ok(())
+        meet_arms(&mut self.facts, arms)
     }
 }

@@ -1,10 +1,9 @@
 -- Classes of slots that have no fact.
-use Rattle.std.proofs.Common.{◌≡◌, ℕ, Bool, true, false, not, ◌&&◌, ◌||◌, Option, Some, None, refl, sym, ap, ◌∙◌, if◌then◌else◌}
+use Rattle.std.proofs.Common.{◌≡◌, Bool, true, false, not, ◌&&◌, ◌||◌, None, refl, sym, ap, ◌∙◌, if◌then◌else◌}
 use Rattle.flow_facts.specs.Known.{is_constant_number}
-use Rattle.fact_trail.specs.declared.fact.Fact.{Fact}
 use Rattle.fact_trail.specs.declared.slot.Slot.TheVariants.{Variable, Property}
 use Rattle.fact_trail.specs.declared.slot.Slot.{Slot}
-use Rattle.fact_trail.specs.Slots.{Map, is_class, is_variable, is_property}
+use Rattle.fact_trail.specs.Slots.{Map, is_variable, is_property}
 use Rattle.fact_arms.specs.declared.gone.Gone.{Gone}
 use Rattle.fact_arms.specs.Differences.{class_gone, is_among}
 

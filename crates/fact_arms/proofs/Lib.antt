@@ -6,3 +6,6 @@ pub mod Making
 pub mod Meeting
 pub mod Between
 pub mod Taking
+pub mod Again
+pub mod Freshening
+pub mod Settling

@@ -4,10 +4,9 @@ use Rattle.std.proofs.lemmas.List.Folds.{list_any-append}
 use Rattle.std.specs.Option.{is_some}
 use Rattle.fact_trail.specs.declared.fact.Fact.{Fact}
 use Rattle.fact_trail.specs.declared.trail.Trail.{Trail}
-use Rattle.fact_trail.specs.declared.slot.Slot.TheVariants.{Variable, Property}
 use Rattle.fact_trail.specs.declared.slot.Slot.{Slot}
 use Rattle.fact_trail.specs.Types.{ty_of}
-use Rattle.fact_trail.specs.Slots.{Map, at_slot, is_slot, is_property}
+use Rattle.fact_trail.specs.Slots.{Map, at_slot, is_slot}
 use Rattle.fact_trail.specs.Moments.{map_of, KeepsMoments, IsNew, Adds, Drops}
 use Rattle.fact_trail.proofs.Same.{same_slot}
 use Rattle.fact_trail.proofs.Changes.{adds_none}

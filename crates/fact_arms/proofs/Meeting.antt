@@ -4,7 +4,6 @@ use Rattle.type_values.specs.declared.types.FlowType.{FlowType}
 use Rattle.type_terms.specs.Join.{join_of}
 use Rattle.type_terms.proofs.Settled.{settled}
 use Rattle.fact_trail.specs.declared.fact.Fact.{Fact}
-use Rattle.fact_trail.specs.declared.slot.Slot.TheVariants.{Variable, Property}
 use Rattle.fact_trail.specs.declared.slot.Slot.{Slot}
 use Rattle.std.specs.Option.{is_some}
 use Rattle.fact_trail.specs.Types.{ty_of}

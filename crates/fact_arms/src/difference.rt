@@ -219,7 +219,7 @@ impl Difference {
     }
 
     // Puts a change before what is said.
-    fn add_change(&mut self, change: Change) -> Result<(), NoMemory>
+    pub(crate) fn add_change(&mut self, change: Change) -> Result<(), NoMemory>
         ensures { OnOk result ((m : Map) → over self.new m ≡ over self.old (before change m)) }
     {
         match change {

@@ -54,6 +54,13 @@ impl Gone {
         self.changing
     }
 
+    // Whether variables of some class are among them.
+    pub(crate) fn has_some_variables(self) -> bool
+        ensures { result ≡ (self.constants || self.changing) }
+    {
+        either(self.constants, self.changing)
+    }
+
     // With the variables of a class.
     #[tactic(auto, using(crate::proofs::Classes::with_constants, crate::proofs::Classes::with_changing))]
     pub(crate) fn with_variables(self, constant: bool) -> Gone

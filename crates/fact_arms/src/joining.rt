@@ -141,8 +141,8 @@ impl Difference {
     }
 }
 
-// The join of what two differences make of a slot. The second one says nothing of it any more.
-fn join_at(
+/// The join of what two differences make of a slot. The second one says nothing of it any more.
+pub(crate) fn join_at(
     alloc: Global,
     trail: &Trail,
     slot: Slot,

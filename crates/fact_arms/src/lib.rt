@@ -3,11 +3,14 @@
 #![tactic(auto)]
 
 mod difference;
+mod fresh;
+mod gathered;
 mod gone;
 mod joining;
 mod slots;
 mod trails;
 
 pub use difference::Difference;
+pub use gathered::Gathered;
 pub use joining::{Joins, meet};
 pub use trails::go_back;

@@ -16,8 +16,8 @@ use fact_trail::{Fact, Key, Slot, Trail};
 use flow_values::NoMemory;
 use std::collections::{BTreeMap, BTreeSet};
 
-// Adds variables of which something is said.
-fn add_said_variables(
+/// Adds variables of which something is said.
+pub(crate) fn add_said_variables(
     rows: &BTreeMap<u32, Option<Fact>>,
     slots: &mut Vec<Slot>,
 ) -> Result<(), NoMemory>
@@ -30,8 +30,8 @@ fn add_said_variables(
     Ok(())
 }
 
-// Adds properties of which something is said.
-fn add_said_properties(
+/// Adds properties of which something is said.
+pub(crate) fn add_said_properties(
     rows: &BTreeMap<Key, Option<Fact>>,
     slots: &mut Vec<Slot>,
 ) -> Result<(), NoMemory>
@@ -44,8 +44,8 @@ fn add_said_properties(
     Ok(())
 }
 
-// Adds the variables of a set.
-fn add_variables(set: &BTreeSet<u32>, slots: &mut Vec<Slot>) -> Result<(), NoMemory>
+/// Adds the variables of a set.
+pub(crate) fn add_variables(set: &BTreeSet<u32>, slots: &mut Vec<Slot>) -> Result<(), NoMemory>
     ensures adds { OnOk result ((b : ℕ) → contains nat_cmp set.now b ≡ true → is_listed slots.new.items (Variable b) ≡ true) }
     ensures keeps { OnOk result ((s : Slot) → is_listed slots.old.items s ≡ true → is_listed slots.new.items s ≡ true) }
 {
@@ -55,8 +55,8 @@ fn add_variables(set: &BTreeSet<u32>, slots: &mut Vec<Slot>) -> Result<(), NoMem
     Ok(())
 }
 
-// Adds the properties of a set.
-fn add_properties(set: &BTreeSet<Key>, slots: &mut Vec<Slot>) -> Result<(), NoMemory>
+/// Adds the properties of a set.
+pub(crate) fn add_properties(set: &BTreeSet<Key>, slots: &mut Vec<Slot>) -> Result<(), NoMemory>
     ensures adds { OnOk result ((k : Key) → contains key_cmp set.now k ≡ true → is_listed slots.new.items (Property k) ≡ true) }
     ensures keeps { OnOk result ((s : Slot) → is_listed slots.old.items s ≡ true → is_listed slots.new.items s ≡ true) }
 {

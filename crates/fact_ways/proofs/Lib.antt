@@ -1,3 +1,4 @@
 pub mod Marks
 pub mod Nests
 pub mod Joins
+pub mod Gathers

@@ -5,4 +5,4 @@ mod fork;
 mod nested;
 
 pub use fork::{Fork, meet, meet_same, split, stand, swap, take};
-pub use nested::{meet_all, meet_way, outermost_live};
+pub use nested::{meet_all, meet_arms};

@@ -13,3 +13,4 @@ pub mod Assigning
 pub mod Lengthening
 pub mod Copying
 pub mod OwnJoins
+pub mod Gathers

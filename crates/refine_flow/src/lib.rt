@@ -6,16 +6,20 @@
 //! one; `join_arm`, with the arm; `spend`. `resume` goes on from a mark with an arm that was handed
 //! out.
 //!
+//! Many ways in one another, as the arms of an `else if` chain, meet at once: `gather`; `gather_way`
+//! with each mark and its arm, the last one first; `make_gathered`.
+//!
 //! A function inside is read between `begin_function` and `end_function`.
 #![tactic(auto)]
 
 mod among;
 mod facts;
 mod functions;
+mod gathering;
 mod marks;
 mod names;
 mod smooth;
 mod whole;
 
-pub use fact_arms::Joins;
+pub use fact_arms::{Gathered, Joins};
 pub use facts::{Arm, Facts, Mark};
