@@ -165,12 +165,13 @@ def arms_of_an_if(root):
 
 @case
 def arms_that_set_different_variables(root):
-    """Behind the `if` each may have been set or not; one more is set in no arm."""
+    """Behind the `if` each may have been set or not, its types in the order of the arms; one more is set in no arm."""
     count = 15_000
     lets = "".join(f"let v{i}:?number=null;" for i in range(count + 1))
     head = f"function f(b:boolean){{{lets}{'else '.join(f'if(b){{v{i}=1;}}' for i in range(count))}\n"
     uses = "".join(f"const x{i}:null=v{i};\n" for i in (0, count - 1, count))
-    errors = [f"a.js:{line}:{len(f'const x{i}:null=') + 1} incompatible-type null | number null" for line, i in ((2, 0), (3, count - 1))]
+    types = {0: "number | null", count - 1: "null | number"}
+    errors = [f"a.js:{line}:{len(f'const x{i}:null=') + 1} incompatible-type {types[i]} null" for line, i in enumerate(types, 2)]
     expect(root, errors, a=f"{head}{uses}}}")
 
 
