@@ -5,8 +5,9 @@
 ghost use Rattle.typing_laws.specs.Numbers.{EachNumberTells, KeepsConstants};
 ghost use Rattle.typing_laws.specs.Breaks.{BreaksOnlyJoin};
 
-/// In each scope in which code is read the number of a name tells whether it is constant; so an arrow or a function expression begins
-/// with the facts on constants, and with no other.
+/// The number of a name tells whether it is constant: that of each name of a module's scope, and of each scope that is entered from
+/// one whose names tell so. Of the variable of such a name an arrow or a function expression begins with the fact where it is constant,
+/// and with none where it is not.
 pub fn each_number_tells()
     ensures tells { EachNumberTells }
     ensures keeps { KeepsConstants }
