@@ -1,10 +1,8 @@
 ghost use Rattle.std.specs.Prelude.{◌≡◌, IfOk, length};
-ghost use Rattle.check_values.specs.Rows.{row_at};
 ghost use Rattle.source_front.specs.Front.{IsParse};
 ghost use Rattle.merged_signatures.specs.Job.{job_signatures};
 ghost use Rattle.job_ends.specs.Jobs.{job_view};
-ghost use Rattle.errors_by_reach.specs.Law.{AreErrors};
-ghost use Rattle.check_job.specs.Jobs.{source_of, IsFronted};
+ghost use Rattle.check_job.specs.Jobs.{AreErrorsOf};
 ghost use Rattle.analyst.specs.Work.{Work, Works, fronting, merging, checking, IsCounted};
 
 use check_job::CheckJob;
@@ -37,14 +35,13 @@ pub trait Analyst {
         ensures signatures { IfOk result (λ sigs. sigs ≡ job_signatures (job_view job.now)) }
         ensures work { Works result (merging (length job.now.members)) (work self.old) (work self.new) };
 
-    /// The errors of a job's module, by the merged signatures that the job has.
+    /// The errors of a job's module, by the parse and the merged signatures that the job has.
     ///
     /// # Errors
     ///
     /// `NoMemory` where memory is refused.
     fn check(&mut self, job: &CheckJob) -> Result<Errs, NoMemory>
-        requires { IsFronted job.now }
-        ensures errors { IfOk result (λ errs. AreErrors job.now.path job.now.deps (source_of job.now) (row_at job.now.sigs) errs.faults) }
+        ensures errors { IfOk result (λ errs. AreErrorsOf job.now errs.faults) }
         ensures work { Works result checking (work self.old) (work self.new) };
 
     /// The counts stay within their type.

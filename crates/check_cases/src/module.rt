@@ -1,7 +1,5 @@
 //! Modules from their sources.
-ghost use Rattle.std.specs.Prelude.{IfOk};
-ghost use Rattle.check_job.specs.Jobs.{source_of, IsFronted, IsWhole};
-ghost use Rattle.source_front.specs.Front.{IsParse};
+ghost use Rattle.check_job.specs.Jobs.{source_of, IsWhole};
 
 use check_job::CheckJob;
 use check_module::{Checker, check_module, type_at_pos};
@@ -22,9 +20,7 @@ pub(crate) struct Answer {
     pub faults: List<Fault>,
 }
 
-fn parsed(alloc: Global, source: &[u8]) -> Result<Shared<Parse>, NoMemory>
-    ensures { IfOk result (λ parse. IsParse source.now parse) }
-{
+fn parsed(alloc: Global, source: &[u8]) -> Result<Shared<Parse>, NoMemory> {
     let parse = front(alloc, source)?;
     Shared::new(alloc, parse)
 }
@@ -44,10 +40,7 @@ fn path(alloc: Global) -> Result<Path, NoMemory> {
 }
 
 // A module by itself.
-#[tactic(auto, using(crate::proofs::Fronted::is_fronted))]
-fn job_of(alloc: Global, source: &[u8]) -> Result<CheckJob, NoMemory>
-    ensures { IfOk result (λ job. IsFronted job) }
-{
+fn job_of(alloc: Global, source: &[u8]) -> Result<CheckJob, NoMemory> {
     let path = path(alloc)?;
     let text = Text::from_bytes(alloc, source)?;
     let deps = no_deps(alloc)?;
@@ -152,9 +145,7 @@ pub(crate) fn type_at(alloc: Global, source: &[u8], column: u64) -> Result<Optio
     job_type_at(alloc, &job, column)
 }
 
-fn count_errors(alloc: Global, job: &CheckJob) -> Result<usize, NoMemory>
-    requires { IsFronted job.now }
-{
+fn count_errors(alloc: Global, job: &CheckJob) -> Result<usize, NoMemory> {
     let errors = check_module(alloc, job)?;
     Ok(errors.faults.len())
 }

@@ -55,14 +55,15 @@ scope_simple w f t (assign target v) e = ap (λ (x : Env). x.scope) (assign_is w
 
 -- a simple statement as a body is a list of its own
 pub simple_told : (w : World) (x : Simple) (end : ℕ) (stopped : Bool) (a b c d : State) → end ≡ suc (out-Simple x).end → stopped ≡ (now a).notes.stopped → env b ≡ reach w (out-Simple x).first end (env a) →
-    env c ≡ read_simple w (out-Simple x).first end (simple_form_view (out-Simple x).form) (env b) → now d ≡ change_notes (λ notes. record notes { stopped = stopped }) (now c) → around d ≡ around c →
+    env c ≡ read_simple w (out-Simple x).first (out-Simple x).end (simple_form_view (out-Simple x).form) (env b) → now d ≡ change_notes (λ notes. record notes { stopped = stopped }) (now c) → around d ≡ around c →
     env d ≡ read_body w (simple_body (simple_view x)) (env a)
 simple_told w x end stopped a b c d ends was reached reads sets kept =
     let f : ℕ = (out-Simple x).first in
     let form : SimpleForm = simple_form_view (out-Simple x).form in
-    let inner : Env = read_simple w f (suc (out-Simple x).end) form (reach w f (suc (out-Simple x).end) (env a)) in
-    let is : env c ≡ inner = reads ∙ ap (read_simple w f end form) reached ∙ ap (λ (n : ℕ). read_simple w f n form (reach w f n (env a))) ends in
-    let same : inner.scope ≡ scope a = scope_simple w f (suc (out-Simple x).end) form (reach w f (suc (out-Simple x).end) (env a)) ∙ scope_reach w f (suc (out-Simple x).end) (env a) in
+    let t : ℕ = (out-Simple x).end in
+    let inner : Env = read_simple w f t form (reach w f (suc t) (env a)) in
+    let is : env c ≡ inner = reads ∙ ap (read_simple w f t form) (reached ∙ ap (λ (n : ℕ). reach w f n (env a)) ends) in
+    let same : inner.scope ≡ scope a = scope_simple w f t form (reach w f (suc t) (env a)) ∙ scope_reach w f (suc t) (env a) in
     (λ i. record { scope = (kept i).scope; facts = (sets i).facts; notes = (sets i).notes; returned = (kept i).returned; breaks = (kept i).breaks })
     ∙ (λ i. record (is i) { notes = record (is i).notes { stopped = was i } })
     ∙ (λ i. record inner { scope = same i; notes = record inner.notes { stopped = (now a).notes.stopped } })

@@ -70,7 +70,7 @@ mutual
   stmt_keeps : (w : World) (f t : ℕ) (form : StmtForm) (e : Env) → Keeps e (read_stmt w f t form e)
   stmt_keeps w f t (declares (declaration df dt binder name annotation v)) e = record { depth = refl; result = refl }
   stmt_keeps w f t (function_stmt declared_by) e = record { depth = refl; result = refl }
-  stmt_keeps w f t (does (simple sf st form)) e = simple_keeps w f t form e
+  stmt_keeps w f t (does (simple sf st form)) e = simple_keeps w sf st form e
   stmt_keeps w f t (branches bs last) e =
       let k : Env = (read_branches w bs e).env in
       let kept : Keeps e (read_else w last k) = keeps_twice e k (read_else w last k) (branches_keep w bs e) (else_keeps w last k) in

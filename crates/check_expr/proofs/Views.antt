@@ -2,16 +2,15 @@
 use Rattle.std.proofs.Common.{◌≡◌, Bool, List, ap, ◌∙◌, rules}
 use Rattle.std.specs.Option.{option_map}
 use Rattle.check_values.specs.Rows.{Bytes}
-use Rattle.js_grammar.specs.Code.{ex, variable, number, text, truth_value, null_value, parens, elements, fields, function_ex, prefixed, member, index, operand, field, right_side, as_type, shorthand, valued, declaration, simple, return_bare, return_value, throw_value, break_loop, continue_loop, evaluate, arrow_block, arrow_value}
+use Rattle.js_grammar.specs.Code.{ex, variable, number, text, truth_value, null_value, parens, elements, fields, prefixed, member, index, operand, field, right_side, as_type, shorthand, valued, declaration, simple, return_bare, return_value, throw_value, break_loop, continue_loop, evaluate, arrow_block, arrow_value}
 use Rattle.type_tree.specs.View.{type_view, key_view}
 use Rattle.type_tree.specs.declared.types.TypeTree.{TypeTree}
 use Rattle.type_tree.specs.declared.types.Key.{Key}
 use Rattle.code_tree.specs.Flat.{prefixes_view, operator_view, binder_view}
-use Rattle.code_tree.specs.View.{expr_view, expr_form_view, postfix_expr_view, chain_expr_view, conditional_expr_view, arrow_expr_view, arrow_body_view, link_form_view, operand_view, operand_form_view, field_view, field_form_view, function_view, block_view, declaration_view, simple_view, simple_form_view, assignment_view, exprs_view, fields_view}
+use Rattle.code_tree.specs.View.{expr_view, expr_form_view, postfix_expr_view, chain_expr_view, conditional_expr_view, arrow_expr_view, arrow_body_view, link_form_view, operand_view, operand_form_view, field_view, field_form_view, block_view, declaration_view, simple_view, simple_form_view, assignment_view, exprs_view, fields_view}
 use Rattle.code_tree.specs.declared.types.Operator.{Operator}
 use Rattle.code_tree.specs.declared.types.PrefixMark.{PrefixMark}
 use Rattle.code_tree.specs.declared.types.ExprForm.{the_lemmas}
-use Rattle.code_tree.specs.declared.types.Function.{Function}
 use Rattle.code_tree.specs.declared.types.Block.{Block}
 use Rattle.code_tree.specs.declared.types.Assignment.{Assignment}
 use Rattle.code_tree.specs.declared.types.Expr.{Expr, out-Expr}
@@ -35,7 +34,7 @@ use Rattle.code_tree.specs.declared.types.ArrowBody.{ArrowBody}
 use Rattle.code_tree.specs.declared.types.ArrowBody as arrow_body
 use Rattle.code_tree.specs.declared.types.SimpleForm.{SimpleForm}
 use Rattle.code_tree.specs.declared.types.SimpleForm as simple_form
-pub use Rattle.code_changes.proofs.Views.{function_is, block_is, branch_is, arm_is, assignment_is, postfix_expr_is, chain_expr_is, conditional_expr_is, arrow_expr_is, if_statement_is, while_statement_is, statement_is, link_is, link_form_call, statement_form_function}
+pub use Rattle.code_changes.proofs.Views.{function_is, block_is, branch_is, arm_is, assignment_is, postfix_expr_is, chain_expr_is, conditional_expr_is, arrow_expr_is, if_statement_is, while_statement_is, statement_is, link_is, link_form_call, statement_form_function, expr_form_function}
 
 -- ---- structs
 
@@ -92,10 +91,6 @@ expr_form_array x es comma is = ap expr_form_view is ∙ search (rules, the_lemm
 pub expr_form_object : (x : ExprForm) (fs : List Field) (comma : Bool) → x ≡ expr_form.Object fs comma → expr_form_view x ≡ fields (fields_view fs) comma
 unfolding expr_form_view fields_view field_view
 expr_form_object x fs comma is = ap expr_form_view is ∙ search (rules, the_lemmas)
-
-pub expr_form_function : (x : ExprForm) (made : Function) → x ≡ expr_form.Function made → expr_form_view x ≡ function_ex (function_view made)
-unfolding expr_form_view function_view
-expr_form_function x made is = ap expr_form_view is ∙ search (rules, the_lemmas)
 
 pub expr_form_postfix : (x : ExprForm) (e : PostfixExpr) → x ≡ expr_form.Postfix e → expr_form_view x ≡ postfix_expr_view e
 unfolding expr_form_view postfix_expr_view

@@ -204,7 +204,7 @@ pub(crate) fn read_body(
             let end = next(simple.end)?;
             let stopped = state.is_stopped();
             state.reach(world, simple.first, end)?;
-            read_simple(world, state, simple, simple.first, end)?;
+            read_simple(world, state, simple)?;
             state.set_stopped(stopped);
             Ok(())
         }

@@ -57,9 +57,7 @@ pub(crate) fn read_statement(
             read_function(world, state, function, false)?;
             Ok(())
         }
-        StatementForm::Simple(simple) => {
-            read_simple(world, state, simple, statement.first, statement.end)
-        }
+        StatementForm::Simple(simple) => read_simple(world, state, simple),
         StatementForm::If(statement) => read_if(world, state, statement, plan),
         StatementForm::While(statement) => read_while(world, state, statement, plan),
         StatementForm::Block(block) => read_inner_block(world, state, block, plan),
@@ -87,24 +85,18 @@ pub fn read_declaration(
     Ok(())
 }
 
-/// A simple statement at these tokens.
+/// A simple statement.
 ///
 /// # Errors
 ///
 /// `NoMemory` where memory is refused. The state may only be dropped then.
 #[cycle(reading)]
-pub fn read_simple(
-    world: &World<'_>,
-    state: &mut State,
-    simple: &Simple,
-    first: usize,
-    end: usize,
-) -> Result<(), NoMemory>
-    ensures env { OnOk result (env state.new ≡ read_simple (world_view world.now) first end (simple_form_view (out-Simple simple.now).form) (env state.old)) }
+pub fn read_simple(world: &World<'_>, state: &mut State, simple: &Simple) -> Result<(), NoMemory>
+    ensures env { OnOk result (env state.new ≡ read_simple (world_view world.now) (out-Simple simple.now).first (out-Simple simple.now).end (simple_form_view (out-Simple simple.now).form) (env state.old)) }
     ensures follows { OnOk result (Follows None state.old None state.new) }
 {
     match &simple.form {
-        SimpleForm::Return => state.return_bare(world, first, end),
+        SimpleForm::Return => state.return_bare(world, simple.first, simple.end),
         SimpleForm::ReturnValue(value) => read_returned(world, state, value),
         SimpleForm::Throw(value) => {
             let value = read(world, state, value, None)?;

@@ -34,5 +34,5 @@ env_noted a b n names facts returned breaks is =
     λ i. record { scope = (env (record a { scope = names i })).scope; facts = (env (record a { facts = facts i })).facts; notes = is i; returned = returned i; breaks = (env (record a { breaks = breaks i })).breaks }
 
 -- a simple statement, by its parts
-pub simple_read : (w : World) (p : Program) (m : g.Module) (f t : ℕ) (s : Simple) (before after : Env) → after ≡ read_simple w f t (simple_form_view (out-Simple s).form) before → after ≡ read_item_form w p m f t (g.does_item (simple_view s)) before
+pub simple_read : (w : World) (p : Program) (m : g.Module) (f t : ℕ) (s : Simple) (before after : Env) → after ≡ read_simple w (out-Simple s).first (out-Simple s).end (simple_form_view (out-Simple s).form) before → after ≡ read_item_form w p m f t (g.does_item (simple_view s)) before
 simple_read w p m f t s before after is = is ∙ sym (ap (λ (x : Tree). read_item_form w p m f t (g.does_item x) before) (simple_is s))

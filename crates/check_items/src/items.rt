@@ -1,7 +1,7 @@
 //! How the items of a module are read.
 #![tactic(auto, using(crate::proofs::NotesInOrder::sees_types, crate::proofs::Envs::env_made, crate::proofs::Envs::env_read, crate::proofs::Envs::env_noted, check_moves::proofs::Following::follows_nothing, check_moves::proofs::Following::follows_through), unfolding(check_moves::specs::View::around, check_moves::specs::View::now, check_moves::specs::View::told))]
 
-ghost use Rattle.std.specs.Prelude.{◌≡◌, None, OnOk, IfOk};
+ghost use Rattle.std.specs.Prelude.{◌≡◌, ℕ, None, OnOk, IfOk};
 ghost use Rattle.js_grammar.specs.Items as g;
 ghost use Rattle.check_world.specs.View.{world_view, notes_view};
 ghost use Rattle.code_tree.specs.View.{expr_view, function_view, simple_view};
@@ -186,18 +186,16 @@ fn read_import(
     Ok(())
 }
 
-// A simple statement at these tokens.
+// A simple statement.
 fn read_top_simple(
     around: &Module<'_, '_>,
     state: &mut State,
     simple: &Simple,
-    first: usize,
-    end: usize,
 ) -> Result<(), NoMemory>
-    ensures env { (p : Program) (m : g.Module) → OnOk result (env state.new ≡ read_item_form (world_view around.now.world.now) p m first end (g.does_item (simple_view simple.now)) (env state.old)) }
+    ensures env { (p : Program) (m : g.Module) (first end : ℕ) → OnOk result (env state.new ≡ read_item_form (world_view around.now.world.now) p m first end (g.does_item (simple_view simple.now)) (env state.old)) }
     ensures follows { OnOk result (Follows None state.old None state.new) }
 {
-    read_simple(around.world, state, simple, first, end)?;
+    read_simple(around.world, state, simple)?;
     Ok(())
 }
 
@@ -219,6 +217,6 @@ pub fn read_item(around: &Module<'_, '_>, state: &mut State, item: &Item) -> Res
         ItemForm::Declaration(declaration) => read_declaration(around.world, state, declaration),
         ItemForm::Function(function) => read_top_function(around, state, function),
         ItemForm::Alias(alias) => read_alias(around, state, alias),
-        ItemForm::Simple(simple) => read_top_simple(around, state, simple, first, end),
+        ItemForm::Simple(simple) => read_top_simple(around, state, simple),
     }
 }

@@ -1,5 +1,10 @@
 -- What a job checks.
-use Rattle.std.specs.Prelude.{ℕ, ◌≡◌}
+use Rattle.std.specs.Prelude.{ℕ, ◌≡◌, List}
+use Rattle.flow_values.specs.declared.span.Span.{Span}
+use Rattle.js_grammar.specs.Items.{Module}
+use Rattle.check_values.specs.Rows.{Bytes, row_at}
+use Rattle.check_values.specs.declared.faults.Fault.{Fault}
+use Rattle.check_values.specs.declared.signatures.Deps.{Deps}
 use Rattle.check_values.specs.declared.codes.Code.{Code}
 use Rattle.check_values.specs.declared.codes.Code.TheVariants.{NotUtf8, BadToken, SourceTooLong, Parse}
 use Rattle.js_tree.specs.View.{module_view}
@@ -8,7 +13,10 @@ use Rattle.source_front.specs.declared.parse.ParseTree.{ParseTree}
 use Rattle.source_front.specs.declared.parse.ParseTree.TheVariants as tree
 use Rattle.source_front.specs.declared.parse.SourceFault.{SourceFault}
 use Rattle.source_front.specs.declared.parse.SourceFault.TheVariants as fault
+use Rattle.module_errors.specs.Program.{Program}
+use Rattle.module_errors.specs.Errors.{errors_beside, broken_errors}
 use Rattle.errors_by_reach.specs.Law.{Source, whole, broken}
+use Rattle.errors_by_reach.specs.Seen.{Sigs, IsTable, IsSeen}
 use Rattle.check_job.specs.declared.job.CheckJob.{CheckJob}
 
 -- the code of a source's fault, and its byte place
@@ -35,6 +43,21 @@ source_of job = source_in job.parse.tree
 abbrev pub IsWhole : Source → Type 0
 IsWhole (whole m spans) = Unit {0}
 IsWhole (broken code place) = ⊥
+
+-- ---- the errors of a job
+
+-- these are the errors of a module that sees this table, where its signature has the first faults
+abbrev pub HasErrorsBeside : List Fault → Bytes → Deps → Source → Sigs → List Fault → Type 0
+HasErrorsBeside first path deps (whole m spans) table errors = (p : Program) × IsSeen path deps m table p × (errors ≡ errors_beside first p m spans)
+HasErrorsBeside first path deps (broken code place) table errors = errors ≡ broken_errors code place
+
+-- and of a module with these dependencies, in a program with these merged signatures
+abbrev pub AreErrorsBeside : List Fault → Bytes → Deps → Source → Sigs → List Fault → Type 0
+AreErrorsBeside first path deps source sigs errors = (table : Sigs) × IsTable sigs deps table × HasErrorsBeside first path deps source table errors
+
+-- These are the errors of a job's module, by the parse that the job has: the faults of its signature are those that came with its tree.
+abbrev pub AreErrorsOf : CheckJob → List Fault → Type 0
+AreErrorsOf job errors = AreErrorsBeside job.parse.faults job.path job.deps (source_of job) (row_at job.sigs) errors
 
 -- the faults that were told with the tree are those of its signature
 abbrev pub HasFaults : CheckJob → Source → Type 0

@@ -11,7 +11,6 @@ use Rattle.js_grammar.specs.Items.{Module, module_of}
 use Rattle.js_tree.specs.View.{item_view, items_view, module_view}
 use Rattle.js_tree.specs.declared.items.Module as js
 use Rattle.js_tree.specs.declared.items.Item.{Item}
-use Rattle.local_signatures.specs.Faults.{signature_faults}
 use Rattle.flow_facts.specs.Known.{no_facts}
 use Rattle.scopes.specs.View.{scope_view}
 use Rattle.scopes.specs.declared.scope.Scope.{Scope}
@@ -25,9 +24,10 @@ use Rattle.module_errors.specs.Program.{Program, world_of}
 use Rattle.module_errors.specs.TopNames.{bind_items, changes_of_items, exportings_of, exported_twice}
 use Rattle.module_errors.specs.Items.{read_item, read_items}
 use Rattle.module_errors.specs.Errors.{no_notes, top_env, seen_type}
-use Rattle.errors_by_reach.specs.Law.{whole, AreErrors, IsTypeAt}
+use Rattle.errors_by_reach.specs.Law.{whole, IsTypeAt}
 use Rattle.import_sayings.specs.View.{sigs_of}
 use Rattle.check_job.specs.declared.job.CheckJob.{CheckJob}
+use Rattle.check_job.specs.Jobs.{AreErrorsBeside}
 use Rattle.check_moves.specs.View.{env, around, now, told}
 use Rattle.check_moves.specs.declared.state.Read.{Read}
 use Rattle.check_moves.specs.declared.state.State.{State}
@@ -38,7 +38,7 @@ use Rattle.alias_table.specs.declared.table.AliasTable.{AliasTable}
 use Rattle.check_items.specs.declared.items.Module as items
 use Rattle.import_sayings.specs.declared.imports.Imports.{Imports}
 use Rattle.check_module.specs.declared.around.Around.{Around}
-use Rattle.check_module.specs.View.{prelude_env, IsOf, around_world, checker_world, checker_env, IsFor, StaysOf, StandsFor, Opens, items_of}
+use Rattle.check_module.specs.View.{prelude_env, IsOf, around_world, checker_world, checker_env, IsFor, StaysOf, StandsFor, Opens, Names, items_of}
 use Rattle.check_module.specs.declared.checker.Checker.{Checker}
 
 -- ---- the state before the first item
@@ -76,11 +76,16 @@ started w v p is s over n m same begun bound noted =
     notes = noted ∙ ap (exported_twice v [] (exportings_of is)) (bound.1 ∙ ap (λ (b : Bound). b.notes) all)
 
 -- a checker of a job's module
-pub opens : (job : CheckJob) (m : js.Module) (spans : List Span) (watch : Option ℕ) (a : Around) (s : State) (listed : List Item) → listed ≡ m.items → StandsFor job (module_view m) spans watch a →
-    ((p : Program) → Says a.imports p → env s ≡ top_env (around_world a) p (items_view listed)) → Opens job (module_view m) spans watch (record { around = a; state = s })
+pub names : (job : CheckJob) (m : js.Module) (spans : List Span) (watch : Option ℕ) (a : Around) (s : State) (listed : List Item) → listed ≡ m.items → StandsFor job (module_view m) spans watch a →
+    ((p : Program) → Says a.imports p → env s ≡ top_env (around_world a) p (items_view listed)) → Names job (module_view m) spans watch (record { around = a; state = s })
 unfolding checker_env
-opens job m spans watch a s listed same (t, are, p, seen, is, world) begun =
+names job m spans watch a s listed same (t, are, p, seen, is, world) begun =
     (t, are, p, seen, is, world, begun p is.imports ∙ ap₂ (λ (w : World) (l : List Item). top_env w p (items_view l)) world same)
+
+-- its faults are forgotten
+pub opens : (job : CheckJob) (m : Module) (spans : List Span) (watch : Option ℕ) (c d : Checker) → d.around ≡ c.around → checker_env d ≡ record (checker_env c) { notes = no_notes } → Names job m spans watch c → Opens job m spans watch d
+opens job m spans watch c d same emptied (t, are, p, seen, is, world, begun) =
+    (t, are, p, seen, subst (λ (x : Around). IsOf x p m) (sym same) is, ap around_world same ∙ world, emptied ∙ ap (λ (e : Env). record e { notes = no_notes }) begun)
 
 -- ---- items in order
 
@@ -131,15 +136,15 @@ module _ (job : CheckJob) where
   all_read f t is p spans watch opened read is_for world begun reads =
       reads p is_for ∙ ap₂ (λ (w : World) (e : Env). read_items w p (module_of f t is) is e) world begun
 
-  pub errors_told : (m : Module) (spans : List Span) (opened read : Checker) (first own faults : List Fault) → Opens job m spans None opened → ReadsAll opened read m → own ≡ (checker_env read).notes.faults → first ≡ signature_faults m spans →
-      faults ≡ faults_in_order (first ++ own) → AreErrors job.path job.deps (whole m spans) (sigs_of job.sigs) faults
-  errors_told (module_of f t is) spans opened read first own faults (table, are, p, seen, is_for, world, begun) reads noted told ordered =
-      (table, are, (p, seen, ordered ∙ ap₂ (λ (a b : List Fault). faults_in_order (a ++ b)) told (noted ∙ ap (λ (e : Env). e.notes.faults) (all_read f t is p spans None opened read is_for world begun reads))))
+  pub errors_told : (m : Module) (spans : List Span) (opened read : Checker) (first own faults : List Fault) → Names job m spans None opened → ReadsAll opened read m → own ≡ (checker_env read).notes.faults →
+      faults ≡ faults_in_order (first ++ own) → AreErrorsBeside first job.path job.deps (whole m spans) (sigs_of job.sigs) faults
+  errors_told (module_of f t is) spans opened read first own faults (table, are, p, seen, is_for, world, begun) reads noted ordered =
+      (table, are, (p, seen, ordered ∙ ap (λ (b : List Fault). faults_in_order (first ++ b)) (noted ∙ ap (λ (e : Env). e.notes.faults) (all_read f t is p spans None opened read is_for world begun reads))))
 
-  pub type_told : (m : Module) (spans : List Span) (place : ℕ) (opened read : Checker) (answer : Option FlowType) → Opens job m spans (Some place) opened → ReadsAll opened read m → answer ≡ seen_type (checker_env read).notes.watched →
+  pub type_told : (m : Module) (spans : List Span) (place : ℕ) (opened read : Checker) (answer : Option FlowType) → Names job m spans (Some place) opened → ReadsAll opened read m → answer ≡ seen_type (checker_env read).notes.watched →
       IsTypeAt job.path job.deps m spans (sigs_of job.sigs) place answer
   type_told (module_of f t is) spans place opened read answer (table, are, p, seen, is_for, world, begun) reads told =
-      (table, are, p, seen, told ∙ ap (λ (e : Env). seen_type e.notes.watched) (all_read f t is p spans (Some place) opened read is_for world begun reads))
+      (table, are, (p, seen, told ∙ ap (λ (e : Env). seen_type e.notes.watched) (all_read f t is p spans (Some place) opened read is_for world begun reads)))
 
 -- ---- an expression that was read
 

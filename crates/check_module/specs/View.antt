@@ -1,5 +1,6 @@
 -- What a checker stands for.
-use Rattle.std.specs.Prelude.{ℕ, ◌≡◌, ◌↔◌, IsTrue, List, [], Option, Some, None}
+use Rattle.std.specs.Prelude.{ℕ, ◌≡◌, ◌↔◌, IsTrue, List, [], Option, Some, None, if◌then◌else◌}
+use Rattle.std.specs.Str.{bytes_eq}
 use Rattle.std.specs.Option.{option_or}
 use Rattle.flow_values.specs.declared.span.Span.{Span}
 use Rattle.js_grammar.specs.Items.{Items, Module, module_of}
@@ -7,6 +8,7 @@ use Rattle.alias_members.specs.MembersIn.{members_in}
 use Rattle.alias_table.specs.Aliases.{Row, Key, alias_type, IsCyclic}
 use Rattle.alias_table.specs.Table.{alias_of, is_marked}
 use Rattle.alias_table.specs.declared.table.AliasTable.{AliasTable}
+use Rattle.check_values.specs.Rows.{Bytes}
 use Rattle.check_values.specs.declared.signatures.Deps.{Deps}
 use Rattle.subtype_rules.specs.Answer.{below}
 use Rattle.check_world.specs.View.{meaning_in}
@@ -23,11 +25,11 @@ use Rattle.check_items.specs.View.{Says}
 use Rattle.check_module.specs.declared.around.Around.{Around}
 use Rattle.check_module.specs.declared.checker.Checker.{Checker}
 
--- the table has these aliases, and behind them those of the modules that are reached
-abbrev pub HasAliases : List Row → Deps → Sigs → AliasTable → Type 0
-HasAliases own deps sigs t =
+-- the table has these aliases of the module at a path, and behind them those of the other modules that are reached
+abbrev pub HasAliases : Bytes → List Row → Deps → Sigs → AliasTable → Type 0
+HasAliases path own deps sigs t =
     (table : Sigs) × IsTable sigs deps table
-    × ((key : Key) → alias_of t key ≡ option_or (alias_type own key) (alias_told key.1 (table key.0)))
+    × ((key : Key) → alias_of t key ≡ option_or (alias_type own key) (if bytes_eq key.0 path then None else alias_told key.1 (table key.0)))
     × ((key : Key) → IsTrue (is_marked t key) ↔ IsCyclic (alias_of t) key)
 
 -- what stands around the code
@@ -76,10 +78,22 @@ StandsFor job m spans watch a =
     × (p : Program) × IsSeen job.path job.deps m table p × IsOf a p m × (around_world a ≡ world_of p m spans watch)
 
 -- A checker before the first item of a job's module, with the place that is watched: it sees what the job's signatures tell by reach,
--- and has noted the faults of the module's names.
-abbrev pub Opens : CheckJob → Module → List Span → Option ℕ → Checker → Type 0
-Opens job m spans watch c =
+-- and knows this.
+abbrev pub Starts : (World → Program → Items → Env) → CheckJob → Module → List Span → Option ℕ → Checker → Type 0
+Starts known job m spans watch c =
     (table : Sigs) × IsTable (sigs_of job.sigs) job.deps table
     × (p : Program) × IsSeen job.path job.deps m table p × IsFor c p m
     × (checker_world c ≡ world_of p m spans watch)
-    × (checker_env c ≡ top_env (world_of p m spans watch) p (items_of m))
+    × (checker_env c ≡ known (world_of p m spans watch) p (items_of m))
+
+-- the names of a module, with no faults
+abbrev pub open_env : World → Program → Items → Env
+open_env w p is = record (top_env w p is) { notes = no_notes }
+
+-- it knows the names of the module, and has noted no faults
+abbrev pub Opens : CheckJob → Module → List Span → Option ℕ → Checker → Type 0
+Opens = Starts open_env
+
+-- it has noted the faults of the names and of the exports
+abbrev pub Names : CheckJob → Module → List Span → Option ℕ → Checker → Type 0
+Names = Starts top_env

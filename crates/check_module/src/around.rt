@@ -37,13 +37,13 @@ pub(crate) struct Around<'j> {
 
 // The table of the module's own aliases and of those that it reaches.
 fn table_of(alloc: Global, job: &CheckJob, types: &Types<'_>) -> Result<AliasTable, NoMemory>
-    ensures { IfOk result (λ table. HasAliases (own_aliases job.now.path types.now) job.now.deps (sigs_of job.now.sigs) table) }
+    ensures { IfOk result (λ table. HasAliases job.now.path (own_aliases job.now.path types.now) job.now.deps (sigs_of job.now.sigs) table) }
 {
     let deps = job.deps.get();
     let sigs = job.sigs.as_slice();
     let mut rows = Vec::new(alloc);
     types.add_aliases(alloc, &job.path, &mut rows)?;
-    add_reached_aliases(alloc, deps, sigs, &mut rows)?;
+    add_reached_aliases(alloc, &job.path, deps, sigs, &mut rows)?;
     let all = rows.as_slice();
     let table = AliasTable::build(alloc, all)?;
     Ok(table)

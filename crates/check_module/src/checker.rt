@@ -13,7 +13,7 @@ ghost use Rattle.typing.specs.TypeFaults.{annotated, annotation_read};
 ghost use Rattle.typing.specs.Typing.{read};
 ghost use Rattle.module_errors.specs.Program.{Program};
 ghost use Rattle.module_errors.specs.Items.{noted_env, read_item};
-ghost use Rattle.module_errors.specs.Errors.{seen_type};
+ghost use Rattle.module_errors.specs.Errors.{no_notes, seen_type};
 ghost use Rattle.errors_by_reach.specs.Law.{whole};
 ghost use Rattle.check_job.specs.Jobs.{source_of, IsWhole};
 
@@ -24,6 +24,7 @@ use check_items::{Module as Reading, read_item};
 use check_job::CheckJob;
 use check_moves::State;
 use check_values::Fault;
+use check_world::Notes;
 use code_tree::Expr;
 use flow_values::{NoMemory, Span};
 use js_tree::{Item, Module};
@@ -42,10 +43,10 @@ pub struct Checker<'j> {
 }
 
 impl<'j> Checker<'j> {
-    ghost use Rattle.check_module.specs.View.{checker_world, checker_env, IsFor, StaysOf, Opens};
+    ghost use Rattle.check_module.specs.View.{checker_world, checker_env, IsFor, StaysOf, Opens, Names};
 
-    /// The checker of a job, whose parse has a tree: with the names of the module, no facts, and no
-    /// faults but those of its names and its exports.
+    /// The checker of a job, whose parse has a tree: with the names of the module, no facts and no
+    /// faults. Those of the names and of the exports themselves are found where the whole module is read.
     ///
     /// # Errors
     ///
@@ -58,26 +59,37 @@ impl<'j> Checker<'j> {
         let parse = job.parse.get();
         match &parse.tree {
             ParseTree::Tree { module, spans } => {
-                let checker = Checker::opened(alloc, job, module, spans.as_slice(), None)?;
+                let mut checker = Checker::named(alloc, job, module, spans.as_slice(), None)?;
+                checker.forget_faults();
                 Ok(checker)
             }
             ParseTree::Broken(_) => unreachable!(),
         }
     }
 
-    /// By the module and the spans of the job's tree, and by the place that is watched.
+    // Forgets the faults so far, before the first item.
+    #[tactic(auto, unfolding(crate::specs::View::checker_env, check_moves::specs::View::around, check_moves::specs::View::now))]
+    fn forget_faults(&mut self)
+        ensures env { checker_env self.new ≡ record (checker_env self.old) { notes = no_notes } }
+        ensures around { self.new.around ≡ self.old.around }
+    {
+        self.state.notes = Notes::new(self.around.alloc);
+    }
+
+    /// By the module and the spans of the job's tree, and by the place that is watched: with the names of
+    /// the module, no facts, and the faults of its names and its exports.
     ///
     /// # Errors
     ///
     /// `NoMemory` where memory is refused.
-    pub(crate) fn opened(
+    pub(crate) fn named(
         alloc: Global,
         job: &'j CheckJob,
         module: &Module,
         spans: &'j [Span],
         watch: Option<u32>,
     ) -> Result<Checker<'j>, NoMemory>
-        ensures { IfOk result (λ c. Opens job.now (module_view «module».now) spans.now watch c) }
+        ensures { IfOk result (λ c. Names job.now (module_view «module».now) spans.now watch c) }
     {
         let around = Around::of(alloc, job, module, spans, watch)?;
         let state = around.start(module.items.as_slice())?;

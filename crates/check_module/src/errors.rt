@@ -2,13 +2,12 @@
 ghost use Rattle.std.specs.Prelude.{◌≡◌, ◌∷◌, [], OnOk, IfOk};
 ghost use Rattle.js_grammar.specs.Items as g;
 ghost use Rattle.js_tree.specs.View.{items_view, module_view};
-ghost use Rattle.local_signatures.specs.Faults.{signature_faults};
 ghost use Rattle.module_errors.specs.Program.{Program};
 ghost use Rattle.module_errors.specs.Items.{read_items};
 ghost use Rattle.module_errors.specs.Errors.{broken_errors};
-ghost use Rattle.errors_by_reach.specs.Law.{whole, AreErrors};
+ghost use Rattle.errors_by_reach.specs.Law.{whole};
 ghost use Rattle.check_values.specs.Rows.{row_at};
-ghost use Rattle.check_job.specs.Jobs.{source_of, fault_code, fault_place, IsFronted};
+ghost use Rattle.check_job.specs.Jobs.{fault_code, fault_place, AreErrorsBeside, AreErrorsOf};
 ghost use Rattle.check_module.specs.View.{checker_world, checker_env, IsFor, StaysOf};
 
 use crate::checker::Checker;
@@ -62,26 +61,24 @@ fn tree_errors(
     spans: &[Span],
     first: &[Fault],
 ) -> Result<List<Fault>, NoMemory>
-    requires { first.now ≡ signature_faults (module_view «module».now) spans.now }
-    ensures { IfOk result (λ faults. AreErrors job.now.path job.now.deps (whole (module_view «module».now) spans.now) (row_at job.now.sigs) faults) }
+    ensures { IfOk result (λ faults. AreErrorsBeside first.now job.now.path job.now.deps (whole (module_view «module».now) spans.now) (row_at job.now.sigs) faults) }
 {
-    let mut checker = Checker::opened(alloc, job, module, spans, None)?;
+    let mut checker = Checker::named(alloc, job, module, spans, None)?;
     read_all(&mut checker, module)?;
     let own = checker.faults();
     let faults = in_order(alloc, first, own)?;
     Ok(faults)
 }
 
-/// The errors of a module: of a source without a tree the one fault; else the set of the faults of its
-/// signature and of all its items, in order.
+/// The errors of a module: of a source without a tree the one fault; else the set of the faults that
+/// came with its tree, of its names and exports, and of all its items, in order.
 ///
 /// # Errors
 ///
 /// `NoMemory` where memory is refused.
-#[tactic(auto, using(crate::proofs::JobSources::first_told, crate::proofs::JobSources::whole_errors, crate::proofs::JobSources::broken_told))]
+#[tactic(auto, using(crate::proofs::JobSources::whole_errors, crate::proofs::JobSources::broken_told))]
 pub fn check_module(alloc: Global, job: &CheckJob) -> Result<Errs, NoMemory>
-    requires { IsFronted job.now }
-    ensures { IfOk result (λ errs. AreErrors job.now.path job.now.deps (source_of job.now) (row_at job.now.sigs) errs.faults) }
+    ensures { IfOk result (λ errs. AreErrorsOf job.now errs.faults) }
 {
     let parse = job.parse.get();
     match &parse.tree {

@@ -41,7 +41,7 @@ fn tree_type_at(
 ) -> Result<Option<FlowType>, NoMemory>
     ensures { IfOk result (λ t. IsTypeAt job.now.path job.now.deps (module_view «module».now) spans.now (row_at job.now.sigs) at t) }
 {
-    let mut checker = Checker::opened(alloc, job, module, spans, Some(at))?;
+    let mut checker = Checker::named(alloc, job, module, spans, Some(at))?;
     read_all(&mut checker, module)?;
     let seen = checker.watched();
     let t = shared(seen)?;

@@ -17,8 +17,8 @@ use Rattle.source_front.specs.declared.parse.Parse.{Parse}
 use Rattle.source_front.specs.declared.parse.ParseTree.{ParseTree}
 use Rattle.source_front.specs.declared.parse.ParseTree.TheVariants.{Tree, Broken}
 use Rattle.errors_by_reach.specs.Seen.{Sigs}
-use Rattle.errors_by_reach.specs.Law.{AreErrors, Agree, KeyLaw}
-use Rattle.merged_signatures.specs.Reach.{Reach, by_specifier, by_signature}
+use Rattle.errors_by_reach.specs.Law.{HasErrors, AreErrors, Agree}
+use Rattle.reach_law.specs.Law.{JobsAreRight}
 use Rattle.named_rows.proofs.Lists.{flat_last}
 use Rattle.import_sayings.specs.Reached.{AreNumbers}
 use Rattle.import_sayings.proofs.ReachedPaths.{taken}
@@ -97,32 +97,22 @@ job_fronted s rows x job sources is =
     let says : IsParse job.text job.parse = subst (λ (p : Parse). IsParse job.text p) same there.2 in
     says_faults job.text job job.parse.tree job.parse.sig job.parse.faults refl says
 
--- where others say the same, as far as a module reaches, it reaches no further by them
-same_reach : (sigs others : Sigs) (deps : Deps) → Agree sigs deps others → {path : Bytes} → Reach others deps path → Reach sigs deps path
-same_reach sigs others deps agree (by_specifier spec path finds) = by_specifier spec path finds
-same_reach sigs others deps agree (by_signature path other sig way is named) =
-    let there = same_reach sigs others deps agree way in
-    by_signature path other sig there (sym (agree path there) ∙ is) named
-
-agrees_back : (sigs others : Sigs) (deps : Deps) → Agree sigs deps others → Agree others deps sigs
-agrees_back sigs others deps agree = λ path way. sym (agree path (same_reach sigs others deps agree way))
-
 -- its errors are those of the module of its number
-pub job_checked : KeyLaw → (s : Sources) (rows : Rows Sig) (x : ℕ) (job : CheckJob) (errs : Errs) → IsJobOf s rows x job → AreErrors job.path job.deps (source_of job) (row_at job.sigs) errs.faults
+pub job_checked : JobsAreRight → (s : Sources) (rows : Rows Sig) (x : ℕ) (job : CheckJob) (errs : Errs) → IsJobOf s rows x job → AreErrors job.path job.deps (source_of job) (row_at job.sigs) errs.faults
     → IsCheckedAt (row_at rows) (program_in s) s.parses.items s.lists.items x errs
-job_checked law s rows x job errs is are = record {
+job_checked right s rows x job errs is are = record {
   path = (job.path, job.text);
   parse = job.parse;
   deps = job.deps;
   at_path = is.at_module;
   at_parse = is.parse;
   at_deps = is.deps;
-  errors = law job.path job.deps (source_of job) (row_at job.sigs) (row_at rows) errs.faults (agrees_back (row_at rows) (row_at job.sigs) job.deps is.signed) are;
+  errors = right job.path job.deps (source_of job) rows job.sigs errs.faults is.signed are;
 }
 
-pub job_errors : KeyLaw → (s : Sources) (rows : Rows Sig) (x : ℕ) (job : CheckJob) (errs mine : Errs) → IsJobOf s rows x job → AreErrors job.path job.deps (source_of job) (row_at job.sigs) errs.faults → mine ≡ errs
+pub job_errors : JobsAreRight → (s : Sources) (rows : Rows Sig) (x : ℕ) (job : CheckJob) (errs mine : Errs) → IsJobOf s rows x job → AreErrors job.path job.deps (source_of job) (row_at job.sigs) errs.faults → mine ≡ errs
     → IsCheckedAt (row_at rows) (program_in s) s.parses.items s.lists.items x mine
-job_errors law s rows x job errs mine is are same = subst (λ (e : Errs). IsCheckedAt (row_at rows) (program_in s) s.parses.items s.lists.items x e) (sym same) (job_checked law s rows x job errs is are)
+job_errors right s rows x job errs mine is are same = subst (λ (e : Errs). IsCheckedAt (row_at rows) (program_in s) s.parses.items s.lists.items x e) (sym same) (job_checked right s rows x job errs is are)
 
 -- and so of those that were signed
 pub signed_errors : (s : Sources) (sigs : List Sig) (signed : Signed) (x : ℕ) (errs : Errs) → AreSigned s sigs signed → IsCheckedAt (row_at signed.rows) (program_in s) s.parses.items s.lists.items x errs → IsCheckedAt (sigs_by s sigs) (program_in s) s.parses.items s.lists.items x errs
@@ -136,15 +126,15 @@ one_checked sigs program parses lists x errs old new many is pushed so_far =
     subst (λ (l : List Errs). AreChecked sigs program parses lists l) (sym pushed) (go program parses lists x old many is.path is.parse is.deps is.at_path is.at_parse is.at_deps is.errors so_far)
   where
     go : (program : Program) (parses : List Parse) (lists : List Deps) (x : ℕ) (old : List Errs) → length old ≡ x → (path : Bytes × Bytes) (parse : Parse) (deps : Deps) → slice_get program x ≡ Some path → slice_get parses x ≡ Some parse
-        → slice_get lists x ≡ Some deps → AreErrors path.0 deps (source_in parse.tree) sigs errs.faults → AreChecked sigs program parses lists old → AreChecked sigs program parses lists (old ++ errs ∷ [])
+        → slice_get lists x ≡ Some deps → HasErrors path.0 deps (source_in parse.tree) sigs errs.faults → AreChecked sigs program parses lists old → AreChecked sigs program parses lists (old ++ errs ∷ [])
     go [] parses lists x old many path parse deps a b c e so_far = absurd (let z : None ≡ Some path = a in cc)
     go (m ∷ program) [] lists x old many path parse deps a b c e so_far = absurd (let z : None ≡ Some parse = b in cc)
     go (m ∷ program) (p ∷ parses) [] x old many path parse deps a b c e so_far = absurd (let z : None ≡ Some deps = c in cc)
     go (m ∷ program) (p ∷ parses) (d ∷ lists) zero [] many path parse deps a b c e so_far =
         let am = one_value m path a in let bp = one_value p parse b in let cd = one_value d deps c in (
-          subst (λ (r : Bytes × Bytes). AreErrors r.0 d (source_in p.tree) sigs errs.faults) (sym am)
-              (subst (λ (r : Parse). AreErrors path.0 d (source_in r.tree) sigs errs.faults) (sym bp)
-              (subst (λ (r : Deps). AreErrors path.0 r (source_in parse.tree) sigs errs.faults) (sym cd) e)),
+          subst (λ (r : Bytes × Bytes). HasErrors r.0 d (source_in p.tree) sigs errs.faults) (sym am)
+              (subst (λ (r : Parse). HasErrors path.0 d (source_in r.tree) sigs errs.faults) (sym bp)
+              (subst (λ (r : Deps). HasErrors path.0 r (source_in parse.tree) sigs errs.faults) (sym cd) e)),
           tt,
         )
     go (m ∷ program) (p ∷ parses) (d ∷ lists) zero (o ∷ old) many path parse deps a b c e so_far = absurd (omega (arith, many))

@@ -11,7 +11,7 @@ use Rattle.source_front.specs.Front.{IsParse}
 use Rattle.merged_signatures.specs.Chains.{Known, View}
 use Rattle.merged_signatures.specs.Merged.{merged}
 use Rattle.errors_by_reach.specs.Seen.{Sigs}
-use Rattle.errors_by_reach.specs.Law.{AreErrors}
+use Rattle.errors_by_reach.specs.Law.{HasErrors}
 use Rattle.check_job.specs.Jobs.{source_in}
 use Rattle.program_check.specs.Full.{Results, beside, deps_in}
 
@@ -41,7 +41,7 @@ AreMerged view program sigs = AllZip (λ m sig. merged view m.0 ≡ Some sig) pr
 abbrev pub AreChecked : Sigs → Program → List Parse → List Deps → List Errs → Type 0
 AreChecked sigs program parses lists [] = Unit {0}
 AreChecked sigs (m ∷ program) (parse ∷ parses) (deps ∷ lists) (errs ∷ errors) =
-    AreErrors m.0 deps (source_in parse.tree) sigs errs.faults × AreChecked sigs program parses lists errors
+    HasErrors m.0 deps (source_in parse.tree) sigs errs.faults × AreChecked sigs program parses lists errors
 AreChecked sigs program parses lists errors = ⊥
 
 -- all results of the modules, in order
@@ -58,4 +58,4 @@ pub record IsCheckedAt (sigs : Sigs) (program : Program) (parses : List Parse) (
   pub at_path : slice_get program x ≡ Some path
   pub at_parse : slice_get parses x ≡ Some parse
   pub at_deps : slice_get lists x ≡ Some deps
-  pub errors : AreErrors path.0 deps (source_in parse.tree) sigs errs.faults
+  pub errors : HasErrors path.0 deps (source_in parse.tree) sigs errs.faults

@@ -145,7 +145,7 @@ fn errors_of<A: Analyst>(
     ensures work { Works result checking (A.work analyst.old) (A.work analyst.new) }
 {
     counted(&*analyst);
-    errors_by_reach::errors_by_reach();
+    reach_law::cut_is_right();
     let job = job_of(alloc, sources, signed, x)?;
     let errs = analyst.check(&job)?;
     Ok(Shared::new(alloc, errs)?)

@@ -15,8 +15,8 @@ both {A} start mid end xs ys first second = second ∙ ap (λ (l : List A). l ++
 pub from_none : {A : Type 0} (start end xs : List A) → start ≡ [] → end ≡ start ++ xs → end ≡ xs
 from_none {A} start end xs none is = is ∙ ap (λ (l : List A). l ++ xs) none
 
-pub from_three : {A : Type 0} (start mid late end xs ys zs : List A) → start ≡ [] → mid ≡ start ++ xs → late ≡ mid ++ ys → end ≡ late ++ zs → end ≡ xs ++ (ys ++ zs)
-from_three start mid late end xs ys zs none first second third = from_none start end (xs ++ (ys ++ zs)) none (both start mid end xs (ys ++ zs) first (both mid late end ys zs second third))
+pub from_two : {A : Type 0} (start mid end xs ys : List A) → start ≡ [] → mid ≡ start ++ xs → end ≡ mid ++ ys → end ≡ xs ++ ys
+from_two start mid end xs ys none first second = from_none start end (xs ++ ys) none (both start mid end xs ys first second)
 
 -- the name of a function's declaration
 pub declares : (f t : ℕ) (name : Option Bytes) (s : g.Sig) (b : g.Block) → typing.declared_by (g.function_stmt (g.function f t name s b)) ≡ typing.name_list name

@@ -1,9 +1,10 @@
 -- What the values of the code's trees stand for, a step at a time.
 use Rattle.std.proofs.Common.{◌≡◌, Bool, List, ap, ◌∙◌, rules}
-use Rattle.js_grammar.specs.Code.{postfixed, chain, cond as conditional, arrow, link, call, stmt, function, block, branch, arm, assign, function_stmt, branches, loop}
+use Rattle.js_grammar.specs.Code.{postfixed, chain, cond as conditional, arrow, link, call, stmt, function, function_ex, block, branch, arm, assign, function_stmt, branches, loop}
 use Rattle.code_tree.specs.Flat.{level_view, signature_view}
-use Rattle.code_tree.specs.View.{expr_view, postfix_expr_view, chain_expr_view, conditional_expr_view, arrow_expr_view, arrow_body_view, link_view, link_form_view, operand_view, arm_view, function_view, block_view, statement_view, statement_form_view, assignment_view, if_statement_view, else_view, while_statement_view, body_view, branch_view, exprs_view, links_view, operands_view, arms_view, statements_view, branches_view}
-use Rattle.code_tree.specs.declared.types.ExprForm.{the_lemmas}
+use Rattle.code_tree.specs.View.{expr_view, expr_form_view, postfix_expr_view, chain_expr_view, conditional_expr_view, arrow_expr_view, arrow_body_view, link_view, link_form_view, operand_view, arm_view, function_view, block_view, statement_view, statement_form_view, assignment_view, if_statement_view, else_view, while_statement_view, body_view, branch_view, exprs_view, links_view, operands_view, arms_view, statements_view, branches_view}
+use Rattle.code_tree.specs.declared.types.ExprForm.{ExprForm, the_lemmas}
+use Rattle.code_tree.specs.declared.types.ExprForm as expr_form
 use Rattle.code_tree.specs.declared.types.Function.{Function, out-Function}
 use Rattle.code_tree.specs.declared.types.Block.{Block, out-Block}
 use Rattle.code_tree.specs.declared.types.Branch.{Branch, out-Branch}
@@ -82,3 +83,7 @@ link_form_call x es comma is = ap link_form_view is ∙ search (rules, the_lemma
 pub statement_form_function : (x : StatementForm) (made : Function) → x ≡ statement_form.Function made → statement_form_view x ≡ function_stmt (function_view made)
 unfolding statement_form_view function_view
 statement_form_function x made is = ap statement_form_view is ∙ search (rules, the_lemmas)
+
+pub expr_form_function : (x : ExprForm) (made : Function) → x ≡ expr_form.Function made → expr_form_view x ≡ function_ex (function_view made)
+unfolding expr_form_view function_view
+expr_form_function x made is = ap expr_form_view is ∙ search (rules, the_lemmas)

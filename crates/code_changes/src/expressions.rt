@@ -2,11 +2,12 @@
 #![tactic(auto, unfolding(code_tree::specs::View::expr_view, code_tree::specs::View::expr_form_view, code_tree::specs::View::postfix_expr_view, code_tree::specs::View::chain_expr_view, code_tree::specs::View::conditional_expr_view, code_tree::specs::View::arrow_expr_view, code_tree::specs::View::arrow_body_view, code_tree::specs::View::link_view, code_tree::specs::View::link_form_view, code_tree::specs::View::operand_view, code_tree::specs::View::operand_form_view, code_tree::specs::View::field_view, code_tree::specs::View::field_form_view, code_tree::specs::View::arm_view, code_tree::specs::View::function_view, code_tree::specs::View::exprs_view, code_tree::specs::View::links_view, code_tree::specs::View::operands_view, code_tree::specs::View::fields_view, code_tree::specs::View::arms_view, code_tree::specs::View::statements_view, code_tree::specs::View::block_view))]
 
 ghost use Rattle.std.specs.Prelude.{OnOk};
+ghost use Rattle.js_grammar.specs.Code.{function_ex};
 ghost use Rattle.typing.specs.Changes.{changes_of_ex, changes_of_ex_form, changes_of_exs, changes_of_link, changes_of_links, changes_of_operand, changes_of_operands, changes_of_field, changes_of_fields, changes_of_arm, changes_of_arms, changes_of_function, changes_of_arrow};
 ghost use Rattle.code_tree.specs.View.{expr_view, expr_form_view, postfix_expr_view, chain_expr_view, conditional_expr_view, arrow_expr_view, arrow_body_view, link_view, operand_view, field_view, arm_view, function_view, exprs_view, links_view, operands_view, fields_view, arms_view};
 ghost use Rattle.code_changes.specs.Walks.{Tells};
 
-use crate::names::{names_of_function, names_of_signature};
+use crate::names::{name_of_function, names_of_function, names_of_signature};
 use crate::statements::{walk_block, walk_statements};
 use crate::walk::Walk;
 use code_tree::{
@@ -31,7 +32,7 @@ fn walk_form(form: &ExprForm, walk: &mut Walk) -> Result<(), NoMemory>
         ExprForm::Paren(inner) => walk_expr(inner.get(), walk),
         ExprForm::Array { elements, comma: _ } => { walk_exprs(elements.as_slice(), walk) }
         ExprForm::Object { fields, comma: _ } => walk_fields(fields.as_slice(), walk),
-        ExprForm::Function(function) => walk_function(function.get(), walk),
+        ExprForm::Function(function) => walk_named(function.get(), walk),
         ExprForm::Postfix(e) => walk_postfix(e, walk),
         ExprForm::Prefix { marks: _, operand } => walk_expr(operand.get(), walk),
         ExprForm::Chain(e) => walk_chain(e, walk),
@@ -164,13 +165,25 @@ fn walk_arm(arm: &Arm, walk: &mut Walk) -> Result<(), NoMemory>
     walk_expr(&arm.branch, walk)
 }
 
-/// Walks through a function, whose own names are not those outside.
+// Walks through a function's expression, whose name only it has.
+#[cycle(changing)]
+fn walk_named(function: &Function, walk: &mut Walk) -> Result<(), NoMemory>
+    ensures { OnOk result (Tells walk.old walk.new (changes_of_ex_form (function_ex (function_view function.now)))) }
+{
+    let own = name_of_function(walk.alloc, &function.name)?;
+    let outside = walk.enter(false, own.as_slice())?;
+    walk_function(function, walk)?;
+    walk.leave(outside);
+    Ok(())
+}
+
+/// Walks through a function: the names that it binds are not those outside.
 #[cycle(changing)]
 pub(crate) fn walk_function(function: &Function, walk: &mut Walk) -> Result<(), NoMemory>
     ensures { OnOk result (Tells walk.old walk.new (changes_of_function (function_view function.now))) }
 {
     let statements = function.body.statements.as_slice();
-    let own = names_of_function(walk.alloc, &function.name, &function.signature, statements)?;
+    let own = names_of_function(walk.alloc, &function.signature, statements)?;
     let outside = walk.enter(true, own.as_slice())?;
     walk_statements(statements, walk)?;
     walk.leave(outside);

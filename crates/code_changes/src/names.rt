@@ -1,5 +1,5 @@
 //! The names that parameters and statements bind.
-#![tactic(auto, using(crate::proofs::Lists::declares, crate::proofs::Lists::from_none, crate::proofs::Lists::from_three), unfolding(code_tree::specs::View::statement_view, code_tree::specs::View::statement_form_view, code_tree::specs::View::declaration_view, code_tree::specs::View::function_view, code_tree::specs::Flat::signature_view, code_tree::specs::Flat::parameter_view))]
+#![tactic(auto, using(crate::proofs::Lists::declares, crate::proofs::Lists::from_none, crate::proofs::Lists::from_two), unfolding(code_tree::specs::View::statement_view, code_tree::specs::View::statement_form_view, code_tree::specs::View::declaration_view, code_tree::specs::View::function_view, code_tree::specs::Flat::signature_view, code_tree::specs::Flat::parameter_view))]
 
 ghost use Rattle.std.specs.Prelude.{◌≡◌, ◌++◌, OnOk, IfOk};
 ghost use Rattle.typing.specs.Changes.{declared_in, parameter_names, name_list, names_of_sig};
@@ -62,21 +62,32 @@ fn add_declared_in(all: &[Statement], own: &mut List<Text>) -> Result<(), NoMemo
     Ok(())
 }
 
-/// The names of a function: its own, its parameters', and those that its body declares.
+/// The name of a function, if it has one.
+///
+/// # Errors
+///
+/// `NoMemory` where memory is refused.
+pub(crate) fn name_of_function(alloc: Global, name: &Option<Text>) -> Result<List<Text>, NoMemory>
+    ensures { IfOk result (λ own. own ≡ name_list name.now) }
+{
+    let mut own = List::new(alloc);
+    add_name(name, &mut own)?;
+    Ok(own)
+}
+
+/// The names that a function binds: its parameters', and those that its body declares.
 ///
 /// # Errors
 ///
 /// `NoMemory` where memory is refused.
 pub(crate) fn names_of_function(
     alloc: Global,
-    name: &Option<Text>,
     signature: &Signature,
     statements: &[Statement],
 ) -> Result<List<Text>, NoMemory>
-    ensures { IfOk result (λ own. own ≡ name_list name.now ++ (names_of_sig (signature_view signature.now) ++ declared_in (statements_view statements.now))) }
+    ensures { IfOk result (λ own. own ≡ names_of_sig (signature_view signature.now) ++ declared_in (statements_view statements.now)) }
 {
     let mut own = List::new(alloc);
-    add_name(name, &mut own)?;
     add_signature(signature, &mut own)?;
     add_declared_in(statements, &mut own)?;
     Ok(own)

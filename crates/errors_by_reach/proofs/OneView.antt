@@ -1,5 +1,5 @@
 -- A module sees one thing by a table.
-use Rattle.std.proofs.Common.{◌≡◌, ◌↔◌, ℕ, Bool, true, false, IsTrue, List, [], ◌∷◌, refl, sym, ap, subst}
+use Rattle.std.proofs.Common.{◌≡◌, ◌↔◌, Bool, true, false, IsTrue, [], ◌∷◌, refl, sym, subst}
 use Rattle.js_grammar.specs.Items.{Module}
 use Rattle.check_values.specs.Rows.{Bytes}
 use Rattle.check_values.specs.declared.signatures.Deps.{Deps}

@@ -1,5 +1,5 @@
 -- What agrees where a module reaches reaches the same, and has the same table.
-use Rattle.std.proofs.Common.{◌≡◌, ℕ, List, Option, Some, None, sym}
+use Rattle.std.proofs.Common.{◌≡◌, Option, Some, None, sym}
 use Rattle.check_values.specs.Rows.{Bytes}
 use Rattle.check_values.specs.declared.signatures.Deps.{Deps}
 use Rattle.check_values.specs.declared.signatures.Sig.{Sig}
@@ -16,6 +16,10 @@ back : (sigs others : Sigs) (deps : Deps) → Agree sigs deps others → (p : By
 back sigs others deps agree _ (by_specifier spec p e) = by_specifier spec p e
 back sigs others deps agree _ (by_signature p q s r e c) =
     let h : Reach sigs deps p = back sigs others deps agree p r in by_signature p q s h (rw (sym (agree p h)) e) c
+
+-- they agree with one another
+pub agree_back : (sigs others : Sigs) (deps : Deps) → Agree sigs deps others → Agree others deps sigs
+agree_back sigs others deps agree p reach = sym (agree p (back sigs others deps agree p reach))
 
 pub same_table : (sigs others table : Sigs) (deps : Deps) → Agree sigs deps others → IsTable sigs deps table → IsTable others deps table
 same_table sigs others table deps agree t = record {

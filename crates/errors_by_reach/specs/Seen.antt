@@ -1,6 +1,5 @@
 -- What a module sees of the program, by the merged signatures that it reaches.
-use Rattle.std.specs.Prelude.{◌≡◌, ◌↔◌, ℕ, Bool, IsTrue, List, [], ◌∷◌, Option, Some, None, unwrap_or, if◌then◌else◌}
-use Rattle.std.specs.Option.{option_or}
+use Rattle.std.specs.Prelude.{◌≡◌, ◌↔◌, Bool, IsTrue, [], ◌∷◌, Option, Some, None, unwrap_or, if◌then◌else◌}
 use Rattle.std.specs.Str.{bytes_eq}
 use Rattle.js_grammar.specs.Items.{Module}
 use Rattle.check_values.specs.Rows.{Bytes, row_at}
@@ -27,7 +26,7 @@ pub record IsTable (sigs : Sigs) (deps : Deps) (table : Sigs) : Type 0 where
   pub has : (path : Bytes) → Reach sigs deps path → table path ≡ sigs path
   pub only : (path : Bytes) (s : Sig) → table path ≡ Some s → Reach sigs deps path
 
--- ---- the types of aliases: the module's own first, then those of the table
+-- ---- the types of aliases: the module's own by its tree, all others by the table
 
 -- what a name of the module means as a type
 abbrev pub meaning_in : Bytes → Deps → Sigs → Module → Bytes → TypeMeaning
@@ -46,8 +45,7 @@ alias_told name (Some s) = row_at s.aliases name
 -- the type of an alias, by its module and its name
 abbrev pub alias_type : Bytes → Deps → Module → Sigs → Key → Option FlowType
 alias_type path deps m table key =
-    option_or (if bytes_eq key.0 path then own_alias (meaning_in path deps table m) (row_at (scope_of m) key.1) else None)
-    (alias_told key.1 (table key.0))
+    if bytes_eq key.0 path then own_alias (meaning_in path deps table m) (row_at (scope_of m) key.1) else alias_told key.1 (table key.0)
 
 -- what a name unfolds to: its type, and `any` where it lies on a cycle or is missing
 abbrev pub unfolded : (Key → Bool) → (Key → Option FlowType) → Key → FlowType

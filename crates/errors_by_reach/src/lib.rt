@@ -1,12 +1,14 @@
-//! The errors of a module in a program, and the law that they depend on other modules only where it reaches. The definitions stand
-//! in `specs/`; the code here is the law, as the contract of a function that does nothing.
+//! The errors of a module in a program: those by all merged signatures, and those by the signatures alone that it reaches, which is
+//! what a job is to find. That they are the same is the law of `reach_law`. The definitions stand in `specs/`; the code here is what
+//! holds of them at once, as the contract of a function that does nothing.
 #![tactic(auto)]
 
-ghost use Rattle.errors_by_reach.specs.Law.{KeyLaw, OneAnswer};
+ghost use Rattle.errors_by_reach.specs.Law.{CutAgrees, OneAnswer, OneByReach};
 
-/// A module's errors are the same in all programs whose merged signatures agree where the module reaches, and there is one list of
-/// them.
+/// A module has one list of errors by all signatures and one by those that it reaches; by these it has the same with all signatures
+/// that agree there.
 pub fn errors_by_reach()
-    ensures law { KeyLaw }
     ensures one { OneAnswer }
+    ensures one_by_reach { OneByReach }
+    ensures cut { CutAgrees }
 {}

@@ -1,5 +1,5 @@
 -- What a module sees of a program, by the rows of its aliases; and its errors by that.
-use Rattle.std.proofs.Common.{◌≡◌, ◌⊎◌, inl, inr, ◌↔◌, Bool, true, false, cond, List, [], ◌∷◌, ◌++◌, map, Contains, Option, Some, None, unwrap_or, bytes_eq, refl, sym, ap, ◌∙◌, subst, if◌then◌else◌}
+use Rattle.std.proofs.Common.{◌≡◌, ◌⊎◌, inl, inr, ◌↔◌, Bool, true, false, List, [], ◌∷◌, ◌++◌, map, Contains, Option, Some, None, unwrap_or, bytes_eq, refl, sym, ◌∙◌, subst, if◌then◌else◌}
 use Rattle.std.specs.Prelude.{IsTrue}
 use Rattle.std.specs.Option.{option_or}
 use Rattle.std.specs.Cmp.Lexicographic.{bytes_decides}
@@ -15,8 +15,7 @@ use Rattle.alias_members.proofs.ByRows.{rows_unfold, members_by_rows}
 use Rattle.subtyping.specs.Closed.{IsBelow}
 use Rattle.subtyping.proofs.Decided.{decided}
 use Rattle.subtyping.proofs.Whole.{here, there}
-use Rattle.check_values.specs.Rows.{Bytes, Rows, row_at}
-use Rattle.check_values.specs.declared.faults.Fault.{Fault}
+use Rattle.check_values.specs.Rows.{Bytes, row_at}
 use Rattle.check_values.specs.declared.signatures.Deps.{Deps}
 use Rattle.check_values.specs.declared.signatures.Sig.{Sig}
 use Rattle.js_grammar.specs.Items.{Module}
@@ -25,10 +24,10 @@ use Rattle.module_errors.specs.Program.{Program}
 use Rattle.module_errors.specs.Errors.{module_errors, broken_errors}
 use Rattle.errors_by_reach.specs.Seen as seen
 use Rattle.errors_by_reach.specs.Seen.{Sigs, own_alias, meaning_in, alias_told, IsSeen}
-use Rattle.errors_by_reach.specs.Law.{Source, whole, broken, AreErrors}
-use Rattle.errors_law.specs.Law.{EachHasErrors}
+use Rattle.errors_by_reach.specs.Law.{whole, broken}
+use Rattle.errors_law.specs.Law.{EachHasErrors, EachSees, EachSeesReached}
 use Rattle.errors_law.proofs.Ways.{HasPlace}
-use Rattle.errors_law.proofs.Reached.{same_bytes, has_row, table_of, is_table, table_path}
+use Rattle.errors_law.proofs.Reached.{has_row, table_of, is_table, table_path}
 use Rattle.errors_law.proofs.AliasRows.{append_rows, rows_for, own_told, other_home, table_rows, all_told}
 
 none_some : {A X : Type 0} (x : A) → None ≡ Some x → X
@@ -127,12 +126,21 @@ module _ (path : Bytes) (deps : Deps) (m : Module) (table : Sigs) (paths : List 
   own_names : List Bytes
   own_names = map (λ (row : Bytes × Binding). row.0) (scope_of m)
 
-  all_rows : List Row
-  all_rows = rows_for path own_types own_names ++ table_rows table paths
+  -- what the table tells of other modules
+  others : Sigs
+  others q = if bytes_eq q path then None else table q
 
-  told_path : (name : Bytes) (o : Option Sig) (q : Bytes) (t : FlowType) → table q ≡ o → alias_told name o ≡ Some t → HasPlace paths q
-  told_path name None q t at is = none_some t is
-  told_path name (Some s) q t at is = among q s at
+  all_rows : List Row
+  all_rows = rows_for path own_types own_names ++ table_rows others paths
+
+  told_path : (name q : Bytes) (t : FlowType) → alias_told name (others q) ≡ Some t → HasPlace paths q
+  unfolding others
+  told_path name q t is = go (bytes_eq q path) (table q) refl is
+    where
+      go : (b : Bool) (o : Option Sig) → table q ≡ o → alias_told name (if b then None else o) ≡ Some t → HasPlace paths q
+      go true o at told = none_some t told
+      go false None at told = none_some t told
+      go false (Some s) at told = among q s at
 
   own_rows_told : (key : Key) (b : Bool) → bytes_eq key.0 path ≡ b → alias_type (rows_for path own_types own_names) key ≡ (if b then own_types key.1 else None)
   unfolding own_types own_names
@@ -142,21 +150,33 @@ module _ (path : Bytes) (deps : Deps) (m : Module) (table : Sigs) (paths : List 
   own_rows_told key false is = other_home path own_types own_names key (λ same. let z : false ≡ true = sym is ∙ (bytes_decides key.0 path).1 same in cc)
 
   rows_tell : (key : Key) → seen.alias_type path deps m table key ≡ alias_type all_rows key
-  unfolding all_rows own_types
+  unfolding all_rows own_types others
   rows_tell key =
-      sym (append_rows (rows_for path own_types own_names) (table_rows table paths) key
-      ∙ (λ i. option_or (own_rows_told key (bytes_eq key.0 path) refl i) (all_told table paths key (λ t is. told_path key.1 (table key.0) key.0 t refl is) i)))
+      sym (append_rows (rows_for path own_types own_names) (table_rows others paths) key
+      ∙ (λ i. option_or (own_rows_told key (bytes_eq key.0 path) refl i) (all_told others paths key (λ t is. told_path key.1 key.0 t is) i))
+      ∙ go (bytes_eq key.0 path) (own_types key.1) (table key.0))
+    where
+      go : (b : Bool) (own : Option FlowType) (o : Option Sig) → option_or (if b then own else None) (alias_told key.1 (if b then None else o)) ≡ (if b then own else alias_told key.1 o)
+      go true None o = refl
+      go true (Some t) o = refl
+      go false own o = refl
 
--- ---- errors
+-- ---- what a module sees by all signatures, and by those that it reaches; its errors
 
-pub each_has_errors : EachHasErrors
-each_has_errors path deps (broken code place) sigs =
-    (broken_errors code place, (table_of deps sigs, is_table deps sigs, refl))
-each_has_errors path deps (whole m spans) sigs =
-    let table = table_of deps sigs in
-    let paths = map (λ (row : Bytes × Sig). row.0) sigs in
-    let among = table_path deps sigs in
+sees_by : (path : Bytes) (deps : Deps) (m : Module) (table : Sigs) (paths : List Bytes) → ((q : Bytes) (s : Sig) → table q ≡ Some s → HasPlace paths q) → (p : Program) × IsSeen path deps m table p
+sees_by path deps m table paths among =
     let rows = all_rows path deps m table paths among in
     let same : seen.alias_type path deps m table ≡ alias_type rows = (λ i key. rows_tell path deps m table paths among key i) in
-    let p = program path deps m table rows same in
-    (module_errors p m spans, (table, is_table deps sigs, (p, is_seen path deps m table rows same, refl)))
+    (program path deps m table rows same, is_seen path deps m table rows same)
+
+pub each_sees : EachSees
+each_sees path deps m sigs = sees_by path deps m (row_at sigs) (map (λ (row : Bytes × Sig). row.0) sigs) (λ q s is. has_row sigs q s is)
+
+pub each_sees_reached : EachSeesReached
+each_sees_reached path deps m sigs =
+    let sees = sees_by path deps m (table_of deps sigs) (map (λ (row : Bytes × Sig). row.0) sigs) (table_path deps sigs) in
+    (table_of deps sigs, is_table deps sigs, sees.0, sees.1)
+
+pub each_has_errors : EachHasErrors
+each_has_errors path deps (broken code place) sigs = (broken_errors code place, refl)
+each_has_errors path deps (whole m spans) sigs = let sees = each_sees path deps m sigs in (module_errors sees.0 m spans, (sees.0, sees.1, refl))

@@ -3,9 +3,15 @@
 //! that does nothing.
 #![tactic(auto)]
 
-ghost use Rattle.errors_law.specs.Law.{EachHasErrors};
+ghost use Rattle.errors_law.specs.Law.{EachHasErrors, EachSees, EachSeesReached};
 
 /// Each module has errors.
 pub fn each_has_errors()
     ensures { EachHasErrors }
+{}
+
+/// Each module sees something by all signatures of a program, and by those that it reaches.
+pub fn each_sees()
+    ensures all { EachSees }
+    ensures reached { EachSeesReached }
 {}

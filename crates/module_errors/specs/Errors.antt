@@ -37,9 +37,13 @@ module_read p (module_of f t is) spans watch =
     let w = world_of p (module_of f t is) spans watch in
     read_items w p (module_of f t is) is (top_env w p is)
 
--- The errors of a module: the set of its faults, in order.
+-- The errors of a module whose signature has these faults: the set of all its faults, in order.
+abbrev pub errors_beside : List Fault → Program → Module → List Span → List Fault
+errors_beside first p m spans = faults_in_order (first ++ (module_read p m spans None).notes.faults)
+
+-- the errors of a module
 abbrev pub module_errors : Program → Module → List Span → List Fault
-module_errors p m spans = faults_in_order (signature_faults m spans ++ (module_read p m spans None).notes.faults)
+module_errors p m spans = errors_beside (signature_faults m spans) p m spans
 
 -- the one error of a source that has no tree, at a byte place
 abbrev pub broken_errors : Code → ℕ → List Fault

@@ -130,7 +130,7 @@ read_item_form w p m f t (exports form) env = read_export w p m t form env
 read_item_form w p m f t (declares_item d) env = read_declaration w d env
 read_item_form w p m f t (function_item made_by) env = read_top_function w made_by env
 read_item_form w p m f t (alias_item a) env = noted_env (alias_read w p env.scope a) env
-read_item_form w p m f t (does_item (simple sf st form)) env = read_simple w f t form env
+read_item_form w p m f t (does_item (simple sf st form)) env = read_simple w sf st form env
 
 abbrev pub read_item : World → Program → Module → Item → Env → Env
 read_item w p m (item f t form) env = read_item_form w p m f t form env

@@ -2,6 +2,7 @@
 use Rattle.std.proofs.Common.{◌≡◌, List, [], ◌∷◌, map, Option, Some, None, refl, sym, ap, ◌∙◌, subst}
 use Rattle.flow_base.specs.Program.{Bytes, Program, paths_of}
 use Rattle.check_values.specs.Rows.{row_at}
+use Rattle.check_values.specs.declared.faults.Fault.{Fault}
 use Rattle.check_values.specs.declared.signatures.Deps.{Deps}
 use Rattle.check_values.specs.declared.signatures.LocalSig.{LocalSig}
 use Rattle.check_values.specs.declared.signatures.Sig.{Sig}
@@ -16,7 +17,7 @@ use Rattle.module_resolution.specs.Dependencies.{dependencies_of}
 use Rattle.merged_signatures.specs.Chains.{View}
 use Rattle.merged_signatures.specs.Merged.{merged}
 use Rattle.errors_by_reach.specs.Seen.{Sigs}
-use Rattle.errors_by_reach.specs.Law.{Source, whole, broken, AreErrors, OneAnswer}
+use Rattle.errors_by_reach.specs.Law.{Source, whole, broken, HasErrors, OneAnswer}
 use Rattle.check_job.specs.Jobs.{source_in, fault_code, fault_place}
 use Rattle.program_check.specs.Full.{Results, beside, known_of, module_in, deps_in, AreResultsOf, AreResults, IsFull}
 use Rattle.program_check.specs.Law.{Alike, AllAlike, OneFull}
@@ -42,6 +43,13 @@ same_source a b s = source_seen a.tree ∙ (ap source_of_seen s.0 ∙ sym (sourc
 
 same_deps : (paths : List Bytes) (path : Bytes) (a b : Parse) → Same a b → deps_in paths path a ≡ deps_in paths path b
 same_deps paths path a b s = ap (dependencies_of paths path) (module_seen a.tree ∙ (ap module_of_seen s.0 ∙ sym (module_seen b.tree)))
+
+-- errors of one source, by one list of dependencies
+same_errors : OneAnswer → (path : Bytes) (deps others : Deps) (source other : Source) (sigs : Sigs) (a b : List Fault) → deps ≡ others → source ≡ other
+    → HasErrors path deps source sigs a → HasErrors path others other sigs b → a ≡ b
+same_errors one_answer path deps others source other sigs a b same_list is h k =
+    one_answer path others other sigs a b
+    (subst (λ (d : Deps). HasErrors path d other sigs a) same_list (subst (λ (x : Source). HasErrors path deps x sigs a) is h)) k
 
 some_same : {X : Type 0} (x y : X) → Some x ≡ Some y → x ≡ y
 some_same x y e = cc
@@ -96,9 +104,7 @@ module _ (one_parse : OneParse) (one_answer : OneAnswer) (paths : List Bytes) (v
         parse = same;
         deps = deps;
         sig = sig_alike paths v s s path text a b p q;
-        errors = one_answer path b.deps (source_in b.parse.tree) s a.errors b.errors
-            (subst (λ (d : Deps). AreErrors path d (source_in b.parse.tree) s a.errors) deps
-            (subst (λ (x : Source). AreErrors path a.deps x s a.errors) source p.errors)) q.errors;
+        errors = same_errors one_answer path a.deps b.deps (source_in a.parse.tree) (source_in b.parse.tree) s a.errors b.errors deps source p.errors q.errors;
       }
 
   all_alike : (program : Program) (a b : List Results) → AreResults paths v s program a → AreResults paths v s program b → AllAlike a b

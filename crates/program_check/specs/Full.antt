@@ -15,7 +15,7 @@ use Rattle.module_resolution.specs.Dependencies.{dependencies_of}
 use Rattle.merged_signatures.specs.Chains.{Known, View}
 use Rattle.merged_signatures.specs.Merged.{merged}
 use Rattle.errors_by_reach.specs.Seen.{Sigs}
-use Rattle.errors_by_reach.specs.Law.{AreErrors}
+use Rattle.errors_by_reach.specs.Law.{HasErrors}
 use Rattle.check_job.specs.Jobs.{source_in}
 
 -- what the check gives a module: what its source says by itself, which modules its specifiers find, its merged signature, its errors
@@ -55,7 +55,7 @@ pub record AreResultsOf (paths : List Bytes) (view : View) (sigs : Sigs) (path t
   pub parse : IsParse text r.parse
   pub deps : r.deps ≡ deps_in paths path r.parse
   pub sig : merged view path ≡ Some r.sig
-  pub errors : AreErrors path r.deps (source_in r.parse.tree) sigs r.errors
+  pub errors : HasErrors path r.deps (source_in r.parse.tree) sigs r.errors
 
 -- and so for each module, in order
 abbrev pub AreResults : List Bytes → View → Sigs → Program → List Results → Type 0

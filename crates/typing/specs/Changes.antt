@@ -52,6 +52,10 @@ abbrev pub name_list : Option Bytes → List Bytes
 name_list None = []
 name_list (Some name) = name ∷ []
 
+-- the name of a function, if it has one
+abbrev pub name_of_function : Function → List Bytes
+name_of_function (function f t name s b) = name_list name
+
 -- what an assignment to a target that ends in this link changes
 abbrev pub change_of_link : LinkForm → List Change
 change_of_link (member name) = sets_property name ∷ []
@@ -78,7 +82,7 @@ abbrev mutual
   changes_of_ex_form (parens e) = changes_of_ex e
   changes_of_ex_form (elements es comma) = changes_of_exs es
   changes_of_ex_form (fields fs comma) = changes_of_fields fs
-  changes_of_ex_form (function_ex f) = changes_of_function f
+  changes_of_ex_form (function_ex f) = outside (name_of_function f) (changes_of_function f)
   changes_of_ex_form (postfixed e ls) = changes_of_ex e ++ changes_of_links ls
   changes_of_ex_form (prefixed ps e) = changes_of_ex e
   changes_of_ex_form (chain level e os) = changes_of_ex e ++ changes_of_operands os
@@ -131,10 +135,10 @@ abbrev mutual
   changes_of_arms no_arm = []
   changes_of_arms (more_arm arms a) = changes_of_arms arms ++ changes_of_arm a
 
-  -- in a function: its own names are not those outside
+  -- In a function the names that it binds are not those outside. Its own name is one of the scope round it: a declaration's that in
+  -- which it stands, an expression's one that has that name alone.
   pub changes_of_function : Function → List Change
-  changes_of_function (function f t name s (block bf bt ss)) =
-      outside (name_list name ++ (names_of_sig s ++ declared_in ss)) (filter_map from_inside (changes_of_stmts ss))
+  changes_of_function (function f t name s (block bf bt ss)) = outside (names_of_sig s ++ declared_in ss) (filter_map from_inside (changes_of_stmts ss))
 
   -- in an arrow's body, its parameters among the names still
   pub changes_of_arrow : ArrowBody → List Change

@@ -7,7 +7,7 @@ use Rattle.js_grammar.specs.Code.{field, FieldForm, shorthand, valued, Fields, n
 use Rattle.check_values.specs.Rows.{Bytes}
 use Rattle.check_values.specs.declared.codes.Code.TheVariants.{NameAlreadyBound, PropMissing}
 use Rattle.check_values.specs.declared.faults.Fault.{Fault}
-use Rattle.type_values.specs.declared.types.FlowType.{FlowType, out-FlowType}
+use Rattle.type_values.specs.declared.types.FlowType.{FlowType}
 use Rattle.type_values.specs.declared.types.FlowType as made
 use Rattle.type_values.specs.declared.types.FlowProp.{FlowProp, out-FlowProp}
 use Rattle.type_values.specs.declared.types.Variance.TheVariants.{Both}

@@ -193,7 +193,7 @@ abbrev mutual
   pub read_stmt : World → ℕ → ℕ → StmtForm → Env → Env
   read_stmt w f t (declares d) env = read_declaration w d env
   read_stmt w f t (function_stmt declared_by) env = with_now (read_function w false declared_by env.scope (now_of env)).now env
-  read_stmt w f t (does (simple sf st form)) env = read_simple w f t form env
+  read_stmt w f t (does (simple sf st form)) env = read_simple w sf st form env
   read_stmt w f t (branches bs last) env =
       let k = read_branches w bs env in
       merged k.arms (read_else w last k.env)
@@ -209,7 +209,7 @@ abbrev mutual
       let now = change_notes (annotation_read w annotation) (now_of env) in
       declared_env w f binder (annotated w annotation) (read w e env.scope (annotated w annotation) now) env
 
-  -- a simple statement at these tokens
+  -- a simple statement at these tokens, without its semicolon
   pub read_simple : World → ℕ → ℕ → SimpleForm → Env → Env
   read_simple w f t return_bare env = returned_bare w f t env
   read_simple w f t (return_value e) env = returned_value (read w e env.scope env.scope.result (now_of env)) env
@@ -250,7 +250,7 @@ abbrev mutual
   -- a simple statement is a list of its own, and ends behind its semicolon
   pub read_body : World → Body → Env → Env
   read_body w (block_body b) env = read_block w b env
-  read_body w (simple_body (simple f t form)) env = leave env (read_simple w f (suc t) form (reach w f (suc t) env))
+  read_body w (simple_body (simple f t form)) env = leave env (read_simple w f t form (reach w f (suc t) env))
 
   -- a block, which is a scope of its own
   pub read_block : World → Block → Env → Env

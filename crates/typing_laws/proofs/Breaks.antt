@@ -72,7 +72,7 @@ mutual
   statement_before : (w : World) (f t : ℕ) (form : StmtForm) (facts : Known) (env : Env) → read_stmt w f t form (left_before facts env) ≡ left_before facts (read_stmt w f t form env)
   statement_before w f t (declares (declaration df dt binder name annotation v)) facts env = refl
   statement_before w f t (function_stmt declared_by) facts env = refl
-  statement_before w f t (does (simple sf st form)) facts env = simple_before w f t form facts env
+  statement_before w f t (does (simple sf st form)) facts env = simple_before w sf st form facts env
   statement_before w f t (branches bs last) facts env =
       let k : Fork = read_branches w bs env in
       ap (λ (x : Fork). merged x.arms (read_else w last x.env)) (branches_before w bs facts env) ∙ ap (merged k.arms) (else_before w last facts k.env)
@@ -94,7 +94,7 @@ mutual
   body_before : (w : World) (body : Body) (facts : Known) (env : Env) → read_body w body (left_before facts env) ≡ left_before facts (read_body w body env)
   body_before w (block_body b) facts env = block_before w b facts env
   body_before w (simple_body (simple f t form)) facts env =
-      ap (λ (e : Env). leave env (read_simple w f (suc t) form e)) (reach_before w f (suc t) facts env) ∙ ap (leave env) (simple_before w f (suc t) form facts (reach w f (suc t) env))
+      ap (λ (e : Env). leave env (read_simple w f t form e)) (reach_before w f (suc t) facts env) ∙ ap (leave env) (simple_before w f t form facts (reach w f (suc t) env))
 
   block_before : (w : World) (b : Block) (facts : Known) (env : Env) → read_block w b (left_before facts env) ≡ left_before facts (read_block w b env)
   block_before w (block f t ss) facts env = ap (leave env) (statements_before w ss facts (enter_block w (changes_of_stmts ss) ss env))

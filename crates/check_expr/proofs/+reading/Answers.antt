@@ -526,30 +526,30 @@ statements::read_statement-returns-in_ok-read_function-in-Function-clause-env t 
     function_stmt_told (world_view c.args.world.now) (out-Statement c.args.statement.now).first (out-Statement c.args.statement.now).end (out-Statement c.args.statement.now).form c.in-Function.function c.in_ok-read_function-in-Function.field-0 c.args.state.now c.read_function.new.state c.in-Function.is c.in_ok-read_function-in-Function.ensures.made c.in_ok-read_function-in-Function.ensures.around
 
 pub statements::read_simple-returns-in-Return-clause-env : goal.statements::read_simple-returns-in-Return-clause-env
-statements::read_simple-returns-in-Return-clause-env t c = env_on c.return_bare.result c.return_bare.new.self _ _ (c.return_bare.ensures.env) (sym (simple_as (world_view c.args.world.now) c.args.first c.args.end (simple_form_view (out-Simple c.args.simple.now).form) _ (env c.args.state.now) (simple_form_return (out-Simple c.args.simple.now).form c.in-Return.is)))
+statements::read_simple-returns-in-Return-clause-env t c = env_on c.return_bare.result c.return_bare.new.self _ _ (c.return_bare.ensures.env) (sym (simple_as (world_view c.args.world.now) (out-Simple c.args.simple.now).first (out-Simple c.args.simple.now).end (simple_form_view (out-Simple c.args.simple.now).form) _ (env c.args.state.now) (simple_form_return (out-Simple c.args.simple.now).form c.in-Return.is)))
 
 pub statements::read_simple-returns-in-ReturnValue-clause-env : goal.statements::read_simple-returns-in-ReturnValue-clause-env
-statements::read_simple-returns-in-ReturnValue-clause-env t c = env_on c.read_returned.result c.read_returned.new.state _ _ (c.read_returned.ensures.env) (sym (simple_as (world_view c.args.world.now) c.args.first c.args.end (simple_form_view (out-Simple c.args.simple.now).form) _ (env c.args.state.now) (simple_form_return_value (out-Simple c.args.simple.now).form c.in-ReturnValue.value c.in-ReturnValue.is)))
+statements::read_simple-returns-in-ReturnValue-clause-env t c = env_on c.read_returned.result c.read_returned.new.state _ _ (c.read_returned.ensures.env) (sym (simple_as (world_view c.args.world.now) (out-Simple c.args.simple.now).first (out-Simple c.args.simple.now).end (simple_form_view (out-Simple c.args.simple.now).form) _ (env c.args.state.now) (simple_form_return_value (out-Simple c.args.simple.now).form c.in-ReturnValue.value c.in-ReturnValue.is)))
 
 pub statements::read_simple-returns-in-Break-clause-env : goal.statements::read_simple-returns-in-Break-clause-env
-statements::read_simple-returns-in-Break-clause-env t c = env_on c.break_loop.result c.break_loop.new.self _ _ (c.break_loop.ensures.env) (sym (simple_as (world_view c.args.world.now) c.args.first c.args.end (simple_form_view (out-Simple c.args.simple.now).form) _ (env c.args.state.now) (simple_form_break (out-Simple c.args.simple.now).form c.in-Break.is)))
+statements::read_simple-returns-in-Break-clause-env t c = env_on c.break_loop.result c.break_loop.new.self _ _ (c.break_loop.ensures.env) (sym (simple_as (world_view c.args.world.now) (out-Simple c.args.simple.now).first (out-Simple c.args.simple.now).end (simple_form_view (out-Simple c.args.simple.now).form) _ (env c.args.state.now) (simple_form_break (out-Simple c.args.simple.now).form c.in-Break.is)))
 
 pub statements::read_simple-returns-in-Assign-clause-env : goal.statements::read_simple-returns-in-Assign-clause-env
-statements::read_simple-returns-in-Assign-clause-env t c = env_on c.read_assignment.result c.read_assignment.new.state _ _ (c.read_assignment.ensures.env c.args.first c.args.end) (sym (simple_as (world_view c.args.world.now) c.args.first c.args.end (simple_form_view (out-Simple c.args.simple.now).form) _ (env c.args.state.now) (simple_form_assign (out-Simple c.args.simple.now).form c.in-Assign.assignment c.in-Assign.is)))
+statements::read_simple-returns-in-Assign-clause-env t c = env_on c.read_assignment.result c.read_assignment.new.state _ _ (c.read_assignment.ensures.env (out-Simple c.args.simple.now).first (out-Simple c.args.simple.now).end) (sym (simple_as (world_view c.args.world.now) (out-Simple c.args.simple.now).first (out-Simple c.args.simple.now).end (simple_form_view (out-Simple c.args.simple.now).form) _ (env c.args.state.now) (simple_form_assign (out-Simple c.args.simple.now).form c.in-Assign.assignment c.in-Assign.is)))
 
 pub statements::read_simple-returns-in_ok-after-in-Throw-clause-env : goal.statements::read_simple-returns-in_ok-after-in-Throw-clause-env
 statements::read_simple-returns-in_ok-after-in-Throw-clause-env t c =
-    throw_told (world_view c.args.world.now) c.args.first c.args.end (out-Simple c.args.simple.now).form c.in-Throw.value c.in_ok-value-in-Throw.value c.args.state.now c.read.new.state c.after.new.self c.die.new.self c.in-Throw.is c.in_ok-value-in-Throw.ensures.told c.in_ok-value-in-Throw.ensures.around c.in_ok-after-in-Throw.ensures.now c.in_ok-after-in-Throw.ensures.around c.die.ensures.env
+    throw_told (world_view c.args.world.now) (out-Simple c.args.simple.now).first (out-Simple c.args.simple.now).end (out-Simple c.args.simple.now).form c.in-Throw.value c.in_ok-value-in-Throw.value c.args.state.now c.read.new.state c.after.new.self c.die.new.self c.in-Throw.is c.in_ok-value-in-Throw.ensures.told c.in_ok-value-in-Throw.ensures.around c.in_ok-after-in-Throw.ensures.now c.in_ok-after-in-Throw.ensures.around c.die.ensures.env
 
 pub statements::read_simple-returns-in_ok-after-in-Throw-clause-follows : goal.statements::read_simple-returns-in_ok-after-in-Throw-clause-follows
 statements::read_simple-returns-in_ok-after-in-Throw-clause-follows t c = follows_through None None None c.args.state.now c.after.new.self c.die.new.self (follows_through None c.in_ok-value-in-Throw.value.fork None c.args.state.now c.read.new.state c.after.new.self c.in_ok-value-in-Throw.ensures.follows c.in_ok-after-in-Throw.ensures.follows) c.die.ensures.follows
 
 pub statements::read_simple-returns-in-Continue-clause-env : goal.statements::read_simple-returns-in-Continue-clause-env
-statements::read_simple-returns-in-Continue-clause-env t c = c.die-in-Continue.ensures.env ∙ sym (simple_as (world_view c.args.world.now) c.args.first c.args.end (simple_form_view (out-Simple c.args.simple.now).form) _ (env c.args.state.now) (simple_form_continue (out-Simple c.args.simple.now).form c.in-Continue.is))
+statements::read_simple-returns-in-Continue-clause-env t c = c.die-in-Continue.ensures.env ∙ sym (simple_as (world_view c.args.world.now) (out-Simple c.args.simple.now).first (out-Simple c.args.simple.now).end (simple_form_view (out-Simple c.args.simple.now).form) _ (env c.args.state.now) (simple_form_continue (out-Simple c.args.simple.now).form c.in-Continue.is))
 
 pub statements::read_simple-returns-in_ok-after-in-Evaluate-clause-env : goal.statements::read_simple-returns-in_ok-after-in-Evaluate-clause-env
 statements::read_simple-returns-in_ok-after-in-Evaluate-clause-env t c =
-    evaluate_told (world_view c.args.world.now) c.args.first c.args.end (out-Simple c.args.simple.now).form c.in-Evaluate.value c.in_ok-value-in-Evaluate.value c.args.state.now c.read-in-Evaluate.new.state c.after-in-Evaluate.new.self c.in-Evaluate.is c.in_ok-value-in-Evaluate.ensures.told c.in_ok-value-in-Evaluate.ensures.around c.in_ok-after-in-Evaluate.ensures.now c.in_ok-after-in-Evaluate.ensures.around
+    evaluate_told (world_view c.args.world.now) (out-Simple c.args.simple.now).first (out-Simple c.args.simple.now).end (out-Simple c.args.simple.now).form c.in-Evaluate.value c.in_ok-value-in-Evaluate.value c.args.state.now c.read-in-Evaluate.new.state c.after-in-Evaluate.new.self c.in-Evaluate.is c.in_ok-value-in-Evaluate.ensures.told c.in_ok-value-in-Evaluate.ensures.around c.in_ok-after-in-Evaluate.ensures.now c.in_ok-after-in-Evaluate.ensures.around
 
 pub statements::read_simple-returns-in_ok-after-in-Evaluate-clause-follows : goal.statements::read_simple-returns-in_ok-after-in-Evaluate-clause-follows
 statements::read_simple-returns-in_ok-after-in-Evaluate-clause-follows t c = follows_through None c.in_ok-value-in-Evaluate.value.fork None c.args.state.now c.read-in-Evaluate.new.state c.after-in-Evaluate.new.self c.in_ok-value-in-Evaluate.ensures.follows c.in_ok-after-in-Evaluate.ensures.follows

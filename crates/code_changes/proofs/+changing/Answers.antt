@@ -5,7 +5,7 @@ use Rattle.code_tree.specs.declared.types.Function.{out-Function}
 use Rattle.code_tree.specs.declared.types.ArrowExpr.{out-ArrowExpr}
 use Rattle.code_tree.specs.View.{statements_view}
 use Rattle.code_changes.proofs.Views.{arm_is, branch_is, while_statement_is, assignment_is, arrow_expr_is}
-use Rattle.code_changes.proofs.Forms.{postfix_changes, chain_changes, conditional_changes, if_changes, call_changes, block_changes, function_changes, declared_told}
+use Rattle.code_changes.proofs.Forms.{postfix_changes, chain_changes, conditional_changes, if_changes, call_changes, block_changes, function_changes, named_changes, named_told, declared_told}
 use Rattle.code_changes.proofs.Telling.{pair_told, triple_told, tells_function, tells_block}
 use Rattle.code_changes.proofs.Parts.{exprs_begun, exprs_turned, exprs_ended, fields_begun, fields_turned, fields_ended, links_begun, links_turned, links_ended, operands_begun, operands_turned, operands_ended, arms_begun, arms_turned, arms_ended, statements_begun, statements_turned, statements_ended, branches_begun, branches_turned, branches_ended}
 use Rattle.code_changes.proofs.+changing.Goals as goal
@@ -114,12 +114,20 @@ statements::walk_assignment-returns t c =
 pub statements::walk_statement-returns-in-Function : goal.statements::walk_statement-returns-in-Function
 statements::walk_statement-returns-in-Function t c = declared_told c.walk_function.result c.args.walk.now c.walk_function.new.walk c.args.statement.now c.in-Function.function (search rules) c.walk_function.ensures
 
+pub expressions::walk_form-returns-in-Function : goal.expressions::walk_form-returns-in-Function
+expressions::walk_form-returns-in-Function t c = named_told c.walk_named.result c.args.walk.now c.walk_named.new.walk c.args.form.now _ (search rules) c.walk_named.ensures
+
 -- scopes
 
 pub expressions::walk_function-returns : goal.expressions::walk_function-returns
 expressions::walk_function-returns t c =
-    tells_function c.as_slice.result.now (name_list (out-Function c.args.function.now).name ++ (names_of_sig (signature_view (out-Function c.args.function.now).signature) ++ declared_in (statements_view c.as_slice-statements.result.now))) c.in_ok-outside.outside c.args.walk.now c.enter.new.self c.walk_statements.new.walk c.leave.new.self _ _
+    tells_function c.as_slice.result.now (names_of_sig (signature_view (out-Function c.args.function.now).signature) ++ declared_in (statements_view c.as_slice-statements.result.now)) c.in_ok-outside.outside c.args.walk.now c.enter.new.self c.walk_statements.new.walk c.leave.new.self _ _
     c.in_ok-outside.ensures (search rules) c.in_ok-walk_statements.ensures c.leave.ensures (function_changes c.args.function.now c.as_slice-statements.result.now (search rules))
+
+pub expressions::walk_named-returns : goal.expressions::walk_named-returns
+expressions::walk_named-returns t c =
+    tells_block c.as_slice.result.now (name_list (out-Function c.args.function.now).name) c.in_ok-outside.outside c.args.walk.now c.enter.new.self c.walk_function.new.walk c.leave.new.self _ _
+    c.in_ok-outside.ensures (search rules) c.in_ok-walk_function.ensures c.leave.ensures (named_changes c.args.function.now)
 
 pub expressions::walk_arrow-returns : goal.expressions::walk_arrow-returns
 expressions::walk_arrow-returns t c =

@@ -10,4 +10,4 @@ pub returns-in-Alias-clause-env : goal.returns-in-Alias-clause-env
 returns-in-Alias-clause-env c = rw c.in-Alias.is (λ p m sees. c.read_alias.ensures.env p m sees)
 
 pub returns-in-Simple-clause-env : goal.returns-in-Simple-clause-env
-returns-in-Simple-clause-env c = rw c.in-Simple.is (λ p m sees. c.read_top_simple.ensures.env p m)
+returns-in-Simple-clause-env c = rw c.in-Simple.is (λ p m sees. c.read_top_simple.ensures.env p m 0 0)

@@ -1,6 +1,0 @@
-use Rattle.check_module.proofs.Reading.{opens}
-use Rattle.check_module.proofs.checker.Checker.opened.Goals as goal
-
-pub returns : goal.returns
-returns c =
-    opens c.args.job.now c.args.«module».now c.args.spans.now c.args.watch c.in_ok-around.around c.in_ok-state.state c.as_slice.result.now c.as_slice.ensures c.in_ok-around.ensures c.in_ok-state.ensures
