@@ -1,14 +1,15 @@
 -- A check of which a part is made anew and a part is kept, where it stays, is full.
-use Rattle.std.proofs.Common.{◌≡◌, ◌⊎◌, inl, inr, List, [], ◌∷◌, Some, sym, ap, ◌∙◌, subst}
+use Rattle.std.proofs.Common.{◌≡◌, ◌⊎◌, inl, inr, List, [], ◌∷◌, map, Some, sym, ap, ◌∙◌, subst}
 use Rattle.flow_base.specs.Program.{Bytes, Program, paths_of, text_at}
 use Rattle.check_values.specs.declared.signatures.Deps.{Deps}
 use Rattle.source_front.specs.Front.{IsParse}
 use Rattle.source_front.specs.Law.{OneParse}
 use Rattle.merged_signatures.specs.Merged.{merged}
 use Rattle.merged_signatures.specs.Imports.{IsLocal}
-use Rattle.errors_by_reach.specs.Law.{AreErrors, Agree, KeyLaw}
+use Rattle.errors_by_reach.specs.Law.{HasErrors, Agree}
+use Rattle.reach_law.specs.Law.{KeyLaw}
 use Rattle.check_job.specs.Jobs.{source_in}
-use Rattle.program_check.specs.Full.{Results, view_in, sigs_in, deps_in, AreResultsOf, AreResults, IsFull}
+use Rattle.program_check.specs.Full.{Results, beside, view_in, sigs_in, deps_in, AreResultsOf, AreResults, IsFull}
 use Rattle.affected_law.specs.Affected.{results_at}
 use Rattle.affected_law.specs.Kept.{KeepsImports, IsModuleOf}
 use Rattle.affected_law.specs.Recheck.{Kept, IsRechecked, AreRechecked, RecheckedIsFull}
@@ -36,13 +37,13 @@ module _ (one_parse : OneParse) (local : IsLocal) (key : KeyLaw) (old new : Prog
         sig_serves local old before path m.0 r m.1 (view_in new after) keeps ∙ ap Some (sym same)
 
     are_errors : IsParse text s.parse
-        → AreErrors path s.deps (source_in s.parse.tree) (sigs_in new after) s.errors ⊎ Kept old before path (λ r. (s.errors ≡ r.errors) × (text_at old path ≡ Some text) × (s.deps ≡ r.deps) × Agree (sigs_in new after) s.deps (sigs_in old before))
-        → AreErrors path s.deps (source_in s.parse.tree) (sigs_in new after) s.errors
+        → HasErrors path s.deps (source_in s.parse.tree) (sigs_in new after) s.errors ⊎ Kept old before path (λ r. (s.errors ≡ r.errors) × (text_at old path ≡ Some text) × (s.deps ≡ r.deps) × Agree (sigs_in new after) s.deps (sigs_in old before))
+        → HasErrors path s.deps (source_in s.parse.tree) (sigs_in new after) s.errors
     are_errors is (inl made) = made
     are_errors is (inr (r, at, (same, had, list, agree))) =
-        subst (AreErrors path s.deps (source_in s.parse.tree) (sigs_in new after)) (sym same)
-        (subst (λ (d : Deps). AreErrors path d (source_in s.parse.tree) (sigs_in new after) r.errors) (sym list)
-        (errors_serve one_parse key old before path text r (is_module r at had) s.parse (sigs_in new after) is (subst (λ (d : Deps). Agree (sigs_in new after) d (sigs_in old before)) list agree)))
+        subst (HasErrors path s.deps (source_in s.parse.tree) (sigs_in new after)) (sym same)
+        (subst (λ (d : Deps). HasErrors path d (source_in s.parse.tree) (sigs_in new after) r.errors) (sym list)
+        (errors_serve one_parse key old before path text r (is_module r at had) s.parse (beside new (map (λ (x : Results). x.sig) after)) is (subst (λ (d : Deps). Agree (sigs_in new after) d (sigs_in old before)) list agree)))
 
     are_results : IsRechecked old new before after path text s → AreResultsOf (paths_of new) (view_in new after) (sigs_in new after) path text s
     are_results h = let is : IsParse text s.parse = is_parse h.parse in record { parse = is; deps = are_deps is h.deps; sig = is_sig h.sig; errors = are_errors is h.errors }

@@ -1,13 +1,14 @@
 -- Outside the affected paths the full check of the new program is that of the old one.
-use Rattle.std.proofs.Common.{◌≡◌, sym, ◌∙◌, subst}
+use Rattle.std.proofs.Common.{◌≡◌, map, sym, ◌∙◌, subst}
 use Rattle.flow_base.specs.Program.{Bytes, text_at}
 use Rattle.check_values.specs.declared.signatures.Deps.{Deps}
 use Rattle.source_front.specs.Front.{IsParse}
 use Rattle.source_front.specs.Law.{OneParse}
 use Rattle.merged_signatures.specs.Imports.{IsLocal}
-use Rattle.errors_by_reach.specs.Law.{AreErrors, Agree, KeyLaw, OneAnswer}
+use Rattle.errors_by_reach.specs.Law.{HasErrors, Agree, OneAnswer}
+use Rattle.reach_law.specs.Law.{KeyLaw}
 use Rattle.check_job.specs.Jobs.{source_in}
-use Rattle.program_check.specs.Full.{view_in, sigs_in}
+use Rattle.program_check.specs.Full.{Results, beside, view_in, sigs_in}
 use Rattle.affected_law.specs.Affected.{by_text}
 use Rattle.affected_law.specs.Law.{ParsesStay, SignaturesStay, ErrorsStay, ResultsStay, KeepsCheck, ParsedAreChecked, ChecksGoByMerging}
 use Rattle.affected_law.proofs.Outside.{keeps_imports, unparsed_keeps_text, unmerged_keeps_imports, unchecked_keeps_check}
@@ -38,9 +39,9 @@ errors_stay one_parse key one_answer old new before after path r s full full' at
     let keeps : KeepsCheck old new before after path r s = (unchecked_keeps_check old new before after path r s full full' at there).0 outside in
     let text : n.0 ≡ m.0 = some_same n.0 m.0 (sym n.1.has_text ∙ (keeps.text ∙ m.1.has_text)) in
     one_answer path r.deps (source_in s.parse.tree) (sigs_in new after) r.errors s.errors
-    (errors_serve one_parse key old before path m.0 r m.1 s.parse (sigs_in new after) (subst (λ (t : Bytes). IsParse t s.parse) text are.parse)
+    (errors_serve one_parse key old before path m.0 r m.1 s.parse (beside new (map (λ (x : Results). x.sig) after)) (subst (λ (t : Bytes). IsParse t s.parse) text are.parse)
     (subst (λ (d : Deps). Agree (sigs_in new after) d (sigs_in old before)) keeps.deps keeps.reach))
-    (subst (λ (d : Deps). AreErrors path d (source_in s.parse.tree) (sigs_in new after) s.errors) keeps.deps are.errors)
+    (subst (λ (d : Deps). HasErrors path d (source_in s.parse.tree) (sigs_in new after) s.errors) keeps.deps are.errors)
 
 pub results_stay : OneParse → IsLocal → KeyLaw → OneAnswer → ResultsStay
 results_stay one_parse local key one_answer old new before after path r s full full' at there unmerged unchecked = record {

@@ -1,13 +1,15 @@
 -- The parts of a full check that serve on in the full check of another program.
-use Rattle.std.specs.Prelude.{◌≡◌, Bool, true, List, Some}
+use Rattle.std.specs.Prelude.{◌≡◌, ◌↔◌, Bool, true, List, Some}
 use Rattle.flow_base.specs.Program.{Bytes, Program, paths_of, text_at}
+use Rattle.check_values.specs.Rows.{Rows, row_at}
+use Rattle.check_values.specs.declared.faults.Fault.{Fault}
+use Rattle.check_values.specs.declared.signatures.Sig.{Sig}
 use Rattle.source_front.specs.declared.parse.Parse.{Parse}
 use Rattle.source_front.specs.Front.{IsParse}
 use Rattle.merged_signatures.specs.Chains.{View}
 use Rattle.merged_signatures.specs.Imports.{Imports, Edge}
 use Rattle.merged_signatures.specs.Merged.{merged}
-use Rattle.errors_by_reach.specs.Seen.{Sigs}
-use Rattle.errors_by_reach.specs.Law.{AreErrors, Agree}
+use Rattle.errors_by_reach.specs.Law.{HasErrors, AreErrors, Agree}
 use Rattle.check_job.specs.Jobs.{source_in}
 use Rattle.program_check.specs.Full.{Results, view_in, sigs_in, deps_in, IsFull}
 use Rattle.affected_law.specs.Affected.{results_at}
@@ -49,4 +51,11 @@ SigServes =
 abbrev pub ErrorsServe : Type 0
 ErrorsServe =
     (program : Program) (results : List Results) (path text : Bytes) (r : Results) → IsModuleOf program results path text r
-    → (parse : Parse) (sigs : Sigs) → IsParse text parse → Agree sigs r.deps (sigs_in program results) → AreErrors path r.deps (source_in parse.tree) sigs r.errors
+    → (parse : Parse) (sigs : Rows Sig) → IsParse text parse → Agree (row_at sigs) r.deps (sigs_in program results) → HasErrors path r.deps (source_in parse.tree) (row_at sigs) r.errors
+
+-- A job that is told some signatures, which say where its module reaches what those of the full check do, is to find the errors of the
+-- full check and no others.
+abbrev pub JobsFindErrors : Type 0
+JobsFindErrors =
+    (program : Program) (results : List Results) (path text : Bytes) (r : Results) → IsModuleOf program results path text r
+    → (told : Rows Sig) (errors : List Fault) → Agree (sigs_in program results) r.deps (row_at told) → AreErrors path r.deps (source_in r.parse.tree) (row_at told) errors ↔ (errors ≡ r.errors)

@@ -3,7 +3,7 @@ use Rattle.std.specs.Prelude.{◌≡◌, ◌⊎◌, List, [], ◌∷◌, Some}
 use Rattle.flow_base.specs.Program.{Bytes, Program, paths_of, text_at}
 use Rattle.source_front.specs.Front.{IsParse}
 use Rattle.merged_signatures.specs.Merged.{merged}
-use Rattle.errors_by_reach.specs.Law.{AreErrors, Agree}
+use Rattle.errors_by_reach.specs.Law.{HasErrors, Agree}
 use Rattle.check_job.specs.Jobs.{source_in}
 use Rattle.program_check.specs.Full.{Results, view_in, sigs_in, deps_in, IsFull}
 use Rattle.affected_law.specs.Affected.{results_at}
@@ -20,7 +20,7 @@ module _ (old new : Program) (before after : List Results) where
     pub deps : (s.deps ≡ deps_in (paths_of new) path s.parse) ⊎ Kept old before path (λ r. (s.deps ≡ r.deps) × (text_at old path ≡ Some text) × (paths_of new ≡ paths_of old))
     pub sig : (merged (view_in new after) path ≡ Some s.sig) ⊎ Kept old before path (λ r. (s.sig ≡ r.sig) × KeepsImports (view_in old before) (view_in new after) path)
     pub errors :
-        AreErrors path s.deps (source_in s.parse.tree) (sigs_in new after) s.errors
+        HasErrors path s.deps (source_in s.parse.tree) (sigs_in new after) s.errors
         ⊎ Kept old before path (λ r. (s.errors ≡ r.errors) × (text_at old path ≡ Some text) × (s.deps ≡ r.deps) × Agree (sigs_in new after) s.deps (sigs_in old before))
 
   -- and so for each module, in order

@@ -4,7 +4,7 @@
 #![tactic(auto)]
 
 ghost use Rattle.affected_law.specs.Inside.{FoundIsAmong, NamedIsKnown, ImportsStayInside, ReachStaysInside};
-ghost use Rattle.affected_law.specs.Kept.{MarksKeepImports, ParseServes, DepsServe, SigServes, ErrorsServe};
+ghost use Rattle.affected_law.specs.Kept.{MarksKeepImports, ParseServes, DepsServe, SigServes, ErrorsServe, JobsFindErrors};
 ghost use Rattle.affected_law.specs.Law.{ParsesStay, SignaturesStay, ErrorsStay, ResultsStay, UnparsedKeepsText, UnmergedKeepsImports, UncheckedKeepsCheck, ParsedAreChecked, ChecksGoByMerging};
 ghost use Rattle.affected_law.specs.Recheck.{RecheckedIsFull};
 
@@ -18,6 +18,7 @@ pub fn what_stays()
     source_front::one_parse();
     merged_signatures::merging_is_local();
     errors_by_reach::errors_by_reach();
+    reach_law::key_law();
 }
 
 /// To be outside the affected paths is to keep what each part depends on; paths that are marked keep their imports, where no import
@@ -54,7 +55,16 @@ pub fn what_serves_on()
 {
     source_front::one_parse();
     merged_signatures::merging_is_local();
+    reach_law::key_law();
+}
+
+/// What a job finds of a module by signatures that say where it reaches what all merged signatures do is the errors of the full check.
+pub fn what_jobs_find()
+    ensures { JobsFindErrors }
+{
     errors_by_reach::errors_by_reach();
+    reach_law::key_law();
+    reach_law::cut_is_right();
 }
 
 /// A check of which each part is made anew, or is kept where what it depends on stays, is the full check of the new program.
@@ -63,5 +73,5 @@ pub fn rechecked_is_full()
 {
     source_front::one_parse();
     merged_signatures::merging_is_local();
-    errors_by_reach::errors_by_reach();
+    reach_law::key_law();
 }

@@ -14,7 +14,7 @@ use Rattle.serde_json.specs.Data.{Data}
 use Rattle.serde_json.specs.Read.{read, of_json, max_depth}
 use Rattle.flow_values.specs.Path.{Bytes}
 use Rattle.script_line.specs.declared.line.Line.{Line}
-use Rattle.script_line.specs.declared.line.Line.TheVariants.{Blank, Edit, Recheck, Ask, End}
+use Rattle.script_line.specs.declared.line.Line.TheVariants.{Blank, Edit, Delete, Touch, Recheck, Ask, End}
 use Rattle.script_line.specs.declared.line.Ask as the_ask
 use Rattle.script_line.specs.declared.line.Ask.TheVariants.{Status}
 use Rattle.script_line.specs.Says.{is_blank, text_at, Commands, IsBlankLine, Says}
@@ -63,6 +63,8 @@ blank_is_no_json bytes blank =
 abbrev pub do_word : Line → Bytes
 do_word Blank = []
 do_word (Edit path text) = codes "edit"
+do_word (Delete path) = codes "delete"
+do_word (Touch path) = codes "touch"
 do_word Recheck = codes "recheck"
 do_word (Ask ask) = codes "ask"
 do_word End = codes "end"
@@ -70,6 +72,8 @@ do_word End = codes "end"
 pub has_word : (value : Data) (l : Line) → Commands value l → text_at (codes "do") value ≡ Some (do_word l)
 has_word value Blank is = absurd is
 has_word value (Edit path text) is = is.0
+has_word value (Delete path) is = is.0
+has_word value (Touch path) is = is.0
 has_word value Recheck is = is.0
 has_word value (Ask ask) is = is.0
 has_word value End is = is
@@ -95,21 +99,43 @@ same_command value Blank b is also = absurd is
 same_command value (Edit p t) Blank is also = absurd also
 same_command value (Edit p t) (Edit q u) is also =
     same_edit p q t u (same_text (text_at (codes "path") value) p q is.1 also.1) (same_text (text_at (codes "text") value) t u is.3 also.3)
+same_command value (Edit p t) (Delete q) is also = clash value (Edit p t) (Delete q) refl is also
+same_command value (Edit p t) (Touch q) is also = clash value (Edit p t) (Touch q) refl is also
 same_command value (Edit p t) Recheck is also = clash value (Edit p t) Recheck refl is also
-same_command value (Edit p t) (Ask a) is also = clash value (Edit p t) (Ask a) refl is also
+same_command value (Edit p t) (Ask b) is also = clash value (Edit p t) (Ask b) refl is also
 same_command value (Edit p t) End is also = clash value (Edit p t) End refl is also
+same_command value (Delete p) Blank is also = absurd also
+same_command value (Delete p) (Edit q u) is also = clash value (Delete p) (Edit q u) refl is also
+same_command value (Delete p) (Delete q) is also = ap Delete (same_text (text_at (codes "path") value) p q is.1 also.1)
+same_command value (Delete p) (Touch q) is also = clash value (Delete p) (Touch q) refl is also
+same_command value (Delete p) Recheck is also = clash value (Delete p) Recheck refl is also
+same_command value (Delete p) (Ask b) is also = clash value (Delete p) (Ask b) refl is also
+same_command value (Delete p) End is also = clash value (Delete p) End refl is also
+same_command value (Touch p) Blank is also = absurd also
+same_command value (Touch p) (Edit q u) is also = clash value (Touch p) (Edit q u) refl is also
+same_command value (Touch p) (Delete q) is also = clash value (Touch p) (Delete q) refl is also
+same_command value (Touch p) (Touch q) is also = ap Touch (same_text (text_at (codes "path") value) p q is.1 also.1)
+same_command value (Touch p) Recheck is also = clash value (Touch p) Recheck refl is also
+same_command value (Touch p) (Ask b) is also = clash value (Touch p) (Ask b) refl is also
+same_command value (Touch p) End is also = clash value (Touch p) End refl is also
 same_command value Recheck Blank is also = absurd also
 same_command value Recheck (Edit q u) is also = clash value Recheck (Edit q u) refl is also
+same_command value Recheck (Delete q) is also = clash value Recheck (Delete q) refl is also
+same_command value Recheck (Touch q) is also = clash value Recheck (Touch q) refl is also
 same_command value Recheck Recheck is also = refl
-same_command value Recheck (Ask a) is also = clash value Recheck (Ask a) refl is also
+same_command value Recheck (Ask b) is also = clash value Recheck (Ask b) refl is also
 same_command value Recheck End is also = clash value Recheck End refl is also
 same_command value (Ask a) Blank is also = absurd also
 same_command value (Ask a) (Edit q u) is also = clash value (Ask a) (Edit q u) refl is also
+same_command value (Ask a) (Delete q) is also = clash value (Ask a) (Delete q) refl is also
+same_command value (Ask a) (Touch q) is also = clash value (Ask a) (Touch q) refl is also
 same_command value (Ask a) Recheck is also = clash value (Ask a) Recheck refl is also
 same_command value (Ask a) (Ask b) is also = ap Ask (same_ask a b)
 same_command value (Ask a) End is also = clash value (Ask a) End refl is also
 same_command value End Blank is also = absurd also
 same_command value End (Edit q u) is also = clash value End (Edit q u) refl is also
+same_command value End (Delete q) is also = clash value End (Delete q) refl is also
+same_command value End (Touch q) is also = clash value End (Touch q) refl is also
 same_command value End Recheck is also = clash value End Recheck refl is also
 same_command value End (Ask b) is also = clash value End (Ask b) refl is also
 same_command value End End is also = refl

@@ -15,7 +15,7 @@ use Rattle.flow_values.specs.Path.{Bytes, JS, IsNormalPath}
 use Rattle.flow_values.specs.PathForm.{cut, IsNamed, HasPathForm}
 use Rattle.flow_values.proofs.Parts.{is_normal, has_form}
 use Rattle.script_line.specs.declared.line.Line.{Line}
-use Rattle.script_line.specs.declared.line.Line.TheVariants.{Blank, Edit, Recheck, Ask, End}
+use Rattle.script_line.specs.declared.line.Line.TheVariants.{Blank, Edit, Delete, Touch, Recheck, Ask, End}
 use Rattle.script_line.specs.declared.line.Ask.TheVariants.{Status}
 use Rattle.script_line.specs.Says.{is_blank, text_at, IsJson, Commands, IsBlankLine, Says}
 use Rattle.script_line.proofs.Commanding.{do_word, has_word, apart}
@@ -99,6 +99,8 @@ other_word value word l at differ is = apart word (do_word l) differ (same_Some 
 only_edit : (value : Data) → text_at (codes "do") value ≡ Some (codes "edit") → ((p t : Bytes) → Commands value (Edit p t) → ⊥) → (l : Line) → Commands value l → ⊥
 only_edit value at never Blank is = is
 only_edit value at never (Edit p t) is = never p t is
+only_edit value at never (Delete p) is = other_word value (codes "edit") (Delete p) at refl is
+only_edit value at never (Touch p) is = other_word value (codes "edit") (Touch p) at refl is
 only_edit value at never Recheck is = other_word value (codes "edit") Recheck at refl is
 only_edit value at never (Ask a) is = other_word value (codes "edit") (Ask a) at refl is
 only_edit value at never End is = other_word value (codes "edit") End at refl is
@@ -106,6 +108,8 @@ only_edit value at never End is = other_word value (codes "edit") End at refl is
 only_recheck : (value : Data) → text_at (codes "do") value ≡ Some (codes "recheck") → (Commands value Recheck → ⊥) → (l : Line) → Commands value l → ⊥
 only_recheck value at never Blank is = is
 only_recheck value at never (Edit p t) is = other_word value (codes "recheck") (Edit p t) at refl is
+only_recheck value at never (Delete p) is = other_word value (codes "recheck") (Delete p) at refl is
+only_recheck value at never (Touch p) is = other_word value (codes "recheck") (Touch p) at refl is
 only_recheck value at never Recheck is = never is
 only_recheck value at never (Ask a) is = other_word value (codes "recheck") (Ask a) at refl is
 only_recheck value at never End is = other_word value (codes "recheck") End at refl is
@@ -113,9 +117,29 @@ only_recheck value at never End is = other_word value (codes "recheck") End at r
 only_ask : (value : Data) → text_at (codes "do") value ≡ Some (codes "ask") → (Commands value (Ask Status) → ⊥) → (l : Line) → Commands value l → ⊥
 only_ask value at never Blank is = is
 only_ask value at never (Edit p t) is = other_word value (codes "ask") (Edit p t) at refl is
+only_ask value at never (Delete p) is = other_word value (codes "ask") (Delete p) at refl is
+only_ask value at never (Touch p) is = other_word value (codes "ask") (Touch p) at refl is
 only_ask value at never Recheck is = other_word value (codes "ask") Recheck at refl is
 only_ask value at never (Ask Status) is = never is
 only_ask value at never End is = other_word value (codes "ask") End at refl is
+
+only_delete : (value : Data) → text_at (codes "do") value ≡ Some (codes "delete") → ((p : Bytes) → Commands value (Delete p) → ⊥) → (l : Line) → Commands value l → ⊥
+only_delete value at never Blank is = is
+only_delete value at never (Edit p t) is = other_word value (codes "delete") (Edit p t) at refl is
+only_delete value at never (Delete p) is = never p is
+only_delete value at never (Touch p) is = other_word value (codes "delete") (Touch p) at refl is
+only_delete value at never Recheck is = other_word value (codes "delete") Recheck at refl is
+only_delete value at never (Ask a) is = other_word value (codes "delete") (Ask a) at refl is
+only_delete value at never End is = other_word value (codes "delete") End at refl is
+
+only_touch : (value : Data) → text_at (codes "do") value ≡ Some (codes "touch") → ((p : Bytes) → Commands value (Touch p) → ⊥) → (l : Line) → Commands value l → ⊥
+only_touch value at never Blank is = is
+only_touch value at never (Edit p t) is = other_word value (codes "touch") (Edit p t) at refl is
+only_touch value at never (Touch p) is = never p is
+only_touch value at never (Delete p) is = other_word value (codes "touch") (Delete p) at refl is
+only_touch value at never Recheck is = other_word value (codes "touch") Recheck at refl is
+only_touch value at never (Ask a) is = other_word value (codes "touch") (Ask a) at refl is
+only_touch value at never End is = other_word value (codes "touch") End at refl is
 
 no_word : (value : Data) → ((l : Line) → text_at (codes "do") value ≡ Some (do_word l) → ⊥) → CommandOrNone value
 no_word value never = inr (λ l is. never l (has_word value l is))
@@ -128,6 +152,24 @@ edit_or_none value at = by (text_at (codes "path") value) (text_at (codes "text"
   by (Some p) (Some t) path text = elim (normal_or_not p) [
     | inl normal ↦ inl (Edit p t, (at, path, normal, text))
     | inr never ↦ inr (only_edit value at (λ q u is. never (subst IsNormalPath (same_Some q p (sym is.1 ∙ path)) is.2)))
+  ]
+
+delete_or_none : (value : Data) → text_at (codes "do") value ≡ Some (codes "delete") → CommandOrNone value
+delete_or_none value at = by (text_at (codes "path") value) refl where
+  by : (path : Option Bytes) → text_at (codes "path") value ≡ path → CommandOrNone value
+  by None lacks = inr (only_delete value at (λ p is. none-some _ (sym lacks ∙ is.1)))
+  by (Some p) path = elim (normal_or_not p) [
+    | inl normal ↦ inl (Delete p, (at, path, normal))
+    | inr never ↦ inr (only_delete value at (λ q is. never (subst IsNormalPath (same_Some q p (sym is.1 ∙ path)) is.2)))
+  ]
+
+touch_or_none : (value : Data) → text_at (codes "do") value ≡ Some (codes "touch") → CommandOrNone value
+touch_or_none value at = by (text_at (codes "path") value) refl where
+  by : (path : Option Bytes) → text_at (codes "path") value ≡ path → CommandOrNone value
+  by None lacks = inr (only_touch value at (λ p is. none-some _ (sym lacks ∙ is.1)))
+  by (Some p) path = elim (normal_or_not p) [
+    | inl normal ↦ inl (Touch p, (at, path, normal))
+    | inr never ↦ inr (only_touch value at (λ q is. never (subst IsNormalPath (same_Some q p (sym is.1 ∙ path)) is.2)))
   ]
 
 recheck_or_none : (value : Data) → text_at (codes "do") value ≡ Some (codes "recheck") → CommandOrNone value
@@ -153,25 +195,33 @@ ask_or_none value at = by (get (codes "ask") value) refl where
 
 command_or_none : (value : Data) → CommandOrNone value
 command_or_none value = by (text_at (codes "do") value) refl where
-  none_such : (word : Bytes) → text_at (codes "do") value ≡ Some word → (word ≡ codes "edit" → ⊥) → (word ≡ codes "recheck" → ⊥) → (word ≡ codes "ask" → ⊥) → (word ≡ codes "end" → ⊥)
+  none_such : (word : Bytes) → text_at (codes "do") value ≡ Some word → (word ≡ codes "edit" → ⊥) → (word ≡ codes "delete" → ⊥) → (word ≡ codes "touch" → ⊥) → (word ≡ codes "recheck" → ⊥) → (word ≡ codes "ask" → ⊥) → (word ≡ codes "end" → ⊥)
       → (l : Line) → Commands value l → ⊥
-  none_such word at edit recheck ask end Blank is = is
-  none_such word at edit recheck ask end (Edit p t) is = edit (same_Some word (codes "edit") (sym at ∙ is.0))
-  none_such word at edit recheck ask end Recheck is = recheck (same_Some word (codes "recheck") (sym at ∙ is.0))
-  none_such word at edit recheck ask end (Ask a) is = ask (same_Some word (codes "ask") (sym at ∙ is.0))
-  none_such word at edit recheck ask end End is = end (same_Some word (codes "end") (sym at ∙ is))
+  none_such word at edit delete touch recheck ask end Blank is = is
+  none_such word at edit delete touch recheck ask end (Edit p t) is = edit (same_Some word (codes "edit") (sym at ∙ is.0))
+  none_such word at edit delete touch recheck ask end (Delete p) is = delete (same_Some word (codes "delete") (sym at ∙ is.0))
+  none_such word at edit delete touch recheck ask end (Touch p) is = touch (same_Some word (codes "touch") (sym at ∙ is.0))
+  none_such word at edit delete touch recheck ask end Recheck is = recheck (same_Some word (codes "recheck") (sym at ∙ is.0))
+  none_such word at edit delete touch recheck ask end (Ask a) is = ask (same_Some word (codes "ask") (sym at ∙ is.0))
+  none_such word at edit delete touch recheck ask end End is = end (same_Some word (codes "end") (sym at ∙ is))
 
   by : (word : Option Bytes) → text_at (codes "do") value ≡ word → CommandOrNone value
   by None lacks = no_word value (λ l is. none-some _ (sym lacks ∙ is))
   by (Some word) at = elim (bytes_or_not word (codes "edit")) [
     | inl edit ↦ edit_or_none value (at ∙ ap Some edit)
-    | inr not_edit ↦ elim (bytes_or_not word (codes "recheck")) [
-      | inl recheck ↦ recheck_or_none value (at ∙ ap Some recheck)
-      | inr not_recheck ↦ elim (bytes_or_not word (codes "ask")) [
-        | inl ask ↦ ask_or_none value (at ∙ ap Some ask)
-        | inr not_ask ↦ elim (bytes_or_not word (codes "end")) [
-          | inl end ↦ inl (End, at ∙ ap Some end)
-          | inr not_end ↦ inr (none_such word at not_edit not_recheck not_ask not_end)
+    | inr not_edit ↦ elim (bytes_or_not word (codes "delete")) [
+      | inl delete ↦ delete_or_none value (at ∙ ap Some delete)
+      | inr not_delete ↦ elim (bytes_or_not word (codes "touch")) [
+        | inl touch ↦ touch_or_none value (at ∙ ap Some touch)
+        | inr not_touch ↦ elim (bytes_or_not word (codes "recheck")) [
+          | inl recheck ↦ recheck_or_none value (at ∙ ap Some recheck)
+          | inr not_recheck ↦ elim (bytes_or_not word (codes "ask")) [
+            | inl ask ↦ ask_or_none value (at ∙ ap Some ask)
+            | inr not_ask ↦ elim (bytes_or_not word (codes "end")) [
+              | inl end ↦ inl (End, at ∙ ap Some end)
+              | inr not_end ↦ inr (none_such word at not_edit not_delete not_touch not_recheck not_ask not_end)
+            ]
+          ]
         ]
       ]
     ]

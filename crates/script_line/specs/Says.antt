@@ -5,7 +5,7 @@ use Rattle.serde_json.specs.Read.{read}
 use Rattle.serde_json.specs.Find.{get, as_str}
 use Rattle.flow_values.specs.Path.{Bytes, IsNormalPath}
 use Rattle.script_line.specs.declared.line.Line.{Line}
-use Rattle.script_line.specs.declared.line.Line.TheVariants.{Blank, Edit, Recheck, Ask, End}
+use Rattle.script_line.specs.declared.line.Line.TheVariants.{Blank, Edit, Delete, Touch, Recheck, Ask, End}
 use Rattle.script_line.specs.declared.line.Ask.TheVariants.{Status}
 use Rattle.script_line.specs.declared.line.Ask as the_ask
 
@@ -38,6 +38,8 @@ abbrev pub Commands : Data → Line → Type 0
 Commands value Blank = ⊥
 Commands value (Edit path text) =
     HasText (codes "do") (codes "edit") value × HasText (codes "path") path value × IsNormalPath path × HasText (codes "text") text value
+Commands value (Delete path) = HasText (codes "do") (codes "delete") value × HasText (codes "path") path value × IsNormalPath path
+Commands value (Touch path) = HasText (codes "do") (codes "touch") value × HasText (codes "path") path value × IsNormalPath path
 Commands value Recheck = HasText (codes "do") (codes "recheck") value × Lacks (codes "stop") value × Lacks (codes "asks") value
 Commands value (Ask ask) = HasText (codes "do") (codes "ask") value × ((inner : Data) × (get (codes "ask") value ≡ Some inner) × Asks inner ask)
 Commands value End = HasText (codes "do") (codes "end") value

@@ -16,6 +16,10 @@ pub enum Line {
     Blank,
     /// The path has this text from the next recheck on.
     Edit { path: Path, text: Text },
+    /// The path is no module from the next recheck on.
+    Delete { path: Path },
+    /// The next recheck reads the path from the folder.
+    Touch { path: Path },
     /// The pending edits are checked and committed.
     Recheck,
     /// A question of the committed version.

@@ -50,6 +50,28 @@ fn edit_of(alloc: Global, value: &Value) -> Result<Option<Line>, NoMemory>
     Ok(Some(Line::Edit { path, text }))
 }
 
+fn delete_of(alloc: Global, value: &Value) -> Result<Option<Line>, NoMemory>
+    requires { HasText (codes "do") (codes "delete") (view value.now) }
+    ensures found { IfOk result (λ line. IfSome line (Commands (view value.now))) }
+    ensures none { IfOk result (λ line. IfNone line ((l : Line) → Commands (view value.now) l → ⊥)) }
+{
+    let Some(path) = path_at(alloc, value)? else {
+        return Ok(None);
+    };
+    Ok(Some(Line::Delete { path }))
+}
+
+fn touch_of(alloc: Global, value: &Value) -> Result<Option<Line>, NoMemory>
+    requires { HasText (codes "do") (codes "touch") (view value.now) }
+    ensures found { IfOk result (λ line. IfSome line (Commands (view value.now))) }
+    ensures none { IfOk result (λ line. IfNone line ((l : Line) → Commands (view value.now) l → ⊥)) }
+{
+    let Some(path) = path_at(alloc, value)? else {
+        return Ok(None);
+    };
+    Ok(Some(Line::Touch { path }))
+}
+
 fn recheck_of(value: &Value) -> Option<Line>
     requires { HasText (codes "do") (codes "recheck") (view value.now) }
     ensures found { IfSome result (Commands (view value.now)) }
@@ -89,6 +111,8 @@ fn command_of(alloc: Global, value: &Value) -> Result<Option<Line>, NoMemory>
 {
     match text_at(value, "do") {
         Some("edit") => edit_of(alloc, value),
+        Some("delete") => delete_of(alloc, value),
+        Some("touch") => touch_of(alloc, value),
         Some("recheck") => Ok(recheck_of(value)),
         Some("ask") => Ok(ask_of(value)),
         Some("end") => Ok(Some(Line::End)),

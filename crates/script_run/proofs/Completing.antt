@@ -7,6 +7,7 @@ use Rattle.flow_base.specs.Outside.{WhereTold, appended, HoldsFront}
 use Rattle.full_law.specs.Law.{EachFull}
 use Rattle.pending_edits.specs.Pending.{MayBecome, edited}
 use Rattle.program_check.specs.Status.{error_count, status_answer}
+use Rattle.pending_edits.specs.declared.edit.Edit.TheVariants.{Put, Touch}
 use Rattle.script_line.specs.declared.line.Line.{Line}
 use Rattle.script_line.specs.declared.line.Line.TheVariants as line
 use Rattle.script_line.specs.declared.line.Ask.TheVariants as ask
@@ -15,7 +16,7 @@ use Rattle.script_line.proofs.Deciding.{says_or_not}
 use Rattle.script_reader.specs.Lines.{LINE_LIMIT}
 use Rattle.script_run.specs.declared.ending.WalkEnd.{WalkEnd}
 use Rattle.script_run.specs.declared.ending.WalkEnd.TheVariants as ending
-use Rattle.script_run.specs.Transcript.{Standing, MOST_LINES, start, with_edit, modules_counted, Rechecks, done, Turns, blank, edits, refuses, rechecks, answers, Walked, loads, goes, Ends, no_line, end_line, bad, long, many, last_line, IsRun, IsRunSoFar, GoesOn}
+use Rattle.script_run.specs.Transcript.{Standing, MOST_LINES, start, with_edit, modules_counted, Rechecks, done, Turns, blank, edits, refuses, touches, refuses_touch, deletes, rechecks, answers, Walked, loads, goes, Ends, no_line, end_line, bad, long, many, last_line, IsRun, IsRunSoFar, GoesOn}
 
 -- ---- lists
 
@@ -36,14 +37,22 @@ quiet_recheck each told s =
 
 module _ (each : EachFull) (most : ℕ) (told : Option Program) where
   quiet_edit : (s : Standing) (path text : Bytes) → (t : Standing) × (printed : Bytes) × Turns most told (line.Edit path text) s t 0 printed
-  quiet_edit s path text = elim (cases_lt most (modules_counted (with_edit s path text))) [
+  quiet_edit s path text = elim (cases_lt most (modules_counted (with_edit s path (Put text)))) [
     | inl over ↦ (_, _, refuses s path text over)
     | inr few ↦ (_, _, edits s path text few)
+  ]
+
+  quiet_touch : (s : Standing) (path : Bytes) → (t : Standing) × (printed : Bytes) × Turns most told (line.Touch path) s t 0 printed
+  quiet_touch s path = elim (cases_lt most (modules_counted (with_edit s path Touch))) [
+    | inl over ↦ (_, _, refuses_touch s path over)
+    | inr few ↦ (_, _, touches s path few)
   ]
 
   quiet_turn : (said : Line) → (said ≡ line.End → ⊥) → (s : Standing) → (t : Standing) × (printed : Bytes) × Turns most told said s t 0 printed
   quiet_turn line.Blank goes_on s = (_, _, blank s)
   quiet_turn (line.Edit path text) goes_on s = quiet_edit s path text
+  quiet_turn (line.Delete path) goes_on s = (_, _, deletes s path)
+  quiet_turn (line.Touch path) goes_on s = quiet_touch s path
   quiet_turn line.Recheck goes_on s = let recheck = quiet_recheck each told s in (_, _, rechecks s recheck.0 0 recheck.1 recheck.2)
   quiet_turn (line.Ask ask.Status) goes_on s = let full = each s.program in (_, _, answers s (status_answer s.version s.program full.0) ∣ (full.0, full.1, refl) ∣₁)
   quiet_turn line.End goes_on s = absurd (goes_on refl)
@@ -51,6 +60,8 @@ module _ (each : EachFull) (most : ℕ) (told : Option Program) where
   end_or_not : (said : Line) → (said ≡ line.End) ⊎ (said ≡ line.End → ⊥)
   end_or_not line.Blank = inr (λ is. absurd (cc (is)))
   end_or_not (line.Edit path text) = inr (λ is. absurd (cc (is)))
+  end_or_not (line.Delete path) = inr (λ is. absurd (cc (is)))
+  end_or_not (line.Touch path) = inr (λ is. absurd (cc (is)))
   end_or_not line.Recheck = inr (λ is. absurd (cc (is)))
   end_or_not (line.Ask a) = inr (λ is. absurd (cc (is)))
   end_or_not line.End = inl refl

@@ -19,7 +19,7 @@ use Rattle.script_print.specs.Printed.{done_line}
 use Rattle.script_reader.specs.Lines.{LINE_LIMIT}
 use Rattle.script_run.specs.Checked.{HasErrorCount}
 use Rattle.script_run.specs.declared.ending.WalkEnd.{WalkEnd}
-use Rattle.script_run.specs.Transcript.{Standing, MOST_LINES, Rechecks, done, cannot_read, Turns, blank, edits, refuses, rechecks, answers, Walked, loads, goes, Ends, no_line, end_line, bad, long, many, last_line, IsRun, IsQuietRun}
+use Rattle.script_run.specs.Transcript.{Standing, MOST_LINES, Rechecks, done, cannot_read, Turns, blank, edits, refuses, touches, refuses_touch, deletes, rechecks, answers, Walked, loads, goes, Ends, no_line, end_line, bad, long, many, last_line, IsRun, IsQuietRun}
 use Rattle.script_run.proofs.Checks.{one_count, one_answer}
 use Rattle.script_run.proofs.Completing.{some_run}
 
@@ -69,6 +69,11 @@ module _ (one : OneFull) (folder : Program) where
     same_turn (edits s path text few) (refuses s' path' text' over) quiet still = absurd (omega arith)
     same_turn (refuses s path text over) (edits s' path' text' few) quiet still = absurd (omega arith)
     same_turn (refuses s path text over) (refuses s' path' text' over') quiet still = (refl, refl)
+    same_turn (touches s path few) (touches s' path' few') quiet still = (refl, refl)
+    same_turn (touches s path few) (refuses_touch s' path' over) quiet still = absurd (omega arith)
+    same_turn (refuses_touch s path over) (touches s' path' few) quiet still = absurd (omega arith)
+    same_turn (refuses_touch s path over) (refuses_touch s' path' over') quiet still = (refl, refl)
+    same_turn (deletes s path) (deletes s' path') quiet still = (refl, refl)
     same_turn (rechecks s t f p recheck) (rechecks s' u g q other) quiet still = same_recheck recheck other quiet still
     same_turn (answers s p answer) (answers s' q answer') quiet still = (refl, one_answer one s.program s.version p q answer answer')
 
@@ -106,6 +111,9 @@ turn_goes_on : {most : ℕ} {told : Option Program} {said : Line} {s t : Standin
 turn_goes_on (blank s) is = absurd (cc (is))
 turn_goes_on (edits s path text few) is = absurd (cc (is))
 turn_goes_on (refuses s path text over) is = absurd (cc (is))
+turn_goes_on (touches s path few) is = absurd (cc (is))
+turn_goes_on (refuses_touch s path over) is = absurd (cc (is))
+turn_goes_on (deletes s path) is = absurd (cc (is))
 turn_goes_on (rechecks s t f p recheck) is = absurd (cc (is))
 turn_goes_on (answers s p answer) is = absurd (cc (is))
 

@@ -27,7 +27,7 @@ use Rattle.payloads.specs.declared.payload.Payload.TheVariants as payload
 use Rattle.pending_edits.specs.Pending.{Pending, MayBecome, IsTouched}
 use Rattle.pending_edits.specs.Pending as pending
 use Rattle.pending_edits.specs.declared.edit.Edit.{Edit}
-use Rattle.pending_edits.specs.declared.edit.Edit.TheVariants.{Put}
+use Rattle.pending_edits.specs.declared.edit.Edit.TheVariants.{Put, Touch, Delete}
 use Rattle.pending_edits.specs.declared.edit.EditFault.{EditFault}
 use Rattle.pending_edits.specs.declared.edit.EditFault.TheVariants.{TooManyModules, NoMemory}
 use Rattle.program_recheck.specs.Recheck.{Commits, RecheckState, Rechecked, CountsReads}
@@ -38,8 +38,8 @@ use Rattle.script_line.specs.declared.line.Line.{Line}
 use Rattle.script_line.specs.declared.line.Line.TheVariants as line
 use Rattle.script_line.specs.declared.line.Ask.TheVariants as ask
 use Rattle.script_run.specs.Checked.{HasErrorCount, IsStatusAnswer}
-use Rattle.script_run.specs.Transcript.{Standing, start, to_touch, with_edit, modules_counted, Rechecks, done, cannot_read, Turns, blank, edits, refuses, rechecks, answers}
-use Rattle.script_run.specs.Session.{modules_of, modules_in, program_in, program_with, Held, held, standing_of, standing_in, IsEmptyHeap, faults_of, faults_in, faults_at, count_in, lines_in, HasPlace, HasRechecked, HasTurned, HasEdited, Limits, Prints, PrintsEdit}
+use Rattle.script_run.specs.Transcript.{Standing, start, to_touch, with_edit, modules_counted, Rechecks, done, cannot_read, Turns, blank, edits, refuses, touches, refuses_touch, deletes, rechecks, answers}
+use Rattle.script_run.specs.Session.{modules_of, modules_in, program_in, program_with, Held, held, standing_of, standing_in, IsEmptyHeap, faults_of, faults_in, faults_at, count_in, lines_in, HasPlace, HasRechecked, HasTurned, HasEdited, HasDeleted, Limits, Prints, PrintsEdit}
 use Rattle.script_run.proofs.Checks.{same_errors, each_module}
 
 -- ---- counts
@@ -242,20 +242,26 @@ rechecked before now h o version line at recheck reads bounded is prints =
 
 -- ---- edits
 
-module _ (before after : Pending) (m : Meaning Payload) (path new printed : Bytes) where
-  edited_with : {T : Type 0} (put : Result T EditFault) → OnOk put (after.edits ≡ pending.with_edit before.edits path (Put new)) → OnErr put (after.edits ≡ before.edits)
+module _ (before after : Pending) (m : Meaning Payload) (path printed : Bytes) (new : Edit) where
+  edited_with : {T : Type 0} (put : Result T EditFault) → OnOk put (after.edits ≡ pending.with_edit before.edits path new) → OnErr put (after.edits ≡ before.edits)
       → Limits before.capacity (modules_counted (with_edit (standing_of m before) path new)) put → PrintsEdit put printed → HasEdited before.capacity path new (standing_of m before) (standing_of m after) printed
-  edited_with (Ok x) ok err few prints = inl (few, same_standing (program_in m.committed) (program_in m.committed) m.version m.version after.edits (pending.with_edit before.edits path (Put new)) refl refl ok, prints)
+  edited_with (Ok x) ok err few prints = inl (few, same_standing (program_in m.committed) (program_in m.committed) m.version m.version after.edits (pending.with_edit before.edits path new) refl refl ok, prints)
   edited_with (Err (TooManyModules count)) ok err many prints =
       inr (many.0, same_standing (program_in m.committed) (program_in m.committed) m.version m.version after.edits before.edits refl refl err, prints ∙ ap refused_line many.1)
   edited_with (Err NoMemory) ok err few prints = absurd prints
 
-pub edited_there : {T V E : Type 0} (put : Result T EditFault) (line : Result V E) (text : V → Bytes) (m : Meaning Payload) (before after : Pending) (h : Held) (path new : Bytes) → held m before ≡ h
-    → OnOk put (after.edits ≡ pending.with_edit before.edits path (Put new)) → OnErr put (after.edits ≡ before.edits) → Limits before.capacity (modules_counted (with_edit (standing_of m before) path new)) put
+pub edited_there : {T V E : Type 0} (put : Result T EditFault) (line : Result V E) (text : V → Bytes) (m : Meaning Payload) (before after : Pending) (h : Held) (path : Bytes) (new : Edit) → held m before ≡ h
+    → OnOk put (after.edits ≡ pending.with_edit before.edits path new) → OnErr put (after.edits ≡ before.edits) → Limits before.capacity (modules_counted (with_edit (standing_of m before) path new)) put
     → IfOk line (λ v. PrintsEdit put (text v)) → IfOk line (λ v. HasEdited h.waiting.capacity path new (standing_in h) (standing_of m after) (text v))
 edited_there put (Ok v) text m before after h path new at ok err limits prints =
-    subst (λ (k : Held). HasEdited k.waiting.capacity path new (standing_in k) (standing_of m after) (text v)) at (edited_with before after m path new (text v) put ok err limits prints)
+    subst (λ (k : Held). HasEdited k.waiting.capacity path new (standing_in k) (standing_of m after) (text v)) at (edited_with before after m path (text v) new put ok err limits prints)
 edited_there put (Err e) text m before after h path new at ok err limits prints = tt
+
+pub deleted_there : (m : Meaning Payload) (before after : Pending) (h : Held) (path printed : Bytes) → held m before ≡ h → after.edits ≡ pending.with_edit before.edits path Delete → printed ≡ []
+    → HasDeleted path (standing_in h) (standing_of m after) printed
+deleted_there m before after h path printed at ok none =
+    subst (λ (k : Held). HasDeleted path (standing_in k) (standing_of m after) printed) at
+    (same_standing (program_in m.committed) (program_in m.committed) m.version m.version after.edits (pending.with_edit before.edits path Delete) refl refl ok, none)
 
 -- ---- turns
 
@@ -270,13 +276,26 @@ of_turn most said line s s' printed more faults before now is same turns counted
 pub turned_blank : (most : ℕ) (said : Line) (s : Standing) (printed : Bytes) (now : FolderSeen) → now.faults < 2 ^ 64 → said ≡ line.Blank → printed ≡ [] → HasTurned most said s s printed now now
 turned_blank most said s printed now bounded is none = of_turn most said line.Blank s s [] printed 0 now now is none (blank s) (rose_none now.faults now.faults bounded refl)
 
-pub turned_edit : (most : ℕ) (said : Line) (path text : Bytes) (s s' : Standing) (printed : Bytes) (now : FolderSeen) → now.faults < 2 ^ 64 → said ≡ line.Edit path text → HasEdited most path text s s' printed
+pub turned_edit : (most : ℕ) (said : Line) (path text : Bytes) (s s' : Standing) (printed : Bytes) (now : FolderSeen) → now.faults < 2 ^ 64 → said ≡ line.Edit path text → HasEdited most path (Put text) s s' printed
     → HasTurned most said s s' printed now now
 turned_edit most said path text s s' printed now bounded is (inl (few, same, none)) =
     of_turn most said (line.Edit path text) s s' [] printed 0 now now is none (subst (λ t. Turns most now.told (line.Edit path text) s t 0 []) (sym same) (edits s path text few)) (rose_none now.faults now.faults bounded refl)
 turned_edit most said path text s s' printed now bounded is (inr (many, same, refused)) =
-    of_turn most said (line.Edit path text) s s' (refused_line (modules_counted (with_edit s path text))) printed 0 now now is refused
-    (subst (λ t. Turns most now.told (line.Edit path text) s t 0 (refused_line (modules_counted (with_edit s path text)))) (sym same) (refuses s path text many)) (rose_none now.faults now.faults bounded refl)
+    of_turn most said (line.Edit path text) s s' (refused_line (modules_counted (with_edit s path (Put text)))) printed 0 now now is refused
+    (subst (λ t. Turns most now.told (line.Edit path text) s t 0 (refused_line (modules_counted (with_edit s path (Put text))))) (sym same) (refuses s path text many)) (rose_none now.faults now.faults bounded refl)
+
+pub turned_touch : (most : ℕ) (said : Line) (path : Bytes) (s s' : Standing) (printed : Bytes) (now : FolderSeen) → now.faults < 2 ^ 64 → said ≡ line.Touch path → HasEdited most path Touch s s' printed
+    → HasTurned most said s s' printed now now
+turned_touch most said path s s' printed now bounded is (inl (few, same, none)) =
+    of_turn most said (line.Touch path) s s' [] printed 0 now now is none (subst (λ t. Turns most now.told (line.Touch path) s t 0 []) (sym same) (touches s path few)) (rose_none now.faults now.faults bounded refl)
+turned_touch most said path s s' printed now bounded is (inr (many, same, refused)) =
+    of_turn most said (line.Touch path) s s' (refused_line (modules_counted (with_edit s path Touch))) printed 0 now now is refused
+    (subst (λ t. Turns most now.told (line.Touch path) s t 0 (refused_line (modules_counted (with_edit s path Touch)))) (sym same) (refuses_touch s path many)) (rose_none now.faults now.faults bounded refl)
+
+pub turned_delete : (most : ℕ) (said : Line) (path : Bytes) (s s' : Standing) (printed : Bytes) (now : FolderSeen) → now.faults < 2 ^ 64 → said ≡ line.Delete path → HasDeleted path s s' printed
+    → HasTurned most said s s' printed now now
+turned_delete most said path s s' printed now bounded is (same, none) =
+    of_turn most said (line.Delete path) s s' [] printed 0 now now is none (subst (λ t. Turns most now.told (line.Delete path) s t 0 []) (sym same) (deletes s path)) (rose_none now.faults now.faults bounded refl)
 
 pub turned_recheck : (most : ℕ) (said : Line) (s s' : Standing) (text printed : Bytes) (before now : FolderSeen) → said ≡ line.Recheck → printed ≡ text → HasRechecked s s' text before now
     → HasTurned most said s s' printed before now

@@ -11,7 +11,7 @@ use Rattle.script_line.specs.declared.line.Line.{Line}
 use Rattle.script_reader.specs.Lines.{lines_left, TakesLine}
 use Rattle.script_run.specs.Checked.{HasErrorCount}
 use Rattle.script_run.specs.declared.ending.WalkEnd.{WalkEnd}
-use Rattle.script_run.specs.Transcript.{Standing, start, Rechecks, done, cannot_read, Turns, blank, edits, refuses, rechecks, answers, Walked, loads, goes, Ends, last_line, IsRun, IsRunSoFar}
+use Rattle.script_run.specs.Transcript.{Standing, start, Rechecks, done, cannot_read, Turns, blank, edits, refuses, touches, refuses_touch, deletes, rechecks, answers, Walked, loads, goes, Ends, last_line, IsRun, IsRunSoFar}
 use Rattle.script_run.specs.Session.{HasRechecked, HasTurned}
 use Rattle.script_run.specs.declared.command.Command.{Command}
 use Rattle.script_run.specs.declared.command.Command.TheVariants as command
@@ -43,6 +43,9 @@ turn_version : {most : ℕ} {told : Option Program} {said : Line} {s t : Standin
 turn_version (blank s) = omega arith
 turn_version (edits s path text few) = omega arith
 turn_version (refuses s path text many) = omega arith
+turn_version (touches s path few) = omega arith
+turn_version (refuses_touch s path many) = omega arith
+turn_version (deletes s path) = omega arith
 turn_version (rechecks s t f printed recheck) = recheck_version recheck
 turn_version (answers s answer is) = omega arith
 
@@ -60,6 +63,9 @@ turn_counts : {most : ℕ} {told : Option Program} {said : Line} {s t : Standing
 turn_counts (blank s) before = before
 turn_counts (edits s path text few) before = before
 turn_counts (refuses s path text many) before = before
+turn_counts (touches s path few) before = before
+turn_counts (refuses_touch s path many) before = before
+turn_counts (deletes s path) before = before
 turn_counts (rechecks s t f printed recheck) before = recheck_counts recheck before
 turn_counts (answers s answer is) before = before
 

@@ -19,6 +19,7 @@ use Rattle.pending_edits.specs.Pending.{Pending}
 use Rattle.pending_edits.specs.Counting.{StandsOn}
 use Rattle.pending_edits.specs.contracts.edit.Edit as edit_type
 use Rattle.pending_edits.specs.declared.edit.Edit.{Edit}
+use Rattle.pending_edits.specs.declared.edit.Edit.TheVariants.{Delete}
 use Rattle.pending_edits.specs.declared.edit.EditFault.{EditFault}
 use Rattle.pending_edits.specs.declared.edit.EditFault.TheVariants.{TooManyModules, NoMemory}
 use Rattle.program_recheck.specs.Recheck.{Commits, HasRoom}
@@ -160,10 +161,14 @@ Limits capacity modules (Err (TooManyModules count)) = (capacity < modules) × (
 Limits capacity modules (Err NoMemory) = Unit {0}
 
 -- an edit joined the others, or was refused since more modules than these would be counted, and changed nothing; what this prints
-abbrev pub HasEdited : ℕ → Bytes → Bytes → Standing → Standing → Bytes → Type 0
-HasEdited most path text s s' printed =
-    ((modules_counted (with_edit s path text) ≤ most) × (s' ≡ with_edit s path text) × (printed ≡ []))
-    ⊎ ((most < modules_counted (with_edit s path text)) × (s' ≡ s) × (printed ≡ refused_line (modules_counted (with_edit s path text))))
+abbrev pub HasEdited : ℕ → Bytes → Edit → Standing → Standing → Bytes → Type 0
+HasEdited most path edit s s' printed =
+    ((modules_counted (with_edit s path edit) ≤ most) × (s' ≡ with_edit s path edit) × (printed ≡ []))
+    ⊎ ((most < modules_counted (with_edit s path edit)) × (s' ≡ s) × (printed ≡ refused_line (modules_counted (with_edit s path edit))))
+
+-- an edit that is never refused joined the others, and prints nothing
+abbrev pub HasDeleted : Bytes → Standing → Standing → Bytes → Type 0
+HasDeleted path s s' printed = (s' ≡ with_edit s path Delete) × (printed ≡ [])
 
 -- what a recheck prints, after which the version is this one
 abbrev pub Prints : Outcome → ℕ → Bytes → Type 0

@@ -10,7 +10,7 @@ use Rattle.pending_edits.specs.Pending as pending
 use Rattle.pending_edits.specs.Pending.{MayBecome, IsTouched}
 use Rattle.pending_edits.specs.Counting.{counted}
 use Rattle.pending_edits.specs.declared.edit.Edit.{Edit}
-use Rattle.pending_edits.specs.declared.edit.Edit.TheVariants.{Put, Touch}
+use Rattle.pending_edits.specs.declared.edit.Edit.TheVariants.{Put, Touch, Delete}
 use Rattle.script_line.specs.declared.line.Line.{Line}
 use Rattle.script_line.specs.declared.line.Line.TheVariants as line
 use Rattle.script_line.specs.declared.line.Ask.TheVariants as ask
@@ -57,16 +57,20 @@ pub data Rechecks (told : Option Program) : Standing → Standing → ℕ → By
       (done_line (s.version + 1) (length program) (length program) errors)
   cannot_read : (s : Standing) (path : Bytes) → IsTouched s.waiting path → Rechecks told s s 1 (fault_line path s.version)
 
--- the standing after an edit of this path to this text, which the next recheck takes
-abbrev pub with_edit : Standing → Bytes → Bytes → Standing
-with_edit s path text = record { program = s.program; version = s.version; waiting = pending.with_edit s.waiting path (Put text) }
+-- the standing after an edit of this path, which the next recheck takes
+abbrev pub with_edit : Standing → Bytes → Edit → Standing
+with_edit s path edit = record { program = s.program; version = s.version; waiting = pending.with_edit s.waiting path edit }
 
 -- what one line of the script does and prints
 pub data Turns (most : ℕ) (told : Option Program) : Line → Standing → Standing → ℕ → Bytes → Type 0 where
   blank : (s : Standing) → Turns most told line.Blank s s 0 []
-  edits : (s : Standing) (path text : Bytes) → modules_counted (with_edit s path text) ≤ most → Turns most told (line.Edit path text) s (with_edit s path text) 0 []
-  refuses : (s : Standing) (path text : Bytes) → most < modules_counted (with_edit s path text) →
-      Turns most told (line.Edit path text) s s 0 (refused_line (modules_counted (with_edit s path text)))
+  edits : (s : Standing) (path text : Bytes) → modules_counted (with_edit s path (Put text)) ≤ most → Turns most told (line.Edit path text) s (with_edit s path (Put text)) 0 []
+  refuses : (s : Standing) (path text : Bytes) → most < modules_counted (with_edit s path (Put text)) →
+      Turns most told (line.Edit path text) s s 0 (refused_line (modules_counted (with_edit s path (Put text))))
+  touches : (s : Standing) (path : Bytes) → modules_counted (with_edit s path Touch) ≤ most → Turns most told (line.Touch path) s (with_edit s path Touch) 0 []
+  refuses_touch : (s : Standing) (path : Bytes) → most < modules_counted (with_edit s path Touch) →
+      Turns most told (line.Touch path) s s 0 (refused_line (modules_counted (with_edit s path Touch)))
+  deletes : (s : Standing) (path : Bytes) → Turns most told (line.Delete path) s (with_edit s path Delete) 0 []
   rechecks : (s s' : Standing) (faults : ℕ) (printed : Bytes) → Rechecks told s s' faults printed → Turns most told line.Recheck s s' faults printed
   answers : (s : Standing) (answer : Bytes) → IsStatusAnswer s.version s.program answer → Turns most told (line.Ask ask.Status) s s 0 answer
 

@@ -1,12 +1,13 @@
 ghost use Rattle.std.specs.Prelude.{◌≡◌, ◌+◌, ◌<◌, ◌≤◌, ◌^◌, length, string_bytes, IfOk};
 ghost use Rattle.flow_base.specs.Program.{IsRising};
+ghost use Rattle.pending_edits.specs.declared.edit.Edit.TheVariants.{Put, Touch};
 ghost use Rattle.script_run.specs.Checked.{HasErrorCount, IsStatusAnswer};
 ghost use Rattle.script_run.specs.Transcript.{start};
-ghost use Rattle.script_run.specs.Session.{IsEmptyHeap, standing_in, Prints, PrintsEdit, HasEdited, HasRechecked, HasTurned};
+ghost use Rattle.script_run.specs.Session.{IsEmptyHeap, standing_in, Prints, PrintsEdit, HasEdited, HasDeleted, HasRechecked, HasTurned};
 
 use crate::committed::Committed;
 use crate::errors::{count_errors, status_answer};
-use crate::waiting::{put_text, recheck_edited, touched};
+use crate::waiting::{put_text, recheck_edited, touch_path, touched};
 use analyst::Analyst;
 use flow_base::{Folder, List, NoMemory, Path, Text};
 use heap_core::HeapWriter;
@@ -86,11 +87,30 @@ impl<W: HeapWriter<Payload> + Drop, A: Analyst + Drop> Session<W, A> {
 
     /// Puts an edit to the others, and gives what this prints: nothing, or that it was refused.
     fn edit(&mut self, path: Path, text: Text) -> Result<Vec<u8>, NoMemory>
-        ensures edited { IfOk result (λ printed. HasEdited self.old.waiting.capacity path text (standing_in self.old) (standing_in self.new) printed.items) }
+        ensures edited { IfOk result (λ printed. HasEdited self.old.waiting.capacity path (Put text) (standing_in self.old) (standing_in self.new) printed.items) }
         ensures modules { self.new.waiting.capacity ≡ self.old.waiting.capacity }
     {
         let put = put_text(&self.heap, &mut self.edits, path, text);
         edit_line(self.alloc, put)
+    }
+
+    /// Puts a path to those that the next recheck reads, and gives what this prints: nothing, or that it
+    /// was refused.
+    fn touch(&mut self, path: Path) -> Result<Vec<u8>, NoMemory>
+        ensures touched { IfOk result (λ printed. HasEdited self.old.waiting.capacity path Touch (standing_in self.old) (standing_in self.new) printed.items) }
+        ensures modules { self.new.waiting.capacity ≡ self.old.waiting.capacity }
+    {
+        let put = touch_path(&self.heap, &mut self.edits, path);
+        edit_line(self.alloc, put)
+    }
+
+    /// From the next recheck on a path is no module. This prints nothing.
+    fn delete(&mut self, path: Path) -> Result<Vec<u8>, NoMemory>
+        ensures deleted { IfOk result (λ printed. HasDeleted path (standing_in self.old) (standing_in self.new) printed.items) }
+        ensures modules { self.new.waiting.capacity ≡ self.old.waiting.capacity }
+    {
+        self.edits.delete(path)?;
+        Ok(Vec::new(self.alloc))
     }
 
     /// The answer to a question for the status.
@@ -119,6 +139,8 @@ impl<W: HeapWriter<Payload> + Drop, A: Analyst + Drop> Session<W, A> {
         match line {
             Line::Blank => Ok(Vec::new(self.alloc)),
             Line::Edit { path, text } => self.edit(path, text),
+            Line::Delete { path } => self.delete(path),
+            Line::Touch { path } => self.touch(path),
             Line::Recheck => Ok(self.recheck(folder)?.into_bytes()),
             Line::Ask(Ask::Status) => self.status(),
             Line::End => unreachable!(),

@@ -5,7 +5,7 @@ ghost use Rattle.flow_values.specs.Path.{IsRising};
 ghost use Rattle.check_values.specs.Roots.{paths_of};
 ghost use Rattle.pending_edits.specs.Pending.{with_edit};
 ghost use Rattle.pending_edits.specs.Counting.{counted, StandsOn};
-ghost use Rattle.pending_edits.specs.declared.edit.Edit.TheVariants.{Put, Touch};
+ghost use Rattle.pending_edits.specs.declared.edit.Edit.TheVariants.{Put, Touch, Delete};
 ghost use Rattle.program_recheck.specs.Recheck.{HasRoom, Commits, Rechecked, CountsReads};
 ghost use Rattle.script_run.specs.Transcript.{to_touch};
 ghost use Rattle.script_run.specs.Session.{StandOnCommitted, Limits, program_in};
@@ -100,6 +100,30 @@ pub(crate) fn put_text<W: HeapWriter<Payload>>(
 {
     let root = committed_root(heap)?;
     edits.put(root.get(), path, text)
+}
+
+/// Puts a path to those that the next recheck reads.
+///
+/// # Errors
+///
+/// `TooManyModules` exactly where more modules would be counted than there may be, with their number,
+/// and `NoMemory` where memory is refused. The edits are then as before.
+pub(crate) fn touch_path<W: HeapWriter<Payload>>(
+    heap: &W,
+    edits: &mut Edits,
+    path: Path,
+) -> Result<(), EditFault>
+    requires closed { (W.meaning heap.now).is_open ≡ false }
+    requires room { HasRoom (W.meaning heap.now) edits.old.capacity }
+    requires stands { StandOnCommitted (W.meaning heap.now) edits.old }
+    ensures ok { OnOk result (edits.new.edits ≡ with_edit edits.old.edits path Touch) }
+    ensures err { OnErr result (edits.new.edits ≡ edits.old.edits) }
+    ensures too_many { Limits edits.old.capacity (counted (paths_in (program_in (W.meaning heap.now).committed)) (with_edit edits.old.edits path Touch)) result }
+    ensures stands { StandOnCommitted (W.meaning heap.now) edits.new }
+    ensures capacity { edits.new.capacity ≡ edits.old.capacity }
+{
+    let root = committed_root(heap)?;
+    edits.touch(root.get(), path)
 }
 
 /// Rechecks. The edits stand on the program that is then committed.

@@ -11,4 +11,4 @@ pub returns-clause-sig : goal.returns-clause-sig
 returns-clause-sig c = sig_serves c.merging_is_local.ensures
 
 pub returns-clause-errors : goal.returns-clause-errors
-returns-clause-errors c = errors_serve c.one_parse.ensures c.errors_by_reach.ensures.law
+returns-clause-errors c = errors_serve c.one_parse.ensures c.key_law.ensures.errors

@@ -8,7 +8,7 @@ pub returns-clause-signatures : goal.returns-clause-signatures
 returns-clause-signatures c = signatures_stay c.merging_is_local.ensures
 
 pub returns-clause-errors : goal.returns-clause-errors
-returns-clause-errors c = errors_stay c.one_parse.ensures c.errors_by_reach.ensures.law c.errors_by_reach.ensures.one
+returns-clause-errors c = errors_stay c.one_parse.ensures c.key_law.ensures.errors c.errors_by_reach.ensures.one
 
 pub returns-clause-results : goal.returns-clause-results
-returns-clause-results c = results_stay c.one_parse.ensures c.merging_is_local.ensures c.errors_by_reach.ensures.law c.errors_by_reach.ensures.one
+returns-clause-results c = results_stay c.one_parse.ensures c.merging_is_local.ensures c.key_law.ensures.errors c.errors_by_reach.ensures.one

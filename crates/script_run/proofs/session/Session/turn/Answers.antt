@@ -1,7 +1,7 @@
 use Rattle.std.proofs.Common.{rules, ap}
 use Rattle.std.proofs.lemmas.Result.{IfOk-weaker}
 use Rattle.script_run.specs.Session.{standing_in}
-use Rattle.script_run.proofs.Sessions.{turned_blank, turned_edit, turned_recheck, turned_status}
+use Rattle.script_run.proofs.Sessions.{turned_blank, turned_edit, turned_touch, turned_delete, turned_recheck, turned_status}
 use Rattle.script_run.proofs.session.Session.turn.Goals as goal
 
 pub returns-in-Blank-clause-turned : goal.returns-in-Blank-clause-turned
@@ -10,6 +10,14 @@ returns-in-Blank-clause-turned g c = turned_blank c.args.self.now.waiting.capaci
 pub returns-in-Edit-clause-turned : goal.returns-in-Edit-clause-turned
 returns-in-Edit-clause-turned g c =
     IfOk-weaker c.edit.result _ _ (λ printed edited. turned_edit c.args.self.now.waiting.capacity c.args.line c.in-Edit.path c.in-Edit.text (standing_in c.args.self.now) (standing_in c.edit.new.self) printed.items _ (g.met.F.Folder.bounded c.args.folder.now) c.in-Edit.is edited) c.edit.ensures.edited
+
+pub returns-in-Touch-clause-turned : goal.returns-in-Touch-clause-turned
+returns-in-Touch-clause-turned g c =
+    IfOk-weaker c.touch.result _ _ (λ printed edited. turned_touch c.args.self.now.waiting.capacity c.args.line c.in-Touch.path (standing_in c.args.self.now) (standing_in c.touch.new.self) printed.items _ (g.met.F.Folder.bounded c.args.folder.now) c.in-Touch.is edited) c.touch.ensures.touched
+
+pub returns-in-Delete-clause-turned : goal.returns-in-Delete-clause-turned
+returns-in-Delete-clause-turned g c =
+    IfOk-weaker c.delete.result _ _ (λ printed deleted. turned_delete c.args.self.now.waiting.capacity c.args.line c.in-Delete.path (standing_in c.args.self.now) (standing_in c.delete.new.self) printed.items _ (g.met.F.Folder.bounded c.args.folder.now) c.in-Delete.is deleted) c.delete.ensures.deleted
 
 pub returns-in_ok-recheck-in-Recheck-clause-turned : goal.returns-in_ok-recheck-in-Recheck-clause-turned
 returns-in_ok-recheck-in-Recheck-clause-turned g c =

@@ -1,0 +1,10 @@
+pub mod Counted
+pub mod Enough
+pub mod Folders
+pub mod Giving
+pub mod Lists
+pub mod Marks
+pub mod Onward
+pub mod Rooted
+pub mod Users
+pub mod Walked

@@ -1,0 +1,4 @@
+pub mod From
+pub mod Reading
+pub mod Walk
+pub mod Numbering
