@@ -1,0 +1,9 @@
+use Rattle.std.proofs.Common.{◌≡◌, ◌++◌, take}
+use Rattle.std.specs.List.{flat_map}
+use Rattle.answer_print.specs.Lines.{path_line}
+use Rattle.answer_print.proofs.rows.push_paths.Given as goal
+
+abbrev pub invariant-loop-i : goal.invariant-loop-i
+invariant-loop-i l = record {
+  written : l.out.items ≡ l.fn.out.items ++ flat_map path_line (take l.i l.paths);
+}

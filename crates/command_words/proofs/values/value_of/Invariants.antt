@@ -1,0 +1,8 @@
+use Rattle.std.proofs.Common.{◌≡◌, take}
+use Rattle.std.specs.Str.Parse.{digits_value}
+use Rattle.command_words.proofs.values.value_of.Given as goal
+
+abbrev pub invariant-loop-i : goal.invariant-loop-i
+invariant-loop-i l = record {
+  so_far : l.value ≡ digits_value 10 (take l.i l.digits);
+}

@@ -1,0 +1,3 @@
+pub mod Imported
+pub mod Lines
+pub mod Paths
