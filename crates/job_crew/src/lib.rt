@@ -1,0 +1,11 @@
+//! Workers at their places, each in a thread of its own where one can be had: numbered jobs are dealt out, drawn and stolen, and their
+//! answers put in order.
+#![tactic(auto)]
+
+mod gathering;
+mod resting;
+mod run;
+mod setting;
+mod together;
+
+pub use run::run_all;

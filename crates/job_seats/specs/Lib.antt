@@ -1,0 +1,3 @@
+pub mod Seats
+pub mod Left
+pub mod Working

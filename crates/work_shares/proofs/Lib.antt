@@ -1,0 +1,5 @@
+pub mod Works
+pub mod Sums
+pub mod Shared
+pub mod Rises
+pub mod Counts

@@ -1,0 +1,77 @@
+use analyst::Analyst;
+use check_job::CheckJob;
+use check_values::{Errs, Sig};
+use flow_values::{List, NoMemory, Text};
+use job_ends::MergeJob;
+use job_seats::Kind;
+use source_front::Parse;
+
+/// The jobs of reading sources.
+pub(crate) struct Fronts;
+
+impl<A: Analyst> Kind<A, Text, Parse> for Fronts {
+    ghost use Rattle.std.specs.Prelude.{⊤};
+    ghost use Rattle.source_front.specs.Front.{IsParse};
+    ghost use Rattle.analyst.specs.Work.{fronting};
+
+    ghost ready = { λ text. ⊤ };
+
+    ghost answers = { λ text parse. IsParse text parse };
+
+    ghost work_of = { λ text. fronting };
+
+    ghost work = { A.work };
+
+    ghost bounded = { A.bounded };
+
+    fn answer(analyst: &mut A, job: &Text) -> Result<Parse, NoMemory> {
+        analyst.front(job)
+    }
+}
+
+/// The jobs of merging signatures.
+pub(crate) struct Merges;
+
+impl<A: Analyst> Kind<A, MergeJob, List<Sig>> for Merges {
+    ghost use Rattle.std.specs.Prelude.{◌≡◌, ⊤, length};
+    ghost use Rattle.merged_signatures.specs.Job.{job_signatures};
+    ghost use Rattle.job_ends.specs.Jobs.{job_view};
+    ghost use Rattle.analyst.specs.Work.{merging};
+
+    ghost ready = { λ job. ⊤ };
+
+    ghost answers = { λ job sigs. sigs ≡ job_signatures (job_view job) };
+
+    ghost work_of = { λ job. merging (length job.members) };
+
+    ghost work = { A.work };
+
+    ghost bounded = { A.bounded };
+
+    fn answer(analyst: &mut A, job: &MergeJob) -> Result<List<Sig>, NoMemory> {
+        analyst.merge(job)
+    }
+}
+
+/// The jobs of checking modules.
+pub(crate) struct Checks;
+
+impl<A: Analyst> Kind<A, CheckJob, Errs> for Checks {
+    ghost use Rattle.std.specs.Prelude.{⊤};
+    ghost use Rattle.analyst.specs.Work.{checking};
+    ghost use Rattle.worker_jobs.specs.Checking.{HasErrors};
+
+    ghost ready = { λ job. ⊤ };
+
+    ghost answers = { HasErrors };
+
+    ghost work_of = { λ job. checking };
+
+    ghost work = { A.work };
+
+    ghost bounded = { A.bounded };
+
+    fn answer(analyst: &mut A, job: &CheckJob) -> Result<Errs, NoMemory> {
+        analyst.check(job)
+    }
+}
