@@ -1,0 +1,10 @@
+pub mod Rule
+pub mod Plans
+pub mod Tells
+pub mod Starts
+pub mod Readers
+pub mod Writers
+pub mod Lanes
+pub mod Worlds
+pub mod Events
+pub mod Promises

@@ -1,0 +1,28 @@
+-- What readers may rest on between any two steps.
+use Rattle.std.specs.Prelude.{◌≡◌, ◌≢◌, ℕ, ◌<◌, true, slice_get, Option, Some}
+use mathlib.Core.Option.{some}
+use lib.ListN.{get_elem?}
+use Rattle.std.specs.declared.sync.Arc.{Arc}
+use Rattle.atomic_table.specs.Table.{State}
+use Rattle.heap_core.specs.Meaning.{AllFit}
+use Rattle.entity_heap.specs.declared.board.Hold.{Hold}
+use Rattle.entity_heap.specs.declared.board.Reach.{Reach}
+use Rattle.entity_heap.specs.declared.board.Plan.{Plan}
+use Rattle.entity_heap.specs.declared.board.Visit.{Visit}
+use Rattle.entity_heap.specs.declared.board.Role.{Role}
+use Rattle.entity_heap.specs.declared.board.Role.TheVariants.{Reads}
+use Rattle.entity_heap.specs.Rule.{spot, pick, word_of, IsRead, Has, Ties}
+
+module _ {P Z : Type 0} where
+  -- the committed payloads fit the committed root, and in each lane the slot that a reader of the current version is sent to has them, where the lane has not taken it
+  abbrev pub AreServed : (ℕ → P → ℕ → P → Type 0) → State (Option (Arc P Z)) (Role P) → Plan P → Ties → Type 0
+  AreServed fits s q t = AllFit fits q.committed
+      × ((n e : ℕ) (x : P) → n < q.lanes → e < q.entities → slice_get q.committed e ≡ Some x → let k = spot q.entities n e (pick (word_of s.words e) q.version) in ((h : Hold) → t.held n ≡ Some h → h.slot ≢ k) → Has s.homes k x)
+
+  -- once the version before is drained, each pin is at the current one
+  abbrev pub HaveLeft : State (Option (Arc P Z)) (Role P) → Plan P → Type 0
+  HaveLeft s q = q.drained ≡ true → (j p : ℕ) (l : Visit P) → get_elem? s.views j ≡ some (Reads l) → l.pin ≡ Some p → p ≡ q.version
+
+  -- the slot that the writer has taken to fill it is none that a pinned lane may read
+  abbrev pub IsApart : State (Option (Arc P Z)) (Role P) → Plan P → Type 0
+  IsApart s q = (w : Reach) → q.hand ≡ Some w → (n e v : ℕ) → n < q.lanes → e < q.entities → IsRead q v → w.slot ≢ spot q.entities n e (pick (word_of s.words e) v)
