@@ -4,11 +4,11 @@
 # which names those of the module before, so that each module's table has those of all before it.
 # Each line: the shape, how many aliases it has, the answer or what is printed, the milliseconds of the processor in the shortest of
 # five runs, less those of an empty run, and the microseconds an alias, which are to stay.
-# `rt run` in crates/subtype_cases and in crates/flowd builds the programs that it measures.
+# `rt run` in crates/subtype_cases and ./build build the programs that it measures.
 cd "$(dirname "$0")" || exit 1
 program=${PROGRAM:-../crates/subtype_cases/out/subtype_cases}
 flowd=${FLOWD:-../crates/flowd/out/flowd}
-[ -x "$program" ] && [ -x "$flowd" ] || { echo "build them first: rt run in crates/subtype_cases and crates/flowd" >&2; exit 1; }
+[ -x "$program" ] && [ -x "$flowd" ] || { echo "build them first: rt run in crates/subtype_cases, and ./build" >&2; exit 1; }
 folder=$(mktemp -d)
 trap 'rm -rf "$folder"' EXIT
 TIMEFORMAT='%3U %3S'

@@ -81,9 +81,8 @@ def measure(program, count, room):
 
 def main():
     counts = [int(word) for word in sys.argv[1:]] or [512, 1024]
-    # Where the program isn't built, this builds it: without words it ends with status 64.
-    if subprocess.run([f"{TOP}/flowd"], stdin=subprocess.DEVNULL, stdout=subprocess.DEVNULL).returncode != 64:
-        sys.exit("the program was not built")
+    if subprocess.run([f"{TOP}/build"]).returncode:
+        sys.exit(1)
     program = f"{TOP}/crates/flowd/out/flowd"
     room = tempfile.mkdtemp(prefix="flowd-bench-")
     try:

@@ -1,9 +1,12 @@
 #!/usr/bin/env python3
-"""Lists what the gate costs, crate by crate: processor seconds of its proofs, its tests and its must-fail edits.
+"""Lists what the gate costs, crate by crate: processor seconds of its proofs, its tests and its must-fail edits; the chain of
+crates that must be proved one behind the other and takes longest; and the dearest functions of crates.
 
-    bench/gate.py [NAME ..]           runs `rt ci --anew` at the top of the repository, over all crates or over these and
-                                      those below them: each proof and each edit is done from nothing
-    bench/gate.py --kept [NAME ..]    runs `rt ci` without --anew: what an earlier run kept isn't done again, nor counted
+    bench/gate.py [NAME ..]               runs `rt ci --anew` at the top of the repository, over all crates or over these and
+                                          those below them: each proof and each edit is done from nothing
+    bench/gate.py --kept [NAME ..]        runs `rt ci` without --anew: what an earlier run kept isn't done again, nor counted
+    bench/gate.py --functions [NAME ..]   checks each of these crates, or the five dearest of the last run, from nothing with
+                                          one job, and lists its ten dearest functions. The libraries below are to be there
 
 A toolchain whose `rt ci` keeps nothing has no --anew and takes no names: there it is `rt ci` in both cases.
 
@@ -15,14 +18,19 @@ prints a line a crate, the dearest first, then the sums, the wall time, and the 
 status it ends. Linux alone.
 """
 
+import json
 import os
+import re
+import shutil
 import subprocess
 import sys
 import tempfile
 import time
 
 TOP = os.path.dirname(os.path.dirname(os.path.abspath(__file__)))
+KEPT = f"{TOP}/.flowd/gate.json"  # the table of the last run
 KINDS = ("proof", "tests", "edits")
+DEAREST = 5, 10  # crates, and functions of each
 TICKS = os.sysconf("SC_CLK_TCK")
 
 
@@ -90,7 +98,64 @@ def command_of(words):
     return ["rt", "ci", *flags, *(it for it in words if it != "--kept")]
 
 
+def uses():
+    """The libraries that each crate uses, by crates.txt."""
+    with open(f"{TOP}/crates.txt", encoding="utf-8") as file:
+        return {name: used.split() for name, used in re.findall(r"(?m)^(\w+)[^#:\n]*:(.*)$", file.read())}
+
+
+def longest_chain(seconds):
+    """The crates of the chain that takes longest, where each is proved once all that it uses are, and its seconds."""
+    used, ends = uses(), {}
+
+    def end(crate):
+        if crate not in ends:
+            below = max((end(it) for it in used[crate] if it in used), default=(0, []))
+            ends[crate] = below[0] + seconds.get(crate, 0), [*below[1], crate]
+        return ends[crate]
+
+    return max((end(crate) for crate in used), default=(0, []))
+
+
+def print_chain(rows):
+    seconds = {name: row["proof"] for name, row in rows.items()}
+    whole, chain = longest_chain(seconds)
+    print(f"the longest chain: {whole:.0f} s: " + ", ".join(f"{it} {seconds[it]:.0f}" for it in chain if it in seconds))
+
+
+def print_functions(crate):
+    """Checks a crate from nothing, and prints its dearest functions: `rt check` says when it has checked each."""
+    kept = f"{TOP}/crates/{crate}/out/incremental"
+    with tempfile.TemporaryDirectory(prefix="flowd-gate-") as room:
+        if os.path.isdir(kept):
+            shutil.move(kept, f"{room}/kept")
+        run = subprocess.Popen(["rt", "check", "--jobs", "1"], cwd=f"{TOP}/crates/{crate}", stdout=subprocess.PIPE, stderr=subprocess.STDOUT, text=True)
+        watch, last, spent = Watch(run.pid), 0.0, []
+        for line in run.stdout:
+            told = re.match(r"checked (\S+), \d+ of \d+$", line)
+            if told:
+                watch.look()
+                now = sum(watch.seconds.values())
+                spent.append((now - last, told[1]))
+                last = now
+            final = line
+    print(f"{crate}: {final.split(' sum=')[0].strip()}, {len(spent)} functions, {sum(it for it, _ in spent):.1f} s with the reading of the libraries")
+    for seconds, name in sorted(spent[1:], reverse=True)[: DEAREST[1]]:
+        print(f"{seconds:>9.1f}  {name}")
+    return run.wait()
+
+
+def main_functions(names):
+    if not names:
+        with open(KEPT, encoding="utf-8") as file:
+            rows = json.load(file)
+        names = sorted(rows, key=lambda it: -rows[it]["proof"])[: DEAREST[0]]
+    sys.exit(max([print_functions(it) for it in names]))
+
+
 def main():
+    if sys.argv[1:2] == ["--functions"]:
+        main_functions(sys.argv[2:])
     command = command_of(sys.argv[1:])
     began = time.monotonic()
     with tempfile.TemporaryFile("w+", errors="replace") as said:
@@ -110,6 +175,10 @@ def main():
     for name in sorted(rows, key=lambda it: -sum(rows[it].values())):
         print_row(name, rows[name])
     print_row(f"{len(rows)} crates", {it: sum(row[it] for row in rows.values()) for it in KINDS})
+    print_chain(rows)
+    os.makedirs(os.path.dirname(KEPT), exist_ok=True)
+    with open(KEPT, "w", encoding="utf-8") as file:
+        json.dump(rows, file)
     print(f"{time.monotonic() - began:.0f} seconds of wall time; {' '.join(command)}: {last}")
     sys.exit(run.returncode)
 

@@ -11,7 +11,7 @@ dense one has types, functions with bodies, refinements, loops, object literals,
 TypeScript reads the same modules in its own words: `T | null | undefined` for `?T`, `readonly` for `+`. It checks them
 alone: no declarations of a browser, and none of the library's own. What it takes to start is told by an empty module.
 
-FLOWD names another program in the place of ./flowd. TypeScript is that of Debian's node-typescript.
+FLOWD names another program in the place of crates/flowd/out/flowd, which ./build builds. TypeScript is that of Debian's node-typescript.
 """
 
 import os
@@ -21,7 +21,7 @@ import tempfile
 import time
 
 TOP = os.path.dirname(os.path.dirname(os.path.abspath(__file__)))
-FLOWD = os.environ.get("FLOWD", f"{TOP}/flowd")
+FLOWD = os.environ.get("FLOWD", f"{TOP}/crates/flowd/out/flowd")
 TSC = ["tsc", "--noEmit", "--strict", "--target", "es2020", "--lib", "es2020", "--skipLibCheck"]
 PARTS = 10  # of a dense module
 

@@ -31,8 +31,8 @@ def script(count, edits):
 
 def main():
     count, edits = ([int(word) for word in sys.argv[1:]] + [1024, 1000][len(sys.argv) - 1 :])[:2]
-    if subprocess.run([f"{TOP}/flowd"], stdin=subprocess.DEVNULL, stdout=subprocess.DEVNULL).returncode != 64:
-        sys.exit("the program was not built")
+    if subprocess.run([f"{TOP}/build"]).returncode:
+        sys.exit(1)
     with tempfile.TemporaryDirectory(prefix="flowd-bench-") as room:
         _, size = write(f"{room}/d", count)
         with open(f"{room}/script", "w", encoding="ascii") as file:

@@ -1,89 +1,79 @@
 #!/usr/bin/env python3
-"""Runs ./flowd on the programs of programs.in, each as a real folder with a script that asks for the status.
+"""Runs ./flowd on the programs of programs.txt, each as a real folder with a script that asks for the status.
 
     tests/programs.py [WORD]       (only the cases whose name has this word)
 
-A line of programs.in is a program: the path and the source of each module in rising order of the paths, with a TAB
-between any two and `⏎` for each end of a line. programs.out has the lines of its errors, which an empty line ends: they
-were made from the language's description by hand and by a second implementation. What can't be a line of a file follows
-below. The last line is 'N passed, M failed'.
+A case of programs.txt is a line `# NAME`; for each module, in rising order of the paths, a line `@ PATH` and its source; and for
+each error a line `! PATH:LINE:COL CODE DETAILS`, in the order in which they are printed. An empty line parts it from the next
+one. A source is the lines behind its path, without the end of the last one; none of them begins as those lines do. The errors
+were made from the language's description by hand, and most by a second implementation too. What can't be lines of a file
+follows below. The last line is 'N passed, M failed'.
 """
 
 import os
+import re
 import sys
+import tempfile
 from concurrent.futures import ThreadPoolExecutor
 
-import real_folders
-from real_folders import CLEAN, ERRORS, TOP, expect, recheck, run, write
+from real_folders import CLEAN, ERRORS, TOP, build, expect, recheck, run, write
 
-CASES = real_folders.CASES = []
 STATUS = b'{"do":"ask","ask":{"what":"status"}}\n'
-END_OF_LINE = "⏎".encode()
 
-# Sources that can't be a line of a file: one that ends with a carriage return, and two that are not UTF-8.
-FURTHER = {
-    "every blank character": ("\ufeffconst\u00a0a\u000b=\u000c1\u2028;\u2029\r".encode(), b""),
-    "a byte that begins no character": (b"const a = 1; \xff", b"  a.js:1:1 not-utf8\n"),
-    "a surrogate": (b"\xed\xa0\x80", b"  a.js:1:1 not-utf8\n"),
-}
-
-
-def case(test):
-    CASES.append(test)
-    return test
+# Sources that can't be lines of a file: one that ends with a carriage return, two that are not UTF-8, two about the limit.
+FURTHER = [
+    ("every blank character", "\ufeffconst\u00a0a\u000b=\u000c1\u2028;\u2029\r".encode(), []),
+    ("a byte that begins no character", b"const a = 1; \xff", [b"a.js:1:1 not-utf8"]),
+    ("a surrogate", b"\xed\xa0\x80", [b"a.js:1:1 not-utf8"]),
+    ("the longest source", b" " * 1_048_576, []),
+    ("a source that is too long", b" " * 1_048_577, [b"a.js:1:1 source-too-long"]),
+]
 
 
-def expect_program(root, modules, errors):
-    """The modules are paths and texts; the errors are the lines of their status."""
-    for path, text in modules:
-        write(f"{root}/{path.decode()}", text)
-    count = errors.count(b"\n")
-    told = recheck(len(modules), count) + b"1 status: %d errors\n" % count + errors
-    expect(run(root, stdin=None, input=STATUS), ERRORS if count else CLEAN, told)
-
-
-def modules_of(line):
-    """The modules of a line: paths and texts, with a TAB between any two."""
-    fields = line.replace(END_OF_LINE, b"\n").split(b"\t")
-    return list(zip(fields[::2], fields[1::2], strict=True))
+def case_of(text):
+    """The name of a case, its modules, which are paths and texts, and the lines of its errors."""
+    name, _, rest = text.partition(b"\n")
+    parts = [(it[:1], it[2:].removesuffix(b"\n")) for it in re.split(rb"(?m)^(?=[@!] )", rest) if it]
+    modules = [it.partition(b"\n")[::2] for mark, it in parts if mark == b"@"]
+    return name.decode(), modules, [it for mark, it in parts if mark == b"!"]
 
 
 def written():
-    """The lines of programs.in, and what each prints, which an empty line ends."""
-    with open(f"{TOP}/tests/programs.in", "rb") as asked, open(f"{TOP}/tests/programs.out", "rb") as told:
-        lines, answers, answer = asked.read().split(b"\n")[:-1], [], b""
-        for row in told:
-            if row == b"\n":
-                answers.append(answer)
-                answer = b""
-            else:
-                answer += row
-    return list(zip(lines, answers, strict=True))
+    """The cases of programs.txt."""
+    with open(f"{TOP}/tests/programs.txt", "rb") as file:
+        first, *texts = re.split(rb"(?m)^# ", file.read() + b"\n")
+    if first or not texts:
+        raise ValueError("programs.txt begins with a name")
+    return [case_of(it.removesuffix(b"\n")) for it in texts]
 
 
-def fault_of(root, number, line, errors):
-    """What is wrong with the program of a line, if anything is."""
+def fault_of(root, modules, errors):
+    """What is wrong with what is printed of a program, if anything is."""
+    for path, text in modules:
+        write(f"{root}/{path.decode()}", text)
+    told = recheck(len(modules), len(errors)) + b"1 status: %d errors\n" % len(errors) + b"".join(b"  %s\n" % it for it in errors)
     try:
-        expect_program(f"{root}/{number}", modules_of(line), errors)
+        expect(run(root, stdin=None, input=STATUS), ERRORS if errors else CLEAN, told)
     except AssertionError as why:
-        return f"line {number}: {why}"
+        return str(why)
+    return None
 
 
-@case
-def the_written_programs(root):
-    rows = written()
-    with ThreadPoolExecutor(os.cpu_count()) as pool:
-        told = pool.map(lambda it: fault_of(root, it[0], *it[1]), enumerate(rows, 1))
-        wrong = [it for it in told if it]
-    if wrong or not rows:
-        raise AssertionError(f"{len(wrong)} of {len(rows)} programs: " + "; ".join(wrong))
-
-
-@case
-def sources_that_cannot_be_a_line_of_a_file(root):
-    for name, (source, errors) in FURTHER.items():
-        expect_program(f"{root}/{name}", [(b"a.js", source)], errors)
+def main():
+    word = sys.argv[1] if len(sys.argv) > 1 else ""
+    build()
+    cases = [*written(), *((name, [(b"a.js", source)], errors) for name, source, errors in FURTHER)]
+    names = [name for name, _, _ in cases]
+    wrong = {f"{it}: two cases have this name" for it in names if names.count(it) > 1}
+    with tempfile.TemporaryDirectory(prefix="flowd-tests-") as room, ThreadPoolExecutor(os.cpu_count()) as pool:
+        chosen = [it for it in enumerate(cases) if word in it[1][0]]
+        faults = pool.map(lambda it: fault_of(f"{room}/{it[0]}", *it[1][1:]), chosen)
+        wrong |= {f"{case[0]}: {fault}" for (_, case), fault in zip(chosen, faults) if fault}
+    for it in sorted(wrong):
+        print(f"FAILED: {it}")
+    print(f"{len(chosen) - len(wrong)} passed, {len(wrong)} failed")
+    return 1 if wrong or not chosen else 0
 
 
 if __name__ == "__main__":
-    sys.exit(real_folders.main())
+    sys.exit(main())

@@ -4,7 +4,9 @@
     tests/real_folders.py [WORD]       (only the cases whose name has this word)
 
 Each case makes a folder of its own, with only what it shows in it. What needs another user is run where this one is
-root; what this machine can't make is named and left out. The last line is 'N passed, M failed'.
+root; what this machine can't make is named and left out. The variable FLOWD names another program in the place of ./flowd,
+here and in the other scripts of this folder: so `FLOWD=.flowd/unproved tests/programs.py` tries sources that are not proved
+yet. The last line is 'N passed, M failed'.
 """
 
 import contextlib
@@ -16,7 +18,7 @@ import sys
 import tempfile
 
 TOP = os.path.dirname(os.path.dirname(os.path.abspath(__file__)))
-FLOWD = f"{TOP}/flowd"
+FLOWD = os.path.abspath(os.environ.get("FLOWD", f"{TOP}/flowd"))
 USAGE = b"usage: flowd ROOT | --gen N --seed X [--workers N] [--lanes R] [--modules M]\n"
 CLEAN, ERRORS, BAD_WORDS, FOLDER_FAULT, SCRIPT_FAULT, SINK_FAULT = 0, 2, 64, 66, 67, 68
 GOOD = b"export const x: number = 1;\n"
@@ -372,8 +374,6 @@ def words_of_no_command(root):
         [root, "--"],
         ["--", root],
         ["-", root],
-        [root, "--workers"],
-        ["--workers", "0", root],
         [b"\xff"],
         [os.fsencode(root) + b"/\xff"],
         [root, b"\xff"],
@@ -459,9 +459,13 @@ def tried(test, room):
     return True
 
 
-def main():
-    # Where the program isn't built, the first run builds it and says so.
+def build():
+    """Where the program isn't built, the first run builds it and says so."""
     subprocess.run([FLOWD], stdin=subprocess.DEVNULL, stdout=subprocess.DEVNULL)
+
+
+def main():
+    build()
     word = sys.argv[1] if len(sys.argv) > 1 else ""
     with tempfile.TemporaryDirectory(prefix="flowd-tests-") as room:
         os.chmod(room, 0o755)

@@ -41,6 +41,14 @@ def edit(path, text):
     return line(do="edit", path=path, text=text.decode())
 
 
+def delete(path):
+    return line(do="delete", path=path)
+
+
+def touch(path):
+    return line(do="touch", path=path)
+
+
 def done(version, modules, errors=0):
     return b"recheck %d: %d parsed, %d checked, %d errors\n" % (version, modules, modules, errors)
 
@@ -176,6 +184,30 @@ def a_new_module_is_found_before_a_folder(root):
 
 
 @case
+def a_module_that_is_deleted_is_found_no_more(root):
+    """A path that is no module may be deleted; it prints nothing. A later edit makes the path a module again."""
+    write(f"{root}/a.js")
+    write(f"{root}/b.js", b"import {x} from './a';\nexport const y: number = x;")
+    script = delete("a.js") + delete("z.js") + RECHECK + STATUS + edit("a.js", GOOD) + RECHECK
+    told = b'2 status: 1 errors\n  b.js:1:17 cannot-resolve-module "./a"\n'
+    expect_script(root, script, CLEAN, recheck(2) + done(2, 1, 1) + told + done(3, 2))
+
+
+@case
+def a_module_that_is_touched_is_read_again(root):
+    """A path that the folder lacks is no module then."""
+    write(f"{root}/a.js")
+    script = edit("a.js", BAD) + edit("b.js", GOOD) + RECHECK + touch("a.js") + touch("b.js") + RECHECK
+    expect_script(root, script, CLEAN, recheck(1) + done(2, 2, 1) + done(3, 1))
+
+
+@case
+def of_a_path_the_last_edit_counts(root):
+    script = edit("a.js", BAD) + delete("a.js") + RECHECK + delete("b.js") + edit("b.js", GOOD) + touch("c.js") + edit("c.js", GOOD) + RECHECK
+    expect_script(root, script, CLEAN, recheck(0) + done(2, 0) + done(3, 2))
+
+
+@case
 def a_line_of_an_error_is_counted(root):
     script = edit("a.js", GOOD + b'export const y: string = true;\n') + RECHECK + STATUS
     told = b"2 status: 1 errors\n  a.js:2:26 incompatible-type true string\n"
@@ -223,6 +255,10 @@ def lines_that_are_no_command(root):
         b'{"do":"edit","path":"a.js","text":1}',
         b'{"do":"edit","path":"a.js"}',
         b'{"do":"edit","text":""}',
+        b'{"do":"delete"}',
+        b'{"do":"delete","path":"a.ts"}',
+        b'{"do":"touch","path":["a.js"]}',
+        b'{"do":"touch","path":"../a.js"}',
         b'{"do":"ask","ask":"status"}',
         b'{"do":"ask","ask":{"what":"errors"}}',
         b'{"do":"ask"}',
@@ -275,6 +311,8 @@ def the_most_files(root):
         write(f"{root}/d{number % 37}/m{number}.js", b"")
     script = edit("z.js", b"") + edit("d0/m0.js", GOOD) + RECHECK
     expect_script(root, script, CLEAN, recheck(1024) + b"too many modules 1025\n" + done(2, 1024))
+    script = touch("z.js") + delete("d0/m0.js") + touch("z.js") + edit("y.js", b"") + RECHECK
+    expect_script(root, script, CLEAN, recheck(1024) + b"too many modules 1025\n" * 2 + done(2, 1023))
     write(f"{root}/z.js")
     expect_script(root, RECHECK, LIMIT, b"limit files 1025\n")
 
@@ -361,10 +399,11 @@ def commands_of_the_readme():
 @case
 def the_examples_print_what_the_readme_shows(root):
     commands = commands_of_the_readme()
-    if len(commands) != 2:
+    if len(commands) != 3:
         raise AssertionError(f"the README shows {len(commands)} commands over the examples")
     for command, printed in commands:
-        ran = subprocess.run(["sh", "-c", command], cwd=TOP, capture_output=True, timeout=60)
+        command, env = command.replace("./flowd", FLOWD), {**os.environ, "FLOWD": FLOWD}
+        ran = subprocess.run(["bash", "-o", "pipefail", "-c", command], cwd=TOP, env=env, capture_output=True, timeout=60)
         expect((ran.returncode, ran.stdout, ran.stderr), ERRORS, printed)
 
 

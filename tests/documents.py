@@ -1,0 +1,183 @@
+#!/usr/bin/env python3
+"""Checks that what the documents name is there: files, crates, definitions, functions and cases. It runs no program.
+
+    tests/documents.py [WORD]       (only the cases whose name has this word)
+
+In docs/RULES.md `CRATE/FILE: NAME, NAME` is a file of the crate's specs/ that defines these names in the second column, and one of
+its src/ in the third one.
+In docs/MAP.md and docs/PROVED.md a word in backquotes that looks like a path is one, from the top, from crates/, or from a crate
+that stands in the same row or item; and a name is one that some file of the crates has. The last line is
+'N passed, M failed'.
+"""
+
+import functools
+import os
+import re
+import sys
+
+TOP = os.path.dirname(os.path.dirname(os.path.abspath(__file__)))
+sys.path[:0] = [f"{TOP}/tests", f"{TOP}/bench"]
+import programs
+import statement
+
+PATH = re.compile(r"[\w./-]+\.(?:rt|antt|py|sh|md|txt)|(?:[\w-]+/)+")
+NAME = re.compile(r"_?[a-z][a-z0-9]*(?:_[a-z0-9]+)*_?|[A-Z][A-Za-z0-9]*|[A-Z]\w*::\w+")
+CASES = []
+
+
+def case(test):
+    CASES.append(test)
+    return test
+
+
+def text_of(path):
+    with open(f"{TOP}/{path}", encoding="utf-8") as file:
+        return file.read()
+
+
+def crates():
+    return re.findall(r"(?m)^(\w+)[^#:\n]*:", text_of("crates.txt"))
+
+
+@functools.lru_cache(maxsize=None)
+def words_of(path):
+    return set(re.findall(r"\w+", text_of(path)))
+
+
+@functools.lru_cache(maxsize=None)
+def words_of_crates():
+    """Each word of the crates' files, of the scripts and of the lists of libraries."""
+    found = words_of("crates.txt") | words_of("HANDLES")
+    for top in ("crates", "tests", "bench", "examples"):
+        for at, folders, names in os.walk(f"{TOP}/{top}"):
+            folders[:] = [it for it in folders if it not in ("out", "__pycache__")]
+            for name in names:
+                if name.endswith((".rt", ".antt", ".py")):
+                    found |= words_of(os.path.relpath(f"{at}/{name}", TOP))
+                found.add(name.partition(".")[0])
+            found.update(folders)
+    return found
+
+
+DEFINES = {".antt": r"(?m)^ *(?:(?:pub|abbrev|unfoldable|data|record) )*%s [:({]", ".rt": r"\b(?:fn|struct|enum|trait|const|type) %s\b"}
+
+
+def defines(path, name):
+    return re.search(DEFINES[os.path.splitext(path)[1]] % re.escape(name), text_of(path))
+
+
+def is_there(path):
+    return os.path.exists(f"{TOP}/{path}")
+
+
+def rows(text):
+    """The cells of each row of the tables that stand below the line of dashes."""
+    for line in re.findall(r"(?m)^\|(?![ -]*\|?-)(.*)\|$", text):
+        yield [it.strip().replace("\\|", "|") for it in re.split(r"(?<!\\)\|", line)]
+
+
+def wrong_names(cell, part, ending):
+    """What a cell of docs/RULES.md names and isn't there."""
+    told = re.findall(r"`(\w+)/(\w+): ([\w, ]+)`", cell)
+    if not told:
+        yield f"no file in {cell}"
+    for crate, file, names in told:
+        path = f"crates/{crate}/{part}/{file}{ending}"
+        if not is_there(path):
+            yield path
+        else:
+            yield from (f"{name} in {path}" for name in names.split(", ") if not defines(path, name))
+
+
+@case
+def the_rules_name_what_is_there():
+    cases = {name for name, _, _ in programs.written()} | {name for name, _, _ in programs.FURTHER}
+    for row in rows(text_of("docs/RULES.md")):
+        if row[1] != "definition":
+            yield from wrong_names(row[1], "specs", ".antt")
+            yield from wrong_names(row[2], "src", ".rt")
+            if row[3] and row[3] not in cases:
+                yield f"the case {row[3]!r}"
+
+
+@case
+def each_code_has_a_rule():
+    codes = {re.sub("(?!^)([A-Z])", r"-\1", it).lower() for it in re.findall(r"(?m)^    (\w+),$", text_of("crates/check_values/src/codes.rt").split("enum Code")[1].split("}")[0])}
+    told = set(re.findall(r"(?m)^\| `([a-z0-9-]+)` \|", text_of("docs/RULES.md").split("## Codes")[1]))
+    yield from sorted(codes ^ told)
+
+
+@case
+def each_crate_stands_in_the_map():
+    named = set(re.findall(r"`(?:crates/)?(\w+)[`/]", text_of("docs/MAP.md")))
+    yield from (it for it in crates() if it not in named)
+
+
+def places(part):
+    """Where the paths of a row or an item may begin: the top, crates/, and the crates that it names."""
+    named = [it for it in re.findall(r"`(\w+)[`/]", part) if is_there(f"crates/{it}")]
+    yield from ("", "crates/", "docs/", "tests/", "bench/", "examples/", *(f"crates/{it}/{below}" for it in named for below in ("", "specs/", "src/", "proofs/")))
+
+
+def wrong_words(page):
+    for part in re.split(r"\n(?=\||- |\d+\. |#|\n)", text_of(page)):
+        for word in re.findall(r"`([^`\n]+)`", part):
+            if word in ("src/", "specs/", "proofs/", "must-fail/", "crates/NAME/must-fail/"):
+                continue
+            if PATH.fullmatch(word):
+                if not any(is_there(place + word) for place in places(part)):
+                    yield f"{page}: the path {word}"
+            elif NAME.fullmatch(word) and not set(re.findall(r"\w+", word)) <= words_of_crates():
+                yield f"{page}: the name {word}"
+
+
+@case
+def the_map_names_what_is_there():
+    yield from wrong_words("docs/MAP.md")
+
+
+@case
+def what_is_proved_names_what_is_there():
+    yield from wrong_words("docs/PROVED.md")
+
+
+@case
+def the_definitions_that_one_must_read_are_told():
+    """All of them in docs/PROVED.md, and their number in the README."""
+    files = statement.stands_on([statement.START])
+    whole, bare = (sum(it) for it in zip(*map(statement.counts, files)))
+    told = f"{whole:,} lines in {len(files)} files, of which {bare:,} "
+    if told not in text_of("README.md"):
+        yield f"README.md: {told}"
+    named = set(re.findall(r"`(\w+)/specs/", text_of("docs/PROVED.md").partition("## What one must read")[2].partition("\n## ")[0]))
+    yield from (f"docs/PROVED.md: {it}" for it in sorted(named ^ set(statement.by_crate(files))))
+
+
+@case
+def the_index_of_forms_of_proof_names_forms():
+    index, forms = text_of("docs/PROVING.md").split("## Definitions", 1)
+    yield from (it for it in re.findall(r"(?<!\*)\*([^*|]+)\*(?!\*)", index) if f"- **{it}" not in forms)
+
+
+@case
+def links_lead_somewhere():
+    for page in ("README.md", "examples/EDITORS.md", *(f"docs/{it}" for it in sorted(os.listdir(f"{TOP}/docs")))):
+        for target in re.findall(r"\]\(([^)#:]+)(?:#[^)]*)?\)", text_of(page)):
+            if not is_there(os.path.normpath(f"{os.path.dirname(page)}/{target}")):
+                yield f"{page}: {target}"
+
+
+def main():
+    word, failed = sys.argv[1] if len(sys.argv) > 1 else "", 0
+    chosen = [it for it in CASES if word in it.__name__.replace("_", " ")]
+    for test in chosen:
+        wrong = list(test())
+        failed += bool(wrong)
+        name = test.__name__.replace("_", " ")
+        print(f"FAILED: {name}: {len(wrong)} are not there: {'; '.join(wrong[:60])}" if wrong else f"ok: {name}")
+    print(f"{len(chosen) - failed} passed, {failed} failed")
+    return 1 if failed or not chosen else 0
+
+
+if __name__ == "__main__":
+    sys.exit(main())
