@@ -46,7 +46,7 @@ has_outside own changes inner name has = (
 
 -- ---- outside of a function
 
-mapped_in : {X Y : Type 0} (h : X → Option Y) (xs : List X) (x : X) (y : Y) → h x ≡ Some y → Contains xs x → Contains (filter_map h xs) y
+pub mapped_in : {X Y : Type 0} (h : X → Option Y) (xs : List X) (x : X) (y : Y) → h x ≡ Some y → Contains xs x → Contains (filter_map h xs) y
 mapped_in h [] x y is has = nothing x has
 mapped_in {X} {Y} h (z ∷ xs) x y is has = go (h z) refl (first_or z xs x has) (mapped_in h xs x y is)
   where
@@ -55,7 +55,7 @@ mapped_in {X} {Y} h (z ∷ xs) x y is has = go (h z) refl (first_or z xs x has) 
     go None at (inr rest) later = later rest
     go (Some u) at (inr rest) later = there u y (filter_map h xs) (later rest)
 
-mapped_out : {X Y : Type 0} (h : X → Option Y) (xs : List X) (y : Y) → Contains (filter_map h xs) y → (x : X) × Contains xs x × (h x ≡ Some y)
+pub mapped_out : {X Y : Type 0} (h : X → Option Y) (xs : List X) (y : Y) → Contains (filter_map h xs) y → (x : X) × Contains xs x × (h x ≡ Some y)
 mapped_out h [] y has = nothing y has
 mapped_out {X} {Y} h (z ∷ xs) y has = go (h z) refl has (mapped_out h xs y)
   where

@@ -1,3 +1,9 @@
 mod Changing
 mod Inwards
 mod Outwards
+mod Finding
+mod Bound
+mod Reading
+mod Entering
+mod Sharing
+mod Parts
