@@ -72,7 +72,7 @@ part_enters w p q outer inner name is = same_scope name outer inner is
 
 -- ---- a way
 
-way_enters : (w : World) {p end : Piece} (way : Way p end) (outer inner : Scope) (name : Bytes) → IsReadAlong w way outer inner → Enters name (is_among (bound_on way) name) outer inner
+pub way_enters : (w : World) {p end : Piece} (way : Way p end) (outer inner : Scope) (name : Bytes) → IsReadAlong w way outer inner → Enters name (is_among (bound_on way) name) outer inner
 way_enters w (arrived p) outer inner name is = same_scope name outer inner is
 way_enters w (into p q end part way) outer inner name (between, step, rest) =
     bound_so name (is_among (bound_by p) name || is_among (bound_on way) name) (is_among (bound_by p ++ bound_on way) name) outer inner (sym (list_any-append (bytes_eq name) (bound_by p) (bound_on way)))

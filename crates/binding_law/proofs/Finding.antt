@@ -96,6 +96,14 @@ binding_behind (b ∷ own) names name free = go (bytes_eq b.name name) refl free
     go true at is rest = no (sym (ap (λ (c : Bool). is_some (cond c (Some b) (binding_of own name))) at) ∙ is)
     go false at is rest = rest (sym (ap (λ (c : Bool). is_some (cond c (Some b) (binding_of own name))) at) ∙ is)
 
+pub binding_front : (own names : List Binding) (name : Bytes) → binds own name ≡ true → binding_of (own ++ names) name ≡ binding_of own name
+binding_front [] names name bound = no (sym bound)
+binding_front (b ∷ own) names name bound = go (bytes_eq b.name name) bound (binding_front own names name)
+  where
+    go : (same : Bool) → is_some (cond same (Some b) (binding_of own name)) ≡ true → (binds own name ≡ true → binding_of (own ++ names) name ≡ binding_of own name) → cond same (Some b) (binding_of (own ++ names) name) ≡ cond same (Some b) (binding_of own name)
+    go true is rest = refl
+    go false is rest = rest is
+
 place_behind : (own names : List Binding) (name : Bytes) → binds own name ≡ false → place_of (own ++ names) name ≡ place_of names name
 place_behind [] names name free = refl
 place_behind (b ∷ own) names name free = go (bytes_eq b.name name) refl free (place_behind own names name)

@@ -7,3 +7,9 @@ mod Reading
 mod Entering
 mod Sharing
 mod Parts
+mod Placed
+mod Inside
+mod Apart
+mod Tokens
+mod Numbered
+mod Tops

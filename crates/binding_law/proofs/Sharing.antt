@@ -1,7 +1,6 @@
 -- What is decided by names is what assignments find.
 use Rattle.std.proofs.Common.{◌≡◌, ◌⊎◌, ◌↔◌, ℕ, suc, ◌-◌, ◌||◌, Bool, true, false, List, [], ◌∷◌, ◌++◌, Option, Some, None, cond, Contains, bytes_eq, inl, inr, refl, sym, ap, ◌∙◌, subst, unwrap_or}
 use Rattle.std.specs.List.{AllByRecursion, filter_map}
-use Rattle.std.specs.Option.{is_some}
 use Rattle.std.specs.Cmp.Lexicographic.{bytes_decides, nat_list_eq_equiv}
 use Rattle.js_grammar.specs.Code.{ex, ExForm, function_ex, arrow, function, Sig, arrow_block, arrow_value, block, Stmts}
 use Rattle.js_grammar.specs.Items.{imported, Importeds, no_imported, more_imported, ImportList, import_list, ImportForm, import_default, import_both, import_names, import_types, import_only, AliasOf, alias, ExportForm, export_declaration, export_function, export_alias, export_names, export_from, export_default_function, export_default, ItemForm, imports, exports, declares_item, function_item, alias_item, does_item, item, Items, no_item, more_item}
@@ -20,6 +19,7 @@ use Rattle.binding_law.specs.Pieces.{Piece, an_expression, a_function, a_block, 
 use Rattle.binding_law.specs.Scopes.{IsBody, IsEntered, IsFound, is_variable, SharedIsAssignedInside, NumbersAreAssigned}
 use Rattle.binding_law.proofs.Changing.{mapped_in, mapped_out}
 use Rattle.binding_law.proofs.Outwards.{changes_are_assignments}
+use Rattle.binding_law.proofs.Finding.{binding_front}
 use Rattle.binding_law.proofs.Bound.{sig_binds, statements_bind, body_binds, own_binds, TellsKind, AllTellKind, never, bind_kinds, sig_kinds, declares_kinds, named_kinds, statements_kinds}
 use Rattle.binding_law.proofs.Entering.{assigned_found, found_assigned}
 
@@ -97,7 +97,7 @@ shared_where changes name k tells = (λ is. set_inside_has changes name (go (is_
     go false is = never is
 
 -- the binding that a name finds is one of that name
-finds_one : (P : Binding → Type 0) (names : List Binding) (name : Bytes) (b : Binding) → AllByRecursion P names → binding_of names name ≡ Some b → P b × (b.name ≡ name)
+pub finds_one : (P : Binding → Type 0) (names : List Binding) (name : Bytes) (b : Binding) → AllByRecursion P names → binding_of names name ≡ Some b → P b × (b.name ≡ name)
 finds_one P [] name b all is = absurd (let wrong : ⊥ = cc in wrong)
 finds_one P (c ∷ names) name b all is = go (bytes_eq c.name name) refl is (finds_one P names name b all.1)
   where
@@ -119,14 +119,6 @@ shared_found w q scope name names b all is changes =
     (λ shares. second.0 (first.0 shares), λ found. first.1 (second.1 found))
 
 -- ---- a scope inside
-
-binding_front : (own names : List Binding) (name : Bytes) → binds own name ≡ true → binding_of (own ++ names) name ≡ binding_of own name
-binding_front [] names name bound = never bound
-binding_front (b ∷ own) names name bound = go (bytes_eq b.name name) bound (binding_front own names name)
-  where
-    go : (same : Bool) → is_some (cond same (Some b) (binding_of own name)) ≡ true → (binds own name ≡ true → binding_of (own ++ names) name ≡ binding_of own name) → cond same (Some b) (binding_of (own ++ names) name) ≡ cond same (Some b) (binding_of own name)
-    go true is rest = refl
-    go false is rest = rest is
 
 -- these names stand in front, for the one part
 abbrev Shares : World → Bytes → Binding → Piece → Scope → Type 0

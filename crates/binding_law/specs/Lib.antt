@@ -1,3 +1,4 @@
 pub mod Pieces
 pub mod Ways
 pub mod Scopes
+pub mod Placed

@@ -5,6 +5,7 @@
 
 ghost use Rattle.binding_law.specs.Ways.{ChangesAreAssignments};
 ghost use Rattle.binding_law.specs.Scopes.{PartsAreRead, FindsSameUnlessBound, MeansSameUnlessBound, SharedIsAssignedInside, NumbersAreAssigned};
+ghost use Rattle.binding_law.specs.Placed.{NumbersTellVariables, SharedNumbersAreAssigned};
 
 /// A variable is among the changes of a piece of code exactly where an assignment to its name stands in it, and on the way to it no
 /// function, block or function expression binds the name; and the change is told to be in an inner function exactly where the way leads
@@ -25,10 +26,18 @@ pub fn names_find_variables()
     ensures means { MeansSameUnlessBound }
 {}
 
+/// In code of the grammar the number tells the variable: a name that is bound in a function, an arrow, a block or a module has the same
+/// number wherever it means the same variable inside, and another one, or none, wherever it does not.
+pub fn numbers_tell_variables()
+    ensures { NumbersTellVariables }
+{}
+
 /// A parameter or `let` is told to be assigned in a function inside its scope's function exactly where an assignment stands in one that
-/// finds it: for the scopes of blocks, functions and arrows, and for that of a module.
+/// finds it: for the scopes of blocks, functions and arrows, and for that of a module. In code of the grammar that is an assignment that
+/// finds its number.
 pub fn shared_is_assigned_inside()
-    ensures { SharedIsAssignedInside }
+    ensures found { SharedIsAssignedInside }
+    ensures numbered { SharedNumbersAreAssigned }
 {}
 
 /// The numbers of the variables that a loop or another piece of code may change are those that some assignment in it finds.
