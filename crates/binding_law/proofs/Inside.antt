@@ -5,8 +5,7 @@ use Rattle.js_grammar.specs.CodePlaces.{stop_annotation, stop_name, stop_sig, st
 use Rattle.js_grammar.specs.Items.{ExportForm, export_declaration, export_function, export_alias, export_names, export_from, export_default_function, export_default, ItemForm, imports, exports, declares_item, function_item, alias_item, does_item, item, Items, no_item, more_item, stop_item_form, stop_items}
 use Rattle.js_grammar.proofs.Front.{f_annotation, f_name, f_sig, f_ex, f_block, f_stmts, f_stmt_form, f_items, f_item_form}
 use Rattle.binding_law.specs.Pieces.{Piece, an_expression, a_function, a_block, a_list, a_statement, a_simple, the_items}
-use Rattle.binding_law.specs.Placed.{end_at}
-use Rattle.binding_law.proofs.Placed.{rises}
+use Rattle.binding_law.proofs.Placed.{end_at, rises}
 
 abbrev pub Between : ℕ → ℕ → ℕ → Type 0
 Between i j at = (i ≤ at) × (at < j)

@@ -4,12 +4,13 @@ use Rattle.std.proofs.lemmas.List.Elements.{Contains-append_cases}
 use Rattle.js_grammar.specs.TypeSpelling.{Tokens}
 use Rattle.js_grammar.specs.TypeFits.{bump}
 use Rattle.js_grammar.specs.Code.{ExForm, variable, number, text, truth_value, null_value, parens, elements, fields, function_ex, postfixed, prefixed, chain, cond, arrow, Exs, no_ex, more_ex, link, member, index, call, Links, no_link, more_link, operand, right_side, as_type, Operands, no_operand, more_operand, Level, field, shorthand, valued, Fields, no_field, more_field, arm, Arms, no_arm, more_arm, arrow_block, arrow_value, block, StmtForm, declares, function_stmt, does, branches, loop, nested, Declaration, declaration, SimpleForm, return_bare, return_value, throw_value, break_loop, continue_loop, assign, evaluate, Body, block_body, simple_body, branch, Branches, no_branch, more_branch, Else, no_else, else_body}
-use Rattle.js_grammar.specs.CodePlaces.{stop_prefixes, stop_annotation, stop_sig, stop_ex, stop_ex_form, stop_exs, stop_listed, stop_links, stop_operand_form, stop_operands, stop_fields, stop_entries, stop_arms, stop_function, stop_block, stop_stmts, stop_stmt_form, stop_declaration, stop_simple, stop_simple_form, stop_body, stop_branches, stop_elses, stop_else}
+use Rattle.js_grammar.specs.CodePlaces.{stop_stmt, stop_prefixes, stop_annotation, stop_sig, stop_ex, stop_ex_form, stop_exs, stop_listed, stop_links, stop_operand_form, stop_operands, stop_fields, stop_entries, stop_arms, stop_function, stop_block, stop_stmts, stop_stmt_form, stop_declaration, stop_simple, stop_simple_form, stop_body, stop_branches, stop_elses, stop_else}
 use Rattle.js_grammar.specs.CodeFits.{Context, looping, FitsExForm, FitsExs, FitsLinks, FitsOperands, FitsFields, FitsArms, FitsStmtForm, FitsDeclaration, FitsSimpleForm, FitsBody, FitsBranches, FitsElse}
+use Rattle.js_grammar.specs.Items.{stop_items}
 use Rattle.js_grammar.proofs.Front.{Front, counted, f_prefixes, f_annotation, f_sig, f_ex, f_listed, f_exs, f_links, f_operand_form, f_operands, f_entries, f_arms, f_body, f_branches, f_elses, f_else}
 use Rattle.subtyping.proofs.Whole.{first_or, nothing}
-use Rattle.binding_law.specs.Pieces.{Piece, an_expression, a_function, a_block, a_list, a_simple, in_exs, in_links, in_operands, in_fields, in_arms, in_ex, in_body, in_branches, in_else, in_declaration, in_statement, in_simple}
-use Rattle.binding_law.specs.Placed.{FitsAt, end_at}
+use Rattle.binding_law.specs.Pieces.{Piece, an_expression, a_function, a_block, a_list, a_statement, a_simple, the_items, in_exs, in_links, in_operands, in_fields, in_arms, in_ex, in_body, in_branches, in_else, in_declaration, in_statement, in_simple}
+use Rattle.binding_law.specs.Placed.{FitsAt}
 
 -- no form ends before it begins
 pub rises : {s : Tokens → Tokens} {f : ℕ → ℕ} → Front s f → (i : ℕ) → i ≤ f i
@@ -18,6 +19,16 @@ rises {s} {f} front i = let e = counted front i in omega arith
 pub bump_rises : (b : Bool) (i : ℕ) → i ≤ bump b i
 bump_rises true i = omega arith
 bump_rises false i = omega arith
+
+-- the place behind a piece that stands at a place
+abbrev pub end_at : Piece → ℕ → ℕ
+end_at (an_expression e) i = stop_ex e i
+end_at (a_function f) i = stop_function f i
+end_at (a_block b) i = stop_block b i
+end_at (a_list ss) i = stop_stmts ss i
+end_at (a_statement s) i = stop_stmt s i
+end_at (a_simple s) i = stop_simple s i
+end_at (the_items is) i = stop_items is i
 
 -- the piece stands from one place up to another
 abbrev pub Within : ℕ → ℕ → Piece → Type 0

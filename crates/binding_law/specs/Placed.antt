@@ -1,8 +1,7 @@
 -- Pieces of the grammar at their places, where a number tells a variable.
 use Rattle.std.specs.Prelude.{◌≡◌, ◌↔◌, ℕ, true, Some, Contains}
-use Rattle.js_grammar.specs.CodePlaces.{stop_ex, stop_function, stop_block, stop_stmts, stop_stmt, stop_simple}
 use Rattle.js_grammar.specs.CodeFits.{Context, FitsEx, FitsFunction, FitsBlock, FitsStmts, FitsStmt, FitsSimple}
-use Rattle.js_grammar.specs.Items.{Items, FitsItems, stop_items}
+use Rattle.js_grammar.specs.Items.{Items, FitsItems}
 use Rattle.check_values.specs.Rows.{Bytes, is_among}
 use Rattle.typing.specs.Names.{shared, Binding, Scope, binding_of, number_of}
 use Rattle.typing.specs.States.{World}
@@ -21,16 +20,6 @@ FitsAt (a_list ss) i = (c : Context) × FitsStmts ss c i
 FitsAt (a_statement s) i = (c : Context) × FitsStmt s c i
 FitsAt (a_simple s) i = (c : Context) × FitsSimple s c i
 FitsAt (the_items is) i = FitsItems is i
-
--- the place behind a piece that stands at a place
-abbrev pub end_at : Piece → ℕ → ℕ
-end_at (an_expression e) i = stop_ex e i
-end_at (a_function f) i = stop_function f i
-end_at (a_block b) i = stop_block b i
-end_at (a_list ss) i = stop_stmts ss i
-end_at (a_statement s) i = stop_stmt s i
-end_at (a_simple s) i = stop_simple s i
-end_at (the_items is) i = stop_items is i
 
 -- In the grammar a number tells the variable: from the scope of a function, an arrow or a block, or of a module, to that in which
 -- something inside is read, a name of the scope goes on to mean the same exactly where it has the same number.

@@ -103,7 +103,7 @@ pub record IsFound (w : World) (inner : Bool) (name : Bytes) (p : Piece) (outer 
 
 -- ---- what is done by names
 
--- a parameter, a `let`, or what is said to be none that has facts
+-- the kinds of parameters and `let`s
 abbrev pub is_variable : Kind → Bool
 is_variable changing = true
 is_variable shared = true
