@@ -8,7 +8,7 @@ use Rattle.js_grammar.proofs.Front.{f_sig, f_ex, f_block, f_stmts}
 use Rattle.subtyping.proofs.Whole.{first_or, nothing}
 use Rattle.binding_law.specs.Pieces.{Piece, an_expression, a_function, a_block, a_list, a_statement, a_simple, the_items, in_ex, in_item, in_statement, parts}
 use Rattle.binding_law.specs.Placed.{FitsAt}
-use Rattle.binding_law.proofs.Placed.{end_at, rises, Within, declared, plain, statement, expression}
+use Rattle.binding_law.proofs.Placed.{rises, Within, declared, plain, statement, expression}
 use Rattle.binding_law.proofs.Inside.{Between, IsInside, in_range, function_range, list_range, IsOwn, declared_range, list_apart}
 
 -- a part of a piece at a place: where it stands, and how what is bound inside of it stands to what the piece binds

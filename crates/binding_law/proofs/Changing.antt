@@ -21,7 +21,7 @@ among_parts own more name free = neither (is_among own name) (is_among more name
 
 -- ---- outside of a scope
 
-filter_in : {X : Type 0} (f : X → Bool) (xs : List X) (x : X) → f x ≡ true → Contains xs x → Contains (filter f xs) x
+pub filter_in : {X : Type 0} (f : X → Bool) (xs : List X) (x : X) → f x ≡ true → Contains xs x → Contains (filter f xs) x
 filter_in f [] x is has = nothing x has
 filter_in {X} f (y ∷ xs) x is has = go (f y) refl (first_or y xs x has) (filter_in f xs x is)
   where
@@ -31,18 +31,9 @@ filter_in {X} f (y ∷ xs) x is has = go (f y) refl (first_or y xs x has) (filte
     go false at (inl same) later = let no : false ≡ true = sym at ∙ ap f same ∙ is in absurd (let wrong : ⊥ = cc in wrong)
     go false at (inr rest) later = later rest
 
-pub outside_has : (own : List Bytes) (changes : List Change) (inner : Bool) (name : Bytes) → is_among own name ≡ false → Contains changes (sets_variable inner name) → Contains (outside own changes) (sets_variable inner name)
-outside_has own changes inner name free has = filter_in (is_outside own) changes (sets_variable inner name) (ap not free) has
-
-not_false : (b : Bool) → not b ≡ true → b ≡ false
+pub not_false : (b : Bool) → not b ≡ true → b ≡ false
 not_false false is = refl
 not_false true is = sym is
-
-pub has_outside : (own : List Bytes) (changes : List Change) (inner : Bool) (name : Bytes) → Contains (outside own changes) (sets_variable inner name) → Contains changes (sets_variable inner name) × (is_among own name ≡ false)
-has_outside own changes inner name has = (
-  All-contains (Contains changes) (outside own changes) (sets_variable inner name) (All-filter (is_outside own) (Contains changes) changes (All-contains_itself changes)) has,
-  not_false (is_among own name) (All-contains (λ (c : Change). is_outside own c ≡ true) (outside own changes) (sets_variable inner name) (filter_passes (is_outside own) changes) has),
-)
 
 -- ---- outside of a function
 
@@ -66,9 +57,6 @@ mapped_out {X} {Y} h (z ∷ xs) y has = go (h z) refl has (mapped_out h xs y)
     go None at given later = further (later given)
     go (Some u) at given later = elim (first_or u (filter_map h xs) y given) [ inl same ↦ (z, here z xs, at ∙ ap Some same) | inr rest ↦ further (later rest) ]
 
-pub inside_has : (changes : List Change) (inner : Bool) (name : Bytes) → Contains changes (sets_variable inner name) → Contains (filter_map from_inside changes) (sets_variable true name)
-inside_has changes inner name has = mapped_in from_inside changes (sets_variable inner name) (sets_variable true name) refl has
-
 abbrev pub is_inner : Option Change → Bool
 is_inner (Some (sets_variable inner name)) = inner
 is_inner o = false
@@ -81,17 +69,28 @@ abbrev pub is_variable : Option Change → Bool
 is_variable (Some (sets_variable inner own)) = true
 is_variable o = false
 
--- a change that is one of the name, and one that is none of a variable
-pub variable_is : (within inner : Bool) (own name : Bytes) → sets_variable within own ≡ sets_variable inner name → (within ≡ inner) × (own ≡ name)
-variable_is within inner own name same = (ap (λ (c : Change). is_inner (Some c)) same, ap (λ (c : Change). name_in name (Some c)) same)
+abbrev is_outside_too : List Bytes → Option Change → Bool
+is_outside_too own None = true
+is_outside_too own (Some c) = is_outside own c
 
-pub other_is : {A : Type 0} (c : Change) (inner : Bool) (name : Bytes) → c ≡ sets_variable inner name → is_variable (Some c) ≡ false → A
-other_is c inner name same other = let no : false ≡ true = sym other ∙ ap (λ (d : Change). is_variable (Some d)) same in absurd (let wrong : ⊥ = cc in wrong)
+-- what comes out of a function has its name
+pub outside_alike : (own : List Bytes) (c d : Change) → from_inside c ≡ Some d → is_outside own d ≡ is_outside own c
+outside_alike own (sets_variable within name) d is = ap (λ (o : Option Change). is_outside_too own o) (sym is)
+outside_alike own (sets_property name) d is = ap (λ (o : Option Change). is_outside_too own o) (sym is)
+outside_alike own may_set_all d is = absurd (let wrong : ⊥ = cc in wrong)
 
-pub has_inside : (changes : List Change) (inner : Bool) (name : Bytes) → Contains (filter_map from_inside changes) (sets_variable inner name) → (true ≡ inner) × ((within : Bool) × Contains changes (sets_variable within name))
-has_inside changes inner name has = go (mapped_out from_inside changes (sets_variable inner name) has)
-  where
-    go : (c : Change) × Contains changes c × (from_inside c ≡ Some (sets_variable inner name)) → (true ≡ inner) × ((within : Bool) × Contains changes (sets_variable within name))
-    go (sets_variable within own, in_it, is) = (ap is_inner is, (within, subst (λ (n : Bytes). Contains changes (sets_variable within n)) (ap (name_in name) is) in_it))
-    go (sets_property own, in_it, is) = let no : false ≡ true = ap is_variable is in absurd (let wrong : ⊥ = cc in wrong)
-    go (may_set_all, in_it, is) = let no : false ≡ true = ap is_variable is in absurd (let wrong : ⊥ = cc in wrong)
+pub outside_parts : (own more : List Bytes) (c : Change) → is_outside (own ++ more) c ≡ true → (is_outside own c ≡ true) × (is_outside more c ≡ true)
+outside_parts own more (sets_variable within name) is = (let parted = among_parts own more name (not_false (is_among (own ++ more) name) is) in (ap not parted.0, ap not parted.1))
+outside_parts own more (sets_property name) is = (refl, refl)
+outside_parts own more may_set_all is = (refl, refl)
+
+pub outside_both : (own more : List Bytes) (c : Change) → is_outside own c ≡ true → is_outside more c ≡ true → is_outside (own ++ more) c ≡ true
+outside_both own more (sets_variable within name) first second = ap not (among_neither own more name (not_false (is_among own name) first) (not_false (is_among more name) second))
+outside_both own more (sets_property name) first second = refl
+outside_both own more may_set_all first second = refl
+
+pub filter_out : (own : List Bytes) (changes : List Change) (c : Change) → Contains (outside own changes) c → Contains changes c × (is_outside own c ≡ true)
+filter_out own changes c has = (
+  All-contains (Contains changes) (outside own changes) c (All-filter (is_outside own) (Contains changes) changes (All-contains_itself changes)) has,
+  All-contains (λ (d : Change). is_outside own d ≡ true) (outside own changes) c (filter_passes (is_outside own) changes) has,
+)

@@ -1,4 +1,5 @@
 mod Changing
+mod Making
 mod Inwards
 mod Outwards
 mod Finding

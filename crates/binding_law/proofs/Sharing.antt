@@ -27,7 +27,7 @@ use Rattle.binding_law.proofs.Entering.{assigned_found, found_assigned}
 
 pub change_found : (w : World) (inner : Bool) (name : Bytes) (p : Piece) (outer : Scope) → Contains (changes_of p) (sets_variable inner name) ↔ IsFound w inner name p outer
 change_found w inner name p outer =
-    let law = changes_are_assignments p inner name in
+    let law = changes_are_assignments.variables p inner name in
     (λ has. assigned_found w inner name p outer (law.0 has), λ found. law.1 (found_assigned w inner name p outer found))
 
 -- ---- numbers

@@ -7,9 +7,10 @@ ghost use Rattle.binding_law.specs.Ways.{ChangesAreAssignments};
 ghost use Rattle.binding_law.specs.Scopes.{PartsAreRead, FindsSameUnlessBound, MeansSameUnlessBound, SharedIsAssignedInside, NumbersAreAssigned};
 ghost use Rattle.binding_law.specs.Placed.{NumbersTellVariables, SharedNumbersAreAssigned};
 
-/// A variable is among the changes of a piece of code exactly where an assignment to its name stands in it, and on the way to it no
-/// function, block or function expression binds the name; and the change is told to be in an inner function exactly where the way leads
-/// into one.
+/// What a piece of code may change: a variable where an assignment to its name stands in the code, and on the way to it no function,
+/// block or function expression binds the name (told to be in an inner function exactly where the way leads into one); the properties of
+/// a name where one is assigned anywhere in it; and all properties where outside of inner functions an element is assigned or something
+/// is called.
 pub fn changes_are_assignments()
     ensures { ChangesAreAssignments }
 {}
