@@ -3,6 +3,7 @@ use Rattle.std.proofs.Common.{◌≡◌, ℕ, suc, ◌||◌, Bool, true, false, 
 use Rattle.std.specs.List.{AllByRecursion}
 use Rattle.std.specs.Option.{is_some}
 use Rattle.std.specs.Cmp.Lexicographic.{bytes_decides, nat_list_eq_equiv}
+use Rattle.std.proofs.lemmas.Bool.{or_right}
 use Rattle.std.proofs.lemmas.List.Folds.{list_any-append}
 use Rattle.js_grammar.specs.Code.{const, let_word, Function, function, Sig, sig, parameter, Parameters, no_parameter, more_parameter, Stmts, no_stmt, more_stmt, stmt, StmtForm, declares, function_stmt, does, branches, loop, nested, Declaration, declaration}
 use Rattle.check_values.specs.Rows.{Bytes, is_among}
@@ -12,6 +13,7 @@ use Rattle.typing.specs.Names.{Binding, binding_of, binds}
 use Rattle.typing.specs.States.{World, fault_at, name_fault}
 use Rattle.typing.specs.Functions.{Bound, bind, changing_kind, parameter_binding, bind_parameters, bind_sig, declaration_binding, function_binding, bind_declaration, bind_function, bind_form, bind_stmts}
 use Rattle.binding_law.specs.Scopes.{is_variable}
+use Rattle.binding_law.proofs.Changing.{never}
 
 -- ---- names
 
@@ -33,12 +35,8 @@ among_one names own name = list_any-append (bytes_eq name) names (own ∷ []) �
 binds_more : (b : Binding) (names : List Binding) (name : Bytes) → binds (b ∷ names) name ≡ (binds names name || bytes_eq b.name name)
 binds_more b names name = go (bytes_eq b.name name)
   where
-    or_true : (x : Bool) → true ≡ (x || true)
-    or_true true = refl
-    or_true false = refl
-
     go : (same : Bool) → is_some (cond same (Some b) (binding_of names name)) ≡ (binds names name || same)
-    go true = or_true (binds names name)
+    go true = sym (or_right (binds names name) true refl)
     go false = sym (or_false (binds names name))
 
 bind_binds : (w : World) (token : ℕ) (b : Binding) (so_far : Bound) (name : Bytes) → binds (bind w token b so_far).names name ≡ (binds so_far.names name || bytes_eq b.name name)
@@ -110,9 +108,6 @@ TellsKind changes b = is_variable b.kind ≡ true → b.kind ≡ changing_kind c
 
 abbrev pub AllTellKind : List Change → List Binding → Type 0
 AllTellKind changes names = AllByRecursion (TellsKind changes) names
-
-pub never : {A : Type 0} → false ≡ true → A
-never is = absurd (let wrong : ⊥ = cc in wrong)
 
 pub bind_kinds : (changes : List Change) (w : World) (token : ℕ) (b : Binding) (so_far : Bound) → TellsKind changes b → AllTellKind changes so_far.names → AllTellKind changes (bind w token b so_far).names
 bind_kinds changes w token b so_far tells all = go (binds so_far.names b.name)

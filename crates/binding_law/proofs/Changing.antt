@@ -1,23 +1,23 @@
 -- The variables among changes, outside of a scope and of a function.
-use Rattle.std.proofs.Common.{◌≡◌, ◌⊎◌, ◌||◌, not, Bool, true, false, List, [], ◌∷◌, ◌++◌, filter, Option, Some, None, cond, Contains, inl, inr, refl, sym, ap, ◌∙◌, subst}
+use Rattle.std.proofs.Common.{◌≡◌, ◌⊎◌, not, Bool, true, false, List, [], ◌∷◌, ◌++◌, filter, Option, Some, None, cond, Contains, inl, inr, refl, sym, ap, ◌∙◌, subst}
 use Rattle.std.specs.List.{cons_option, filter_map}
+use Rattle.std.proofs.lemmas.Bool.{false≢true, not-true, or_parts, or_from}
 use Rattle.std.proofs.lemmas.List.Elements.{All-contains, All-contains_itself, All-filter, filter_passes}
 use Rattle.std.proofs.lemmas.List.Folds.{list_any-append}
 use Rattle.check_values.specs.Rows.{Bytes, is_among}
 use Rattle.subtyping.proofs.Whole.{first_or, nothing, here, there}
 use Rattle.typing.specs.Changes.{Change, sets_variable, sets_property, may_set_all, from_inside, is_outside, outside}
 
+pub never : {A : Type 0} → false ≡ true → A
+never is = absurd (false≢true is)
+
 -- ---- names of two lists
 
 pub among_neither : (own more : List Bytes) (name : Bytes) → is_among own name ≡ false → is_among more name ≡ false → is_among (own ++ more) name ≡ false
-among_neither own more name first second = list_any-append _ own more ∙ ap (λ (b : Bool). b || is_among more name) first ∙ second
-
-neither : (a b : Bool) → (a || b) ≡ false → (a ≡ false) × (b ≡ false)
-neither true b is = let no : true ≡ false = is in absurd (let wrong : ⊥ = cc in wrong)
-neither false b is = (refl, is)
+among_neither own more name first second = list_any-append _ own more ∙ or_from (is_among own name) (is_among more name) first second
 
 pub among_parts : (own more : List Bytes) (name : Bytes) → is_among (own ++ more) name ≡ false → (is_among own name ≡ false) × (is_among more name ≡ false)
-among_parts own more name free = neither (is_among own name) (is_among more name) (sym (list_any-append _ own more) ∙ free)
+among_parts own more name free = or_parts (is_among own name) (is_among more name) (sym (list_any-append _ own more) ∙ free)
 
 -- ---- outside of a scope
 
@@ -28,12 +28,8 @@ filter_in {X} f (y ∷ xs) x is has = go (f y) refl (first_or y xs x has) (filte
     go : (b : Bool) → f y ≡ b → (y ≡ x) ⊎ Contains xs x → (Contains xs x → Contains (filter f xs) x) → Contains (cond b (y ∷ filter f xs) (filter f xs)) x
     go true at (inl same) later = subst (λ (z : X). Contains (z ∷ filter f xs) x) (sym same) (here x (filter f xs))
     go true at (inr rest) later = there y x (filter f xs) (later rest)
-    go false at (inl same) later = let no : false ≡ true = sym at ∙ ap f same ∙ is in absurd (let wrong : ⊥ = cc in wrong)
+    go false at (inl same) later = never (sym at ∙ ap f same ∙ is)
     go false at (inr rest) later = later rest
-
-pub not_false : (b : Bool) → not b ≡ true → b ≡ false
-not_false false is = refl
-not_false true is = sym is
 
 -- ---- outside of a function
 
@@ -80,12 +76,12 @@ outside_alike own (sets_property name) d is = ap (λ (o : Option Change). is_out
 outside_alike own may_set_all d is = absurd (let wrong : ⊥ = cc in wrong)
 
 pub outside_parts : (own more : List Bytes) (c : Change) → is_outside (own ++ more) c ≡ true → (is_outside own c ≡ true) × (is_outside more c ≡ true)
-outside_parts own more (sets_variable within name) is = (let parted = among_parts own more name (not_false (is_among (own ++ more) name) is) in (ap not parted.0, ap not parted.1))
+outside_parts own more (sets_variable within name) is = (let parted = among_parts own more name (not-true (is_among (own ++ more) name) is) in (ap not parted.0, ap not parted.1))
 outside_parts own more (sets_property name) is = (refl, refl)
 outside_parts own more may_set_all is = (refl, refl)
 
 pub outside_both : (own more : List Bytes) (c : Change) → is_outside own c ≡ true → is_outside more c ≡ true → is_outside (own ++ more) c ≡ true
-outside_both own more (sets_variable within name) first second = ap not (among_neither own more name (not_false (is_among own name) first) (not_false (is_among more name) second))
+outside_both own more (sets_variable within name) first second = ap not (among_neither own more name (not-true (is_among own name) first) (not-true (is_among more name) second))
 outside_both own more (sets_property name) first second = refl
 outside_both own more may_set_all first second = refl
 

@@ -3,11 +3,12 @@ use Rattle.std.proofs.Common.{◌≡◌, ◌↔◌, ℕ, suc, ◌≤◌, ◌<◌
 use Rattle.std.specs.Prelude.{◌==◌, nat_lt}
 use Rattle.std.specs.Option.{is_some}
 use Rattle.std.proofs.lemmas.List.{length-append}
-use Rattle.std.proofs.lemmas.Bool.{ltb-true, lt-ltb}
+use Rattle.std.proofs.lemmas.Bool.{ltb-true, lt-ltb, or_left, or_right}
 use Rattle.check_values.specs.Rows.{Bytes}
 use Rattle.check_values.specs.declared.codes.Code.TheVariants.{ReferenceBeforeDeclaration, TypeAsValue, CannotResolveName}
 use Rattle.type_values.specs.declared.types.FlowType.{FlowType}
 use Rattle.typing.specs.Names.{Kind, constant, changing, shared, type_name, Binding, Scope, Meaning, variable_of, no_variable, binding_of, binds, is_usable, declared_meaning, meaning_by_kind, meaning_of_binding, meaning_of, binding_read, declares_type}
+use Rattle.binding_law.proofs.Changing.{never}
 use Rattle.binding_law.specs.Scopes.{place_of, FindsSame}
 
 -- one binding, and the same perhaps once its declaration was read
@@ -29,9 +30,6 @@ pub record Enters (name : Bytes) (bound : Bool) (outer inner : Scope) : Type 0 w
   pub deeper : outer.depth ≤ inner.depth
   pub free : bound ≡ false → FindsSame name outer inner × SameBinding (binding_of outer.names name) (binding_of inner.names name)
   pub own : bound ≡ true → (k : ℕ) × (place_of inner.names name ≡ Some k) × (length outer.names ≤ k)
-
-no : {A : Type 0} → true ≡ false → A
-no is = absurd (let wrong : ⊥ = cc in wrong)
 
 itself : (b : Binding) → Later b b
 itself b = record { number = refl; kind = refl; depth = refl; is_read = λ is. is; declared = λ t is. (t, is) }
@@ -58,32 +56,32 @@ same_later (Some x) (Some y) None first second = absurd second
 same_later (Some x) (Some y) (Some z) first second = later x y z first second
 
 pub stays : (name : Bytes) (scope : Scope) → Enters name false scope scope
-stays name scope = record { longer = omega arith; deeper = omega arith; free = λ is. (refl, same_itself (binding_of scope.names name)); own = λ is. no (sym is) }
+stays name scope = record { longer = omega arith; deeper = omega arith; free = λ is. (refl, same_itself (binding_of scope.names name)); own = λ is. never is }
 
 pub goes_on : (name : Bytes) (x y : Bool) (a b c : Scope) → Enters name x a b → Enters name y b c → Enters name (x || y) a c
 goes_on name true true a b c first second = record {
   longer = let l = first.longer in let m = second.longer in omega arith;
   deeper = let l = first.deeper in let m = second.deeper in omega arith;
-  free = λ is. no is;
+  free = λ is. never (sym is);
   own = λ is. (let found = second.own refl in let l = first.longer in let m = found.2 in (found.0, found.1, omega arith));
 }
 goes_on name true false a b c first second = record {
   longer = let l = first.longer in let m = second.longer in omega arith;
   deeper = let l = first.deeper in let m = second.deeper in omega arith;
-  free = λ is. no is;
+  free = λ is. never (sym is);
   own = λ is. (let found = first.own refl in (found.0, (second.free refl).0 ∙ found.1, found.2));
 }
 goes_on name false true a b c first second = record {
   longer = let l = first.longer in let m = second.longer in omega arith;
   deeper = let l = first.deeper in let m = second.deeper in omega arith;
-  free = λ is. no is;
+  free = λ is. never (sym is);
   own = λ is. (let found = second.own refl in let l = first.longer in let m = found.2 in (found.0, found.1, omega arith));
 }
 goes_on name false false a b c first second = record {
   longer = let l = first.longer in let m = second.longer in omega arith;
   deeper = let l = first.deeper in let m = second.deeper in omega arith;
   free = λ is. ((second.free refl).0 ∙ (first.free refl).0, same_later (binding_of a.names name) (binding_of b.names name) (binding_of c.names name) (first.free refl).1 (second.free refl).1);
-  own = λ is. no (sym is);
+  own = λ is. never is;
 }
 
 -- ---- names in front
@@ -93,11 +91,11 @@ binding_behind [] names name free = refl
 binding_behind (b ∷ own) names name free = go (bytes_eq b.name name) refl free (binding_behind own names name)
   where
     go : (same : Bool) → bytes_eq b.name name ≡ same → binds (b ∷ own) name ≡ false → (binds own name ≡ false → binding_of (own ++ names) name ≡ binding_of names name) → cond same (Some b) (binding_of (own ++ names) name) ≡ binding_of names name
-    go true at is rest = no (sym (ap (λ (c : Bool). is_some (cond c (Some b) (binding_of own name))) at) ∙ is)
+    go true at is rest = never (sym is ∙ ap (λ (c : Bool). is_some (cond c (Some b) (binding_of own name))) at)
     go false at is rest = rest (sym (ap (λ (c : Bool). is_some (cond c (Some b) (binding_of own name))) at) ∙ is)
 
 pub binding_front : (own names : List Binding) (name : Bytes) → binds own name ≡ true → binding_of (own ++ names) name ≡ binding_of own name
-binding_front [] names name bound = no (sym bound)
+binding_front [] names name bound = never bound
 binding_front (b ∷ own) names name bound = go (bytes_eq b.name name) bound (binding_front own names name)
   where
     go : (same : Bool) → is_some (cond same (Some b) (binding_of own name)) ≡ true → (binds own name ≡ true → binding_of (own ++ names) name ≡ binding_of own name) → cond same (Some b) (binding_of (own ++ names) name) ≡ cond same (Some b) (binding_of own name)
@@ -109,11 +107,11 @@ place_behind [] names name free = refl
 place_behind (b ∷ own) names name free = go (bytes_eq b.name name) refl free (place_behind own names name)
   where
     go : (same : Bool) → bytes_eq b.name name ≡ same → binds (b ∷ own) name ≡ false → (binds own name ≡ false → place_of (own ++ names) name ≡ place_of names name) → cond same (Some (length (own ++ names))) (place_of (own ++ names) name) ≡ place_of names name
-    go true at is rest = no (sym (ap (λ (c : Bool). is_some (cond c (Some b) (binding_of own name))) at) ∙ is)
+    go true at is rest = never (sym is ∙ ap (λ (c : Bool). is_some (cond c (Some b) (binding_of own name))) at)
     go false at is rest = rest (sym (ap (λ (c : Bool). is_some (cond c (Some b) (binding_of own name))) at) ∙ is)
 
 place_front : (own names : List Binding) (name : Bytes) → binds own name ≡ true → (k : ℕ) × (place_of (own ++ names) name ≡ Some k) × (length names ≤ k)
-place_front [] names name bound = no (sym bound)
+place_front [] names name bound = never bound
 place_front (b ∷ own) names name bound = go (bytes_eq b.name name) refl bound (place_front own names name)
   where
     go : (same : Bool) → bytes_eq b.name name ≡ same → binds (b ∷ own) name ≡ true → (binds own name ≡ true → (k : ℕ) × (place_of (own ++ names) name ≡ Some k) × (length names ≤ k)) →
@@ -175,7 +173,7 @@ declared_stays name number t scope = record {
   longer = omega (arith, read_length number t scope.names);
   deeper = omega arith;
   free = λ is. (read_place number t scope.names name, read_binding number t scope.names name);
-  own = λ is. no (sym is);
+  own = λ is. never is;
 }
 
 -- ---- what is found
@@ -191,7 +189,7 @@ place_within (b ∷ names) name k is = go (bytes_eq b.name name) is (place_withi
 pub same_where_free : (name : Bytes) (bound : Bool) (outer inner : Scope) → Enters name bound outer inner → (bound ≡ false) ↔ FindsSame name outer inner
 same_where_free name false outer inner enters = (λ is. (enters.free is).0, λ same. refl)
 same_where_free name true outer inner enters = (
-  λ is. no is,
+  λ is. never (sym is),
   λ same.
       (let found = enters.own refl in let l = found.2 in let m = place_within outer.names name found.0 (sym same ∙ found.1) in absurd (omega arith)),
 )
@@ -204,17 +202,13 @@ is_there code b t is = absurd (let wrong : ⊥ = cc in wrong)
 usable_later : (d e : ℕ) (b c : Binding) → d ≤ e → Later b c → is_usable d b ≡ true → is_usable e c ≡ true
 usable_later d e b c deep l is = go b.is_read refl is
   where
-    or_true : (x : Bool) → (x || true) ≡ true
-    or_true true = refl
-    or_true false = refl
-
     go : (r : Bool) → b.is_read ≡ r → (r || nat_lt b.depth d) ≡ true → is_usable e c ≡ true
-    go true at usable = ap (λ (x : Bool). x || nat_lt c.depth e) (l.is_read at)
+    go true at usable = or_left c.is_read (nat_lt c.depth e) (l.is_read at)
     go false at usable =
         let below : b.depth < d = ltb-true b.depth d usable in
         let same = l.depth in
         let lower : c.depth < e = omega arith in
-        ap (λ (x : Bool). c.is_read || x) (lt-ltb c.depth e lower) ∙ or_true c.is_read
+        or_right c.is_read (nat_lt c.depth e) (lt-ltb c.depth e lower)
 
 abbrev variable_number : Meaning → ℕ → ℕ
 variable_number (variable_of b t) n = b.number

@@ -10,8 +10,8 @@ use Rattle.typing.specs.Changes.{Change, sets_variable, sets_property, may_set_a
 use Rattle.module_errors.specs.TopNames.{changes_of_items, changes_of_item, changes_of_export}
 use Rattle.binding_law.specs.Pieces.{Piece, an_expression, a_function, a_block, a_list, a_statement, a_simple, the_items, in_exs, in_links, in_operands, in_fields, in_arms, in_ex, in_body, in_branches, in_else, in_declaration, in_statement, in_simple, in_export, in_item, parts, bound_by, changes_of}
 use Rattle.binding_law.specs.Ways.{Way, arrived, into, has_call, IsElementAssignment, IsCall}
-use Rattle.binding_law.proofs.Changing.{filter_in, mapped_in, outside_alike, outside_parts}
-use Rattle.binding_law.proofs.Making.{Makes, a_variable, a_property, all_properties, Leaves, ComesOut, IsMade, the_one, is_none}
+use Rattle.binding_law.proofs.Changing.{never, filter_in, mapped_in, outside_alike, outside_parts}
+use Rattle.binding_law.proofs.Making.{Makes, a_variable, a_property, all_properties, Leaves, ComesOut, IsMade, the_one}
 
 module _ (c : Change) where
   abbrev Gives : Piece → Type 0
@@ -165,7 +165,7 @@ module _ (c : Change) where
 -- ---- what a piece makes itself
 
 calls_all : (ls : Links) → has_call ls ≡ true → Contains (changes_of_links ls) may_set_all
-calls_all no_link is = is_none (sym is)
+calls_all no_link is = never is
 calls_all (more_link ls (link f t (member key))) is = Contains-append_left (changes_of_links ls) [] may_set_all (calls_all ls is)
 calls_all (more_link ls (link f t (index e))) is = Contains-append_left (changes_of_links ls) (changes_of_ex e) may_set_all (calls_all ls is)
 calls_all (more_link ls (link f t (call es comma))) is =

@@ -1,10 +1,11 @@
 -- A change that is made in a piece, and how it comes out of the scopes and functions around it.
 use Rattle.std.proofs.Common.{◌≡◌, ◌⊎◌, ◌||◌, not, Bool, true, false, Option, Some, None, Contains, if◌then◌else◌, refl, sym, ap, ◌∙◌, subst}
+use Rattle.std.proofs.lemmas.Bool.{not-true, or_parts}
 use Rattle.check_values.specs.Rows.{Bytes, is_among}
 use Rattle.typing.specs.Changes.{Change, sets_variable, sets_property, may_set_all, from_inside, is_outside}
 use Rattle.binding_law.specs.Pieces.{Piece, parts, bound_by, is_function}
 use Rattle.binding_law.specs.Ways.{Way, arrived, into, bound_on, enters_function, IsAssignment, IsPropertyAssignment, IsElementAssignment, IsCall, IsAssigned}
-use Rattle.binding_law.proofs.Changing.{among_neither, among_parts, not_false, is_inner, name_in, is_variable}
+use Rattle.binding_law.proofs.Changing.{never, among_neither, among_parts, is_inner, name_in, is_variable}
 
 -- the piece makes this change itself
 pub data Makes (c : Change) (p : Piece) : Type 0 where
@@ -40,9 +41,6 @@ abbrev pub the_one : Option Change → Change
 the_one None = may_set_all
 the_one (Some c) = c
 
-pub is_none : {A : Type 0} → true ≡ false → A
-is_none is = absurd (let wrong : ⊥ = cc in wrong)
-
 pub variable_out : (name : Bytes) {p end : Piece} (way : Way p end) → is_among (bound_on way) name ≡ false → ComesOut way (sets_variable false name) (sets_variable (enters_function way) name)
 variable_out name (arrived p) free = refl
 variable_out name (into p q end part way) free =
@@ -57,15 +55,15 @@ variable_out name (into p q end part way) free =
 variable_before : (b inner : Bool) (name : Bytes) (c : Change) → (if b then from_inside c else Some c) ≡ Some (sets_variable inner name) → (within : Bool) × (c ≡ sets_variable within name) × ((b || within) ≡ inner)
 variable_before false inner name c is = (inner, ap the_one is, refl)
 variable_before true inner name (sets_variable within own) is = (within, ap (sets_variable within) (ap (name_in name) is), ap is_inner is)
-variable_before true inner name (sets_property own) is = is_none (sym (ap is_variable is))
-variable_before true inner name may_set_all is = is_none (sym (ap is_variable is))
+variable_before true inner name (sets_property own) is = never ((ap is_variable is))
+variable_before true inner name may_set_all is = never ((ap is_variable is))
 
 assignment_made : (inner : Bool) (name : Bytes) (p : Piece) (made : Change) → Makes made p → made ≡ sets_variable inner name → IsAssignment name p × (false ≡ inner)
 assignment_made inner name p made (a_variable own is assignment) same =
     let both = sym is ∙ same in
     (subst (λ (n : Bytes). IsAssignment n p) (ap (λ (c : Change). name_in name (Some c)) both) assignment, ap (λ (c : Change). is_inner (Some c)) both)
-assignment_made inner name p made (a_property own is assignment) same = is_none (sym (ap (λ (c : Change). is_variable (Some c)) (sym is ∙ same)))
-assignment_made inner name p made (all_properties is others) same = is_none (sym (ap (λ (c : Change). is_variable (Some c)) (sym is ∙ same)))
+assignment_made inner name p made (a_property own is assignment) same = never ((ap (λ (c : Change). is_variable (Some c)) (sym is ∙ same)))
+assignment_made inner name p made (all_properties is others) same = never ((ap (λ (c : Change). is_variable (Some c)) (sym is ∙ same)))
 
 variable_in : (name : Bytes) {p end : Piece} (way : Way p end) (made c : Change) (inner : Bool) → Makes made end → ComesOut way made c → c ≡ sets_variable inner name →
     IsAssignment name end × (enters_function way ≡ inner) × (is_among (bound_on way) name ≡ false)
@@ -73,7 +71,7 @@ variable_in name (arrived p) made c inner makes comes is = (let found = assignme
 variable_in name (into p q end part way) made c inner makes (between, rest, free, leaves) is =
     let before = variable_before (is_function p) inner name between (leaves ∙ ap Some is) in
     let found = variable_in name way made between before.0 makes rest before.1 in
-    let own : is_among (bound_by p) name ≡ false = not_false (is_among (bound_by p) name) (sym (ap (is_outside (bound_by p)) before.1) ∙ free) in
+    let own : is_among (bound_by p) name ≡ false = not-true (is_among (bound_by p) name) (sym (ap (is_outside (bound_by p)) before.1) ∙ free) in
     (found.0, ap (λ (b : Bool). is_function p || b) found.1 ∙ before.2, among_neither (bound_by p) (bound_on way) name own found.2)
 
 pub made_assigned : (inner : Bool) (name : Bytes) (p : Piece) → IsMade (sets_variable inner name) p → IsAssigned inner name p
@@ -110,14 +108,14 @@ property_in name o = name
 
 property_before : (b : Bool) (name : Bytes) (c : Change) → (if b then from_inside c else Some c) ≡ Some (sets_property name) → c ≡ sets_property name
 property_before false name c is = ap the_one is
-property_before true name (sets_variable within own) is = is_none (sym (ap is_property is))
+property_before true name (sets_variable within own) is = never ((ap is_property is))
 property_before true name (sets_property own) is = ap sets_property (ap (property_in name) is)
-property_before true name may_set_all is = is_none (sym (ap is_property is))
+property_before true name may_set_all is = never ((ap is_property is))
 
 property_made : (name : Bytes) (p : Piece) (made : Change) → Makes made p → made ≡ sets_property name → IsPropertyAssignment name p
-property_made name p made (a_variable own is assignment) same = is_none (sym (ap (λ (c : Change). is_property (Some c)) (sym is ∙ same)))
+property_made name p made (a_variable own is assignment) same = never ((ap (λ (c : Change). is_property (Some c)) (sym is ∙ same)))
 property_made name p made (a_property own is assignment) same = subst (λ (n : Bytes). IsPropertyAssignment n p) (ap (λ (c : Change). property_in name (Some c)) (sym is ∙ same)) assignment
-property_made name p made (all_properties is others) same = is_none (sym (ap (λ (c : Change). is_property (Some c)) (sym is ∙ same)))
+property_made name p made (all_properties is others) same = never ((ap (λ (c : Change). is_property (Some c)) (sym is ∙ same)))
 
 property_found : (name : Bytes) {p end : Piece} (way : Way p end) (made c : Change) → Makes made end → ComesOut way made c → c ≡ sets_property name → IsPropertyAssignment name end
 property_found name (arrived p) made c makes comes is = property_made name p made makes (comes ∙ is)
@@ -131,14 +129,10 @@ property_is_made name p (place, way, assignment) = record { place = place; way =
 
 -- ---- all properties
 
-or_neither : (a b : Bool) → (a || b) ≡ false → (a ≡ false) × (b ≡ false)
-or_neither true b is = is_none is
-or_neither false b is = (refl, is)
-
 all_out : {p end : Piece} (way : Way p end) → enters_function way ≡ false → ComesOut way may_set_all may_set_all
 all_out (arrived p) outside = refl
 all_out (into p q end part way) outside =
-    let parted = or_neither (is_function p) (enters_function way) outside in
+    let parted = or_parts (is_function p) (enters_function way) outside in
     (may_set_all, all_out way parted.1, refl, ap (λ (b : Bool). if b then from_inside may_set_all else Some may_set_all) parted.0)
 
 abbrev is_all : Option Change → Bool
@@ -147,13 +141,13 @@ is_all o = false
 
 all_before : (b : Bool) (c : Change) → (if b then from_inside c else Some c) ≡ Some may_set_all → (c ≡ may_set_all) × (b ≡ false)
 all_before false c is = (ap the_one is, refl)
-all_before true (sets_variable within own) is = is_none (sym (ap is_all is))
-all_before true (sets_property own) is = is_none (sym (ap is_all is))
-all_before true may_set_all is = is_none (sym (ap is_all is))
+all_before true (sets_variable within own) is = never ((ap is_all is))
+all_before true (sets_property own) is = never ((ap is_all is))
+all_before true may_set_all is = never ((ap is_all is))
 
 all_made : (p : Piece) (made : Change) → Makes made p → made ≡ may_set_all → IsElementAssignment p ⊎ IsCall p
-all_made p made (a_variable own is assignment) same = is_none (sym (ap (λ (c : Change). is_all (Some c)) (sym is ∙ same)))
-all_made p made (a_property own is assignment) same = is_none (sym (ap (λ (c : Change). is_all (Some c)) (sym is ∙ same)))
+all_made p made (a_variable own is assignment) same = never ((ap (λ (c : Change). is_all (Some c)) (sym is ∙ same)))
+all_made p made (a_property own is assignment) same = never ((ap (λ (c : Change). is_all (Some c)) (sym is ∙ same)))
 all_made p made (all_properties is others) same = others
 
 all_found : {p end : Piece} (way : Way p end) (made c : Change) → Makes made end → ComesOut way made c → c ≡ may_set_all → (enters_function way ≡ false) × (IsElementAssignment end ⊎ IsCall end)

@@ -8,7 +8,7 @@ use Rattle.binding_law.specs.Pieces.{Piece, parts, bound_by}
 use Rattle.binding_law.specs.Ways.{Way, arrived, into, bound_on}
 use Rattle.binding_law.specs.Scopes.{IsEntered, IsReadAlong, FindsSame}
 use Rattle.binding_law.specs.Placed.{FitsAt}
-use Rattle.binding_law.proofs.Bound.{never}
+use Rattle.binding_law.proofs.Changing.{never}
 use Rattle.binding_law.proofs.Finding.{Enters, SameBinding}
 use Rattle.binding_law.proofs.Entering.{way_enters, finds_same}
 use Rattle.binding_law.proofs.Inside.{IsInside, IsOwn}

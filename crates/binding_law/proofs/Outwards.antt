@@ -10,8 +10,8 @@ use Rattle.typing.specs.Changes.{Change, sets_variable, sets_property, may_set_a
 use Rattle.module_errors.specs.TopNames.{changes_of_items, changes_of_item, changes_of_export}
 use Rattle.binding_law.specs.Pieces.{Piece, an_expression, a_function, a_block, a_list, a_statement, a_simple, the_items, in_exs, in_links, in_operands, in_fields, in_arms, in_body, in_branches, in_else, in_declaration, in_statement, in_export, in_item, parts, bound_by, is_function, changes_of}
 use Rattle.binding_law.specs.Ways.{has_call, ChangesAreAssignments}
-use Rattle.binding_law.proofs.Changing.{mapped_out, filter_out, outside_alike, outside_both}
-use Rattle.binding_law.proofs.Making.{Makes, a_variable, a_property, all_properties, Leaves, IsMade, through, itself, is_none, made_assigned, assigned_made, made_property, property_is_made, made_all, all_is_made}
+use Rattle.binding_law.proofs.Changing.{never, mapped_out, filter_out, outside_alike, outside_both}
+use Rattle.binding_law.proofs.Making.{Makes, a_variable, a_property, all_properties, Leaves, IsMade, through, itself, made_assigned, assigned_made, made_property, property_is_made, made_all, all_is_made}
 use Rattle.binding_law.proofs.Inwards.{made_changes}
 
 abbrev is_none_bound : List Bytes → Bool
@@ -23,7 +23,7 @@ all_outside : (own : List Bytes) (c : Change) → is_none_bound own ≡ true →
 all_outside [] (sets_variable inner name) none = refl
 all_outside [] (sets_property name) none = refl
 all_outside [] may_set_all none = refl
-all_outside (name ∷ names) c none = is_none (sym none)
+all_outside (name ∷ names) c none = never none
 
 -- out of what is no function a change comes as it is
 stays : (p : Piece) (c : Change) → is_function p ≡ false → Leaves p c c

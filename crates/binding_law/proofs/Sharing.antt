@@ -4,6 +4,7 @@ use Rattle.std.specs.List.{AllByRecursion, filter_map}
 use Rattle.std.specs.Cmp.Lexicographic.{bytes_decides, nat_list_eq_equiv}
 use Rattle.js_grammar.specs.Code.{ex, ExForm, function_ex, arrow, function, Sig, arrow_block, arrow_value, block, Stmts}
 use Rattle.js_grammar.specs.Items.{imported, Importeds, no_imported, more_imported, ImportList, import_list, ImportForm, import_default, import_both, import_names, import_types, import_only, AliasOf, alias, ExportForm, export_declaration, export_function, export_alias, export_names, export_from, export_default_function, export_default, ItemForm, imports, exports, declares_item, function_item, alias_item, does_item, item, Items, no_item, more_item}
+use Rattle.std.proofs.lemmas.Bool.{or_right}
 use Rattle.check_values.specs.Rows.{Bytes, is_among}
 use Rattle.type_values.specs.declared.types.FlowType as made
 use Rattle.local_signatures.specs.Scope.{default_name}
@@ -17,10 +18,10 @@ use Rattle.module_errors.specs.TopNames.{top_binding, import_binding, bind_impor
 use Rattle.module_errors.specs.Errors.{no_notes, top_env}
 use Rattle.binding_law.specs.Pieces.{Piece, an_expression, a_function, a_block, a_list, the_items, parts, bound_by, changes_of}
 use Rattle.binding_law.specs.Scopes.{IsBody, IsEntered, IsFound, is_variable, SharedIsAssignedInside, NumbersAreAssigned}
-use Rattle.binding_law.proofs.Changing.{mapped_in, mapped_out}
+use Rattle.binding_law.proofs.Changing.{never, mapped_in, mapped_out}
 use Rattle.binding_law.proofs.Outwards.{changes_are_assignments}
 use Rattle.binding_law.proofs.Finding.{binding_front}
-use Rattle.binding_law.proofs.Bound.{sig_binds, statements_bind, body_binds, own_binds, TellsKind, AllTellKind, never, bind_kinds, sig_kinds, declares_kinds, named_kinds, statements_kinds}
+use Rattle.binding_law.proofs.Bound.{sig_binds, statements_bind, body_binds, own_binds, TellsKind, AllTellKind, bind_kinds, sig_kinds, declares_kinds, named_kinds, statements_kinds}
 use Rattle.binding_law.proofs.Entering.{assigned_found, found_assigned}
 
 -- ---- what is changed is found
@@ -77,13 +78,9 @@ has_set_inside : (changes : List Change) (name : Bytes) → Contains changes (se
 has_set_inside [] name has = nothing (sets_variable true name) has
 has_set_inside (c ∷ changes) name has = go (first_or c changes (sets_variable true name) has) (has_set_inside changes name)
   where
-    or_true : (x : Bool) → (x || true) ≡ true
-    or_true true = refl
-    or_true false = refl
-
     go : (c ≡ sets_variable true name) ⊎ Contains changes (sets_variable true name) → (Contains changes (sets_variable true name) → is_set_inside changes name ≡ true) → is_set_inside (c ∷ changes) name ≡ true
     go (inl same) rest = ap (λ (d : Change). sets_inside name d || is_set_inside changes name) same ∙ ap (λ (b : Bool). b || is_set_inside changes name) (nat_list_eq_equiv.refl name)
-    go (inr later) rest = ap (λ (b : Bool). sets_inside name c || b) (rest later) ∙ or_true (sets_inside name c)
+    go (inr later) rest = or_right (sets_inside name c) (is_set_inside changes name) (rest later)
 
 abbrev is_shared : Kind → Bool
 is_shared shared = true

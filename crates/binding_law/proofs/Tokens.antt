@@ -16,7 +16,8 @@ use Rattle.typing.specs.Functions.{Bound, none_bound, bind, parameter_binding, b
 use Rattle.binding_law.specs.Pieces.{Piece, an_expression, a_function, a_block, bound_by}
 use Rattle.binding_law.specs.Scopes.{IsBody, IsEntered}
 use Rattle.binding_law.specs.Placed.{FitsAt}
-use Rattle.binding_law.proofs.Bound.{sig_binds, statements_bind, body_binds, own_binds, never}
+use Rattle.binding_law.proofs.Changing.{never}
+use Rattle.binding_law.proofs.Bound.{sig_binds, statements_bind, body_binds, own_binds}
 use Rattle.binding_law.proofs.Finding.{binding_front}
 use Rattle.binding_law.proofs.Placed.{rises, bump_rises}
 use Rattle.binding_law.proofs.Inside.{Between, IsOwn, IsDeclared, IsDeclaredBy}
