@@ -28,6 +28,17 @@ before_same c p e = ap (λ (b : Bool). cond b 1 0) (eq-eqb (p + 1) c e)
 pub before_else : (c p : ℕ) → p + 1 ≢ c → is_before c (Some p) ≡ 0
 before_else c p ne = ap (λ (b : Bool). cond b 1 0) (ne_eqb (p + 1) c ne)
 
+is_before_some : (c : ℕ) (o : Option ℕ) → 0 < is_before c o → (p : ℕ) × (o ≡ Some p) × (p + 1 ≡ c)
+is_before_some c None h = absurd (omega arith)
+is_before_some c (Some p) h = dite (ℕ_discrete (p + 1) c) (λ e. (p, refl, e)) (λ ne. absurd (let z = before_else c p ne in omega arith))
+
+-- a view that counts as pinned just before c is a lane's, with that pin
+pub is_just_before : {P : Type 0} (c : ℕ) (v : Role P) → 0 < pinned_before c v → (p : ℕ) × (l : Visit P) × (v ≡ Reads l) × (l.pin ≡ Some p) × (p + 1 ≡ c)
+is_just_before c Spent h = absurd (omega arith)
+is_just_before c (Told x) h = absurd (omega arith)
+is_just_before c (Reads l) h = let o = is_before_some c l.pin h in (o.0, l, refl, o.1, o.2)
+is_just_before c (Writes w) h = absurd (omega arith)
+
 -- a pin at c is just before c + 1
 shift : (c : ℕ) (o : Option ℕ) → is_at c o ≡ is_before (c + 1) o
 shift c None = refl

@@ -9,6 +9,7 @@ pub mod LaneSteps
 pub mod WriterSteps
 pub mod MeetSteps
 pub mod Opens
+pub mod Takes
 pub mod Fills
 pub mod Parts
 pub mod Worlds

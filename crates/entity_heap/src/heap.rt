@@ -10,7 +10,7 @@ ghost use Rattle.entity_heap.specs.Starts.{AreListed};
 
 use crate::board::{Board, Place};
 use heap_core::{PlainHeap, Program};
-use std::sync::{Arc, Wait};
+use std::sync::Arc;
 
 mod as_reader;
 mod as_writer;
@@ -113,7 +113,7 @@ pub struct Snapshot<'a, P: Program> {
 
 /// The writer with its heap, as a `HeapWriter`.
 #[derive(Drop)]
-pub struct Writing<'a, P: Program, R: Wait> {
+pub struct Writing<'a, P: Program, R> {
     pub(crate) rt: &'a R,
     pub(crate) heap: &'a Heap<P>,
     pub(crate) writer: &'a mut Writer<P>,

@@ -8,7 +8,7 @@ ghost use Rattle.entity_heap.specs.declared.board.Role.{Role};
 ghost use Rattle.entity_heap.specs.Rule.{Kept};
 ghost use Rattle.entity_heap.specs.Worlds.{Own, IsWorldOf};
 ghost use Rattle.entity_heap.specs.Events.{AreEvents};
-ghost use Rattle.entity_heap.specs.Promises.{AreServed, HaveLeft, IsApart};
+ghost use Rattle.entity_heap.specs.Promises.{AreServed, HaveLeft, IsAwaited, AreNoted, IsApart};
 
 use heap_core::Program;
 
@@ -32,6 +32,18 @@ pub fn readers_are_served<P: Program>(_: &P)
 /// Once the version before the current one is drained, no lane is pinned at it.
 pub fn drained_is_left<P: Program>(_: &P)
     ensures { (s : State (Option (Arc P Global)) (Role P)) (r : Kept P.fits s) → HaveLeft s r.plan }
+{}
+
+/// Where a load finds fewer departures from the version before the current one than are owed, a lane is pinned at that
+/// version: pins at the current version hold up nothing.
+pub fn refused_is_pinned<P: Program>(_: &P)
+    ensures { (s : State (Option (Arc P Global)) (Role P)) (r : Kept P.fits s) → IsAwaited s r.plan }
+{}
+
+/// What the lanes know is the writer's: the versions that they have pinned or learnt are at most its own, what they have
+/// recorded are its states, and a lane that it met has no pin before the version of that meeting.
+pub fn lanes_are_noted<P: Program>(_: &P)
+    ensures { (s : State (Option (Arc P Global)) (Role P)) (r : Kept P.fits s) → AreNoted s r.plan }
 {}
 
 /// The writer fills no slot that a pinned lane may read.

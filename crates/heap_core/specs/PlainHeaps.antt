@@ -1,8 +1,9 @@
 -- What a plain heap means.
-use Rattle.std.proofs.Common.{sym, ◌∙◌, arith}
+use Rattle.std.specs.Prelude.{◌^◌}
+use Rattle.std.proofs.Common.{◌<◌, length, sym, ◌∙◌, arith}
 use Rattle.heap_core.specs.Meaning.{Meaning, IsSound}
 use Rattle.heap_core.specs.Plain.{values, overlaid, staged_of}
-use Rattle.heap_core.specs.PlainLaws.{length-values, length-overlaid, length-staged_of, overlaid-unstaged}
+use Rattle.heap_core.specs.PlainLaws.{length-values, length-overlaid, length-staged_of, overlaid-unstaged, reads_numbered}
 use Rattle.heap_core.specs.declared.traits.Program.{Ghosts}
 use Rattle.heap_core.specs.declared.plain.PlainHeap.{PlainHeap}
 
@@ -29,3 +30,7 @@ module _ {P : Type 0} {G : Ghosts P} where
     closed = h.closed;
     room = h.room;
   }
+
+  -- its entities are numbered
+  pub plain_numbered : (h : PlainHeap P G) → length (meaning_of h).committed < 2 ^ 32
+  plain_numbered h = reads_numbered h.committed.items h.numbered

@@ -1,4 +1,5 @@
 -- Laws of a plain heap: what its meaning keeps.
+use Rattle.std.specs.Prelude.{◌^◌}
 use Rattle.std.proofs.Common.{◌≡◌, ℕ, zero, suc, ◌<◌, ◌≤◌, true, false, List, [], ◌∷◌, length, slice_get, refl, ap, arith, Option, Some, None}
 use Rattle.std.specs.declared.sync.Arc.{Arc}
 use Rattle.heap_core.specs.Meaning.{AllFit}
@@ -38,6 +39,10 @@ module _ {P Z : Type 0} where
   -- what a reader promises of the state that it reads
   pub reads_fit : (fits : ℕ → P → ℕ → P → Type 0) (cs : List (Arc P Z)) → 0 < length cs → AllFit fits (values cs) → (0 < length (values cs)) × AllFit fits (values cs)
   reads_fit fits cs some fit = (let l = length-values cs in omega arith, fit)
+
+  -- and that its entities are numbered
+  pub reads_numbered : (cs : List (Arc P Z)) → length cs < 2 ^ 32 → length (values cs) < 2 ^ 32
+  reads_numbered cs few = let l = length-values cs in omega arith
 
 module _ {P : Type 0} where
   -- a state fits in one way at most, where each payload does

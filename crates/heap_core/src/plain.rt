@@ -23,6 +23,7 @@ pub struct PlainHeap<P: Program> {
     // the numbers of the entities that pend: a commit looks at no others
     staged: Vec<u32>,
     ghost some_entity: { 0 < length committed.items },
+    ghost numbered: { length committed.items < 2 ^ 32 },
     ghost as_many: { (length pending.items ≡ length committed.items) × (length versions.items ≡ length committed.items) },
     ghost fit: { AllFit P.fits (values committed.items) } by { AllFit-prop P.fits P.fits_once (values committed.items) },
     ghost bounded: { (e n : ℕ) → slice_get versions.items e ≡ Some n → n ≤ version },

@@ -99,6 +99,9 @@ pub trait HeapWriter<P: Program> {
     /// What holds at all times.
     ghost sound: { (w : Self) → IsSound P.fits (meaning w) };
 
+    /// Each entity's number is a `u32`.
+    ghost numbered: { (w : Self) → length (meaning w).committed < 2 ^ 32 };
+
     /// The last state told is the committed one, and there are as many before it as the version says.
     ghost told_last: { (w : Self) (states : List (List P)) → told w ≡ Some states → (length states ≡ (meaning w).version + 1) × (slice_get states (meaning w).version ≡ Some (meaning w).committed) };
 }
@@ -144,4 +147,7 @@ pub trait HeapReader<P: Program> {
 
     /// There is a root, and every payload that is read fits it.
     ghost fit: { (r : Self) → (0 < length (state r)) × AllFit P.fits (state r) };
+
+    /// Each entity's number is a `u32`.
+    ghost numbered: { (r : Self) → length (state r) < 2 ^ 32 };
 }

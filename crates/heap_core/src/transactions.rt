@@ -15,7 +15,6 @@ fn stage_state<P: Program, W: HeapWriter<P>>(
 ) -> Result<(), NoMemory>
     requires is_open { (W.meaning writer.old).is_open ≡ true }
     requires entities { length state.now ≡ length (W.meaning writer.old).committed }
-    requires numbered { length state.now < 2 ^ 32 }
     ensures latest { OnOk result ((W.meaning writer.new).latest ≡ map arc_value state.now) }
     ensures staged { OnOk result ((W.meaning writer.new).staged ≡ replicate (length state.now) true) }
     ensures staging { IsStaging (W.meaning writer.old) (W.meaning writer.new) }
@@ -39,7 +38,6 @@ pub fn commit_state<P: Program, W: HeapWriter<P>>(
 ) -> Result<u32, NoMemory>
     requires closed { ((W.meaning writer.old).is_open ≡ false) × ((W.meaning writer.old).version + 1 < 2 ^ 31) }
     requires entities { length state.now ≡ length (W.meaning writer.old).committed }
-    requires numbered { length state.now < 2 ^ 32 }
     requires fit { AllFit P.fits (map arc_value state.now) }
     ensures version { IfOk result (λ version. version ≡ (W.meaning writer.new).version) }
     ensures ok { OnOk result (W.meaning writer.new ≡ with_state (map arc_value state.now) (W.meaning writer.old)) }

@@ -46,4 +46,6 @@ impl<W: HeapWriter<Payload>> HeapReader<Payload> for Committed<'_, W> {
     }
 
     ghost fit = { λ r. may_be_read (W.sound r.writer.now) };
+
+    ghost numbered = { λ r. W.numbered r.writer.now };
 }

@@ -10,7 +10,7 @@ use std::sync::Arc;
 
 impl<'a, P: Program> HeapReader<P> for Snapshot<'a, P> {
     ghost use Rattle.entity_heap.specs.Plans.{visit_of};
-    ghost use Rattle.entity_heap.specs.Readers.{snapshot_fit};
+    ghost use Rattle.entity_heap.specs.Readers.{snapshot_fit, snapshot_numbered};
 
     type Part = (usize, Heap<P>, Visit<P>);
 
@@ -21,6 +21,8 @@ impl<'a, P: Program> HeapReader<P> for Snapshot<'a, P> {
     ghost state = { λ r. (visit_of r.core.place.me.0).state };
 
     ghost fit = { λ r. snapshot_fit (visit_of r.core.place.me.0) P.fits r.sized r.fits };
+
+    ghost numbered = { λ r. snapshot_numbered (visit_of r.core.place.me.0) r.core.place.table_id r.heap.now.board.shared.table_id r.heap.now.entities r.sized.0 r.of r.core.wide r.heap.now.wide r.heap.now.small.1 };
 
     fn version(&self) -> u32 {
         self.version

@@ -9,7 +9,7 @@ use heap_core::{HeapWriter, Program};
 use std::sync::{Arc, Wait};
 
 impl<'a, P: Program, R: Wait> HeapWriter<P> for Writing<'a, P, R> {
-    ghost use Rattle.heap_core.specs.PlainHeaps.{meaning_of, plain_sound};
+    ghost use Rattle.heap_core.specs.PlainHeaps.{meaning_of, plain_sound, plain_numbered};
     ghost use Rattle.entity_heap.specs.Plans.{plan_of};
     ghost use Rattle.entity_heap.specs.Writers.{told_writer};
 
@@ -22,6 +22,8 @@ impl<'a, P: Program, R: Wait> HeapWriter<P> for Writing<'a, P, R> {
     ghost told = { λ w. Some (plan_of w.writer.now.place.me.0).history };
 
     ghost sound = { λ w. plain_sound w.writer.now.plain };
+
+    ghost numbered = { λ w. plain_numbered w.writer.now.plain };
 
     ghost told_last = { λ w states e. let q = plan_of w.writer.now.place.me.0 in let m = meaning_of w.writer.now.plain in told_writer q.history states q.version m.version q.committed m.committed w.writer.now.told w.writer.now.gate.0 w.writer.now.states.0 e };
 

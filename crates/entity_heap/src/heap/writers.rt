@@ -1,4 +1,4 @@
-//! What the writer does. Each call but `begin` and `on` takes no leave to wait.
+//! What the writer does. Each call but `begin` takes no leave to wait.
 ghost use Rattle.std.specs.Prelude.{◌≡◌, ◌≢◌, ◌+◌, ◌-◌, ◌^◌, ◌<◌, ◌≤◌, ◌++◌, [], ◌∷◌, true, false, Option, Some, None, OnOk, IfErr, OnErr, IsOk, IfOk, length, slice_set, slice_get, slice_index};
 ghost use Rattle.std.specs.Arc.{arc_value};
 ghost use Rattle.heap_core.specs.Meaning.{AllFit, opened, staging, after_commit, after_rollback};
@@ -261,7 +261,7 @@ impl<P: Program> Writer<P> {
     }
 
     /// The writer with its heap, as a `HeapWriter`, whose `begin` may wait.
-    pub fn on<'a, R: Wait>(&'a mut self, rt: &'a R, heap: &'a Heap<P>) -> Writing<'a, P, R>
+    pub fn on<'a, R>(&'a mut self, rt: &'a R, heap: &'a Heap<P>) -> Writing<'a, P, R>
         requires { IsWriterOf heap.now self.old }
         ensures same_writer { result.writer.ghost_name ≡ self.entry.ghost_name }
         ensures from { (result.writer.now ≡ self.old) × (result.heap.now ≡ heap.now) }

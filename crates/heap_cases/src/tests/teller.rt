@@ -38,6 +38,8 @@ impl<'a, R: Wait> HeapWriter<()> for Teller<'a, R> {
 
     ghost sound = { λ t. record { some_entity = lit< tt; as_many = (refl, refl, refl); fit = λ _ _ _ _ _. tt; bounded = only_bounded t.last t.version t.bounded; unstaged = λ _ _. refl; closed = λ h. ap (λ b. b ∷ []) (t.closed h); room = t.room } };
 
+    ghost numbered = { λ _. lit< tt };
+
     ghost told_last = { λ t states h. let blank : List (Unit {0}) = tt ∷ [] in let same : replicate (t.version + 1) blank ≡ states = Prim.cc in subst (λ (s : List (List (Unit {0}))). (length s ≡ t.version + 1) × (slice_get s t.version ≡ Some blank)) same (length-replicate (t.version + 1) blank, slice_get-get_or (replicate (t.version + 1) blank) t.version blank (Prim.omega (arith, length-replicate (t.version + 1) blank)) ∙ ap Some (get_or-replicate (t.version + 1) t.version blank blank (Prim.omega arith))) };
 
     fn version(&self) -> u32 {

@@ -1,7 +1,7 @@
 //! The plain heap is read.
 ghost use Rattle.std.specs.Prelude.{◌≡◌};
 ghost use Rattle.heap_core.specs.Plain.{values};
-ghost use Rattle.heap_core.specs.PlainLaws.{reads_fit};
+ghost use Rattle.heap_core.specs.PlainLaws.{reads_fit, reads_numbered};
 
 use super::{PlainHeap, PlainReader};
 use crate::traits::{HeapReader, HeapWriter, Program};
@@ -28,6 +28,8 @@ impl<'a, P: Program> HeapReader<P> for PlainReader<'a, P> {
     ghost state = { λ r. values r.heap.now.committed.items };
 
     ghost fit = { λ r. reads_fit P.fits r.heap.now.committed.items r.heap.now.some_entity r.heap.now.fit };
+
+    ghost numbered = { λ r. reads_numbered r.heap.now.committed.items r.heap.now.numbered };
 
     fn version(&self) -> u32 {
         self.heap.version

@@ -2,7 +2,7 @@
 ghost use Rattle.std.specs.Prelude.{◌≡◌, ◌<◌, true, length, None, IfOk, OnErr};
 ghost use Rattle.std.specs.Arc.{arc_value};
 ghost use Rattle.heap_core.specs.Meaning.{staging};
-ghost use Rattle.heap_core.specs.PlainHeaps.{meaning_of, plain_sound};
+ghost use Rattle.heap_core.specs.PlainHeaps.{meaning_of, plain_sound, plain_numbered};
 ghost use Rattle.heap_core.specs.PlainLaws.{none_some};
 
 use super::PlainHeap;
@@ -21,6 +21,8 @@ impl<P: Program> HeapWriter<P> for PlainHeap<P> {
     ghost told = { λ _. None };
 
     ghost sound = { λ h. plain_sound h };
+
+    ghost numbered = { λ h. plain_numbered h };
 
     ghost told_last = { λ h states e. none_some states e };
 

@@ -10,6 +10,7 @@ invariant_of-self g c =
     let h = c.args.self.now in let did = c.settle.ensures in let l₁ = length-values c.settle.new.committed.items in let l₂ = length-overlaid h.committed.items h.pending.items in let l₃ = ap length did.committed in
     let some = h.some_entity in let a = h.as_many in let kept = did.lengths in record {
       some_entity = omega arith;
+      numbered = (let few = h.numbered in omega arith);
       as_many = (omega arith, omega arith);
       fit = subst (AllFit g.P.Program.fits) (sym did.committed) c.requires.1;
       bounded = λ e n at. stamped-bounded (h.version + 1) h.version (staged_of h.pending.items) h.versions.items (omega arith) h.bounded e n (ap (λ (l : List ℕ). slice_get l e) (sym did.versions) ∙ at);
