@@ -3,7 +3,6 @@ ghost use Rattle.std.specs.Prelude.{refl};
 
 mod calls;
 mod rows;
-mod running;
 mod teller;
 mod worlds;
 
