@@ -1,0 +1,16 @@
+pub mod Among
+pub mod Clears
+pub mod Counts
+pub mod Finds
+pub mod Groups
+pub mod Imported
+pub mod Jobs
+pub mod Keeps
+pub mod Leads
+pub mod Mapped
+pub mod Merged
+pub mod Outside
+pub mod Places
+pub mod Plans
+pub mod Puts
+pub mod Whole

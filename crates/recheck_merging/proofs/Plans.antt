@@ -1,0 +1,93 @@
+-- Plans.
+use Rattle.std.proofs.Common.{◌≡◌, ℕ, ◌<◌, ◌^◌, List, [], All, length, slice_get, Some, None, refl, sym, ap, ◌∙◌, subst, arith}
+use Rattle.flow_base.specs.Program.{Bytes}
+use Rattle.graph_search.specs.Cycles.{Has, Edge}
+use Rattle.graph_search.specs.Reach.{IsRising}
+use Rattle.graph_search.specs.Components.{AreComponents}
+use Rattle.graph_search.specs.Waves.{AreWaves}
+use Rattle.graph_search.proofs.Lists.{has_none, none_some}
+use Rattle.graph_search.proofs.Rising.{rising_none}
+use Rattle.merged_signatures.specs.Chains.{View}
+use Rattle.affected_sizes.specs.Polls.{IsImport, AreImports}
+use Rattle.path_numbers.specs.Sets.{paths_at}
+use Rattle.recheck_plan.specs.Affected.{AreExactly, LeadsToTouched}
+use Rattle.check_phases.specs.Sourced.{paths_in, view_in, AreSources}
+use Rattle.check_phases.specs.declared.merging.Sources.{Sources}
+use Rattle.check_phases.proofs.Lists.{place_at}
+use Rattle.recheck_merging.specs.Plans.{IsToMerge, AreEdgesOf, IsPlan, IsPlanOf}
+use Rattle.recheck_merging.specs.declared.planning.MergePlan.{MergePlan}
+use Rattle.recheck_merging.proofs.Imported.{as_many, low_path}
+use Rattle.recheck_merging.proofs.Mapped.{all_has, has_all}
+use Rattle.recheck_merging.proofs.Leads.{to_merge}
+
+pub is_plan : (s : Sources) (p : MergePlan) (inner : List (List ℕ)) → IsRising p.merged → All (λ x. x < length s.root.modules) p.merged → AreEdgesOf s p.merged p.edges.items
+    → AreImports (view_in s) (paths_at (paths_in s) p.merged) inner → AreComponents inner p.components → AreWaves inner p.components p.waves → IsPlan s p
+is_plan s p inner rising low edges are components waves = record {
+  rising = rising;
+  within = λ x has. all_has (λ (y : ℕ). y < length s.root.modules) p.merged low x has;
+  edges = edges;
+  waves = record { edges = inner; components = p.components; are_imports = are; are_components = components; are_waves = waves };
+  components = refl;
+}
+
+-- what is to be merged are modules
+pub merged_low : (s : Sources) (touched all : List ℕ) → AreExactly (IsToMerge s touched) all → All (λ x. x < length s.root.modules) all
+merged_low s touched all exactly = has_all (λ (x : ℕ). x < length s.root.modules) all (λ x has. let is = exactly.sound x has in low_path s x is.path is.at_path)
+
+-- where touched numbers are those of modules
+pub are_to_merge : (s : Sources) (edges : List (List ℕ)) (touched all : List ℕ) → AreSources s → AreImports (view_in s) (paths_in s) edges → All (λ t. t < length s.root.modules) touched
+    → AreExactly (LeadsToTouched edges touched) all → AreExactly (IsToMerge s touched) all
+are_to_merge s edges touched all sources are low exactly =
+    to_merge s edges touched all sources are
+    (λ t has. let small = all_has (λ (x : ℕ). x < length s.root.modules) touched low t has in (_, place_at (paths_in s) t [] (let many = as_many s in omega arith))) exactly
+
+-- ---- nothing
+
+nothing_among : (view : View) (paths : List Bytes) → AreImports view (paths_at paths []) []
+nothing_among view paths = record {
+  len = refl;
+  sound = λ x y edge. none_some edge.0 edge.1;
+  complete = λ x y import. none_some import.path import.at_path;
+}
+
+no_components : AreComponents [] []
+no_components = record {
+  each = λ k members at. none_some members at;
+  order = λ k j x y less a b. none_some a.0 a.1;
+  whole = λ x low. absurd (omega arith);
+  within = λ k x stands. none_some stands.0 stands.1;
+  together = λ k x y a b. none_some a.0 a.1;
+  apart = λ k j x y a b mutual. none_some a.0 a.1;
+}
+
+no_waves : AreWaves [] [] []
+no_waves = record {
+  each = λ w ks at. none_some ks at;
+  whole = λ k low. absurd (omega arith);
+  within = λ w k stands. none_some stands.0 stands.1;
+  once = λ w v k a b. none_some a.0 a.1;
+  later = λ k j w v depends a b. none_some a.0 a.1;
+  tight = λ k w stands. none_some stands.0 stands.1;
+}
+
+no_edges : (s : Sources) → AreEdgesOf s [] []
+no_edges s = record {
+  len = refl;
+  sound = λ i x y at edge. none_some x at;
+  complete = λ i x y at import. none_some x at;
+}
+
+nothing_exactly : (s : Sources) → AreExactly (IsToMerge s []) []
+nothing_exactly s = record { rising = rising_none; sound = λ x has. absurd (has_none x has); complete = λ x is. absurd (has_none is.number is.is_touched) }
+
+pub nothing : (s : Sources) (p : MergePlan) → p.merged ≡ [] → p.edges.items ≡ [] → p.components ≡ [] → p.waves ≡ [] → IsPlanOf s [] p
+nothing s p merged edges components waves =
+    let own : AreEdgesOf s p.merged p.edges.items = subst (λ (l : List ℕ). AreEdgesOf s l p.edges.items) (sym merged) (subst (AreEdgesOf s []) (sym edges) (no_edges s)) in
+    let among : AreImports (view_in s) (paths_at (paths_in s) p.merged) [] = subst (λ (l : List ℕ). AreImports (view_in s) (paths_at (paths_in s) l) []) (sym merged) (nothing_among (view_in s) (paths_in s)) in
+    let grouped : AreComponents [] p.components = subst (AreComponents []) (sym components) no_components in
+    let waved : AreWaves [] p.components p.waves = subst (λ (l : List (List ℕ)). AreWaves [] l p.waves) (sym components) (subst (AreWaves [] []) (sym waves) no_waves) in
+    let low : All (λ x. x < length s.root.modules) p.merged = has_all (λ (x : ℕ). x < length s.root.modules) p.merged (λ x has. absurd (has_none x (subst (λ (l : List ℕ). Has l x) merged has))) in
+    record {
+      merged = subst (AreExactly (IsToMerge s [])) (sym merged) (nothing_exactly s);
+      plan = is_plan s p [] (subst IsRising (sym merged) rising_none) low own among grouped waved;
+    }
