@@ -20,7 +20,7 @@ use Rattle.recheck_merging.specs.Merging.{IsMember, AreMergedTo, AreMergedIn, Is
 use Rattle.recheck_merging.specs.declared.planning.MergePlan.{MergePlan}
 use Rattle.recheck_merging.proofs.Among.{path_at_place}
 use Rattle.recheck_merging.proofs.Imported.{low_path}
-use Rattle.recheck_merging.proofs.Mapped.{get_mapped, mapped_from, length_mapped, has_all}
+use Rattle.recheck_merging.proofs.Mapped.{get_mapped, mapped_from, length_mapped, all_has, has_all}
 
 -- ---- the components and waves of a plan
 
@@ -109,7 +109,7 @@ group_edges s p plan k places at = record {
 pub ready_now : (s : Sources) (p : MergePlan) (wave n k : ℕ) (ks places : List ℕ) (made : List (Option Sig)) → AreSources s → IsPlan s p → slice_get p.waves wave ≡ Some ks → slice_get ks n ≡ Some k → slice_get p.components k ≡ Some places
     → AreMergedTo s p wave made → IsReady s (numbers_at p.merged places) (edges_at p.edges.items places) made
 ready_now s p wave n k ks places made sources plan at_wave at_k at_places merged = record {
-  within = λ x named. let it = place_of x named in plan.within x (it.0, it.2);
+  within = λ x named. let it = place_of x named in all_has (λ (y : ℕ). y < length s.root.modules) p.merged plan.within x (it.0, it.2);
   edges_are = group_edges s p plan k places at_places;
   before = λ x y named import apart. go x y named import apart (names p.merged y) refl;
 }

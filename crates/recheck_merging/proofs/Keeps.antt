@@ -42,7 +42,7 @@ edge_place s sources path other step =
     let y = imported s sources z.0 h step.1 other (ap (λ (k : Known). found k.deps step.1) known ∙ step.3) in
     (y.0, y.2)
 
-imports_place : (s : Sources) → AreSources s → (path other : Bytes) → Imports (view_in s) path other → (x : ℕ) → slice_get (paths_in s) x ≡ Some path → (y : ℕ) × (slice_get (paths_in s) y ≡ Some other)
+pub imports_place : (s : Sources) → AreSources s → (path other : Bytes) → Imports (view_in s) path other → (x : ℕ) → slice_get (paths_in s) x ≡ Some path → (y : ℕ) × (slice_get (paths_in s) y ≡ Some other)
 imports_place s sources path _ itself x at = (x, at)
 imports_place s sources path _ (further r other leads step) x at = edge_place s sources r other step
 

@@ -13,4 +13,5 @@ pub mod Outside
 pub mod Places
 pub mod Plans
 pub mod Puts
+pub mod Tells
 pub mod Whole

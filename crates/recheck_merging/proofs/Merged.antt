@@ -2,7 +2,7 @@
 use Rattle.std.proofs.Common.{◌≡◌, ℕ, List, length, sym, ap, ◌∙◌, subst, Option}
 use Rattle.check_values.specs.declared.signatures.Sig.{Sig}
 use Rattle.job_ends.specs.Jobs.{job_view}
-use Rattle.job_ends.specs.declared.jobs.MergeJob.{MergeJob}
+use Rattle.job_ends.specs.declared.job.MergeJob.{MergeJob}
 use Rattle.merged_signatures.specs.Job.{job_signatures}
 use Rattle.merged_signatures.specs.Settled.{AJobTellsTheProgram}
 use Rattle.check_phases.specs.Sourced.{AreSources}

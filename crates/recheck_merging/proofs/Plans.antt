@@ -24,7 +24,7 @@ pub is_plan : (s : Sources) (p : MergePlan) (inner : List (List ℕ)) → IsRisi
     → AreImports (view_in s) (paths_at (paths_in s) p.merged) inner → AreComponents inner p.components → AreWaves inner p.components p.waves → IsPlan s p
 is_plan s p inner rising low edges are components waves = record {
   rising = rising;
-  within = λ x has. all_has (λ (y : ℕ). y < length s.root.modules) p.merged low x has;
+  within = low;
   edges = edges;
   waves = record { edges = inner; components = p.components; are_imports = are; are_components = components; are_waves = waves };
   components = refl;

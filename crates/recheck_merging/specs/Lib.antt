@@ -4,3 +4,4 @@ pub mod Plans
 pub mod Merging
 pub mod Clearing
 pub mod Keeping
+pub mod Affected

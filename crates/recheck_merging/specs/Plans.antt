@@ -1,5 +1,5 @@
 -- Which modules are merged anew, and in which order.
-use Rattle.std.specs.Prelude.{◌≡◌, ◌<◌, ℕ, List, [], map, length, get_or, slice_get, sum_by, Option, Some}
+use Rattle.std.specs.Prelude.{◌≡◌, ◌<◌, ℕ, List, [], All, map, length, get_or, slice_get, sum_by, Option, Some}
 use Rattle.flow_base.specs.Program.{Bytes}
 use Rattle.graph_search.specs.Cycles.{Has, Edge}
 use Rattle.graph_search.specs.Reach.{IsRising}
@@ -31,7 +31,7 @@ pub record AreEdgesOf (s : Sources) (numbers : List ℕ) (edges : List (List ℕ
 -- these. The members of a component are places among the modules of the plan.
 pub record IsPlan (s : Sources) (p : MergePlan) : Type 0 where
   pub rising : IsRising p.merged
-  pub within : (x : ℕ) → Has p.merged x → x < length s.root.modules
+  pub within : All (λ x. x < length s.root.modules) p.merged
   pub edges : AreEdgesOf s p.merged p.edges.items
   pub waves : AreWavesAmong (view_in s) (paths_at (paths_in s) p.merged) p.waves
   pub components : waves.components ≡ p.components

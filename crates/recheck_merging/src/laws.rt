@@ -1,4 +1,5 @@
 //! The laws of plans and slots, as the contracts of calls that do nothing.
+ghost use Rattle.recheck_merging.specs.Affected.{PlansAreOfMerged};
 ghost use Rattle.recheck_merging.specs.Plans.{MembersAddUp};
 ghost use Rattle.recheck_merging.specs.Merging.{WavesMakeAll};
 ghost use Rattle.recheck_merging.specs.Keeping.{KeptAreRight};
@@ -18,4 +19,9 @@ pub fn kept_are_right()
 /// Behind the last wave all signatures are made, and are those of the program.
 pub fn waves_make_all()
     ensures { WavesMakeAll }
+{}
+
+/// The plan of the modules of which what merging sees differs is that of the paths whose signatures an edit may change.
+pub fn plans_are_of_merged()
+    ensures { PlansAreOfMerged }
 {}

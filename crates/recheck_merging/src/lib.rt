@@ -10,6 +10,6 @@ mod work;
 
 pub use importing::edges_of;
 pub use keeping::{Slots, kept_signatures, whole_signatures};
-pub use laws::{kept_are_right, members_add_up, waves_make_all};
+pub use laws::{kept_are_right, members_add_up, plans_are_of_merged, waves_make_all};
 pub use merging::merge_wave;
 pub use planning::{MergePlan, nothing_to_merge, plan_of};

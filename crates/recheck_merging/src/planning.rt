@@ -77,22 +77,36 @@ fn edges_at(
 {
     let mut lists = Vec::new(alloc);
     for i in 0..numbers.len() {
-        let list = edges[numbers[i] as usize].clone()?;
+        let list = List::from_slice(alloc, edges[numbers[i] as usize].as_slice())?;
         lists.push(list)?;
     }
     Ok(lists)
 }
 
+// Puts the place of a number behind others, if it has one.
+fn add_place(places: &[Option<u32>], x: usize, list: &mut List<u32>) -> Result<(), NoMemory>
+    requires { x < length places.now }
+    ensures { OnOk result (list.new ≡ list.old ++ option_to_list (get_or places.now x None)) }
+{
+    match places[x] {
+        Some(place) => list.push(place),
+        None => Ok(()),
+    }
+}
+
 // The places of some numbers, where they have one.
-fn placed(alloc: Global, places: &[Option<u32>], numbers: &[u32]) -> Result<List<u32>, NoMemory>
+#[tactic(auto, using(crate::proofs::Places::placed_more))]
+fn places_among(
+    alloc: Global,
+    places: &[Option<u32>],
+    numbers: &[u32],
+) -> Result<List<u32>, NoMemory>
     requires within { All (λ x. x < length places.now) numbers.now }
     ensures { IfOk result (λ list. list ≡ placed places.now numbers.now) }
 {
     let mut list = List::new(alloc);
     for i in 0..numbers.len() {
-        if let Some(place) = places[numbers[i] as usize] {
-            list.push(place)?;
-        }
+        add_place(places, numbers[i] as usize, &mut list)?;
     }
     Ok(list)
 }
@@ -108,7 +122,7 @@ fn placed_edges(
 {
     let mut inner = Vec::new(alloc);
     for i in 0..edges.len() {
-        let list = placed(alloc, places, edges[i].as_slice())?;
+        let list = places_among(alloc, places, edges[i].as_slice())?;
         inner.push(list)?;
     }
     Ok(inner)
