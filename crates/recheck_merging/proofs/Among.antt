@@ -1,6 +1,7 @@
 -- The import edges among some modules.
 use Rattle.std.proofs.Common.{◌≡◌, ℕ, ◌<◌, ◌^◌, List, [], All, map, length, get_or, slice_get, Option, Some, refl, sym, ap, ◌∙◌, subst, arith}
 use Rattle.std.proofs.lemmas.List.Elements.{All-from_get_or}
+use Rattle.check_values.specs.declared.root.RootRow.{RootRow}
 use Rattle.flow_base.specs.Program.{Bytes}
 use Rattle.heap_core.proofs.Lists.{get_there}
 use Rattle.graph_search.specs.Cycles.{Has, Edge, AreWithin}
@@ -15,7 +16,7 @@ use Rattle.check_phases.proofs.Lists.{one_value, within_there, value_at, place_a
 use Rattle.recheck_merging.specs.Inner.{ArePlacesTo, placed, lists_of}
 use Rattle.recheck_merging.specs.Plans.{AreEdgesOf}
 use Rattle.recheck_merging.proofs.Imported.{as_many, low_path}
-use Rattle.recheck_merging.proofs.Mapped.{get_mapped, mapped_from, length_mapped, all_has, has_all}
+use Rattle.recheck_merging.proofs.Mapped.{get_mapped, mapped_from, length_mapped, all_has, has_all, rising_few_of}
 use Rattle.recheck_merging.proofs.Places.{has_placed, placed_has}
 
 -- all edges lead to places of paths
@@ -106,3 +107,42 @@ imports_among s numbers edges places inner low are places_are is = subst (λ (l 
         let y = path_of_place s numbers j import.other low import.at_other in
         let edge = are.complete i x.0 y.0 x.1 (record { path = import.path; other = import.other; at_path = x.2; at_other = y.2; edge = import.edge }) in
         (placed places edge.0, get_mapped (placed places) edges i edge.0 edge.1, placed_has places edge.0 y.0 j edge.2 (places_are.complete y.0 j (within_there numbers j y.0 y.1) y.1))
+
+-- ---- as the code has them
+
+pub few_imports : (s : Sources) (edges : List (List ℕ)) → AreImports (view_in s) (paths_in s) edges → length s.root.modules < 2 ^ 32 → length edges < 2 ^ 32
+few_imports s edges are few = let many = many_imports (view_in s) s edges are in omega arith
+
+pub few_numbers : (s : Sources) (numbers : List ℕ) → IsRising numbers → All (λ x. x < length s.root.modules) numbers → length s.root.modules < 2 ^ 32 → length numbers < 2 ^ 32
+few_numbers s numbers rising low few = rising_few_of numbers (length s.root.modules) rising low few
+
+-- the numbers of modules have edges
+pub low_numbers : (s : Sources) (edges : List (List ℕ)) (merged numbers : List ℕ) → AreImports (view_in s) (paths_in s) edges → numbers ≡ merged → All (λ x. x < length s.root.modules) merged → All (λ x. x < length edges) numbers
+low_numbers s edges merged numbers are is low =
+    subst (λ (n : ℕ). All (λ x. x < n) numbers) (sym (many_imports (view_in s) s edges are)) (subst (All (λ x. x < length s.root.modules)) (sym is) low)
+
+-- what the edges lead to has a slot
+pub low_slots : (s : Sources) (numbers : List ℕ) (edges : List (List ℕ)) (rows : List RootRow) (places slots : List (Option ℕ)) → AreEdgesOf s numbers edges → rows ≡ s.root.modules → length places ≡ length rows → slots ≡ places
+    → All (λ ys. All (λ y. y < length slots) ys) edges
+low_slots s numbers edges rows places slots are same many is = all_low s numbers edges (length slots) are (ap length is ∙ (many ∙ ap length same))
+
+pub among_by : (s : Sources) (numbers : List ℕ) (edges : List (List ℕ)) (places slots : List (Option ℕ)) (inner : List (List ℕ)) → All (λ x. x < length s.root.modules) numbers → AreEdgesOf s numbers edges
+    → ArePlacesTo numbers (length numbers) places → slots ≡ places → inner ≡ map (placed slots) edges → AreImports (view_in s) (paths_at (paths_in s) numbers) inner
+among_by s numbers edges places slots inner low are places_are is made = imports_among s numbers edges places inner low are places_are (made ∙ ap (λ (l : List (Option ℕ)). map (placed l) edges) is)
+
+pub own_edges : (s : Sources) (all : List (List ℕ)) (merged numbers : List ℕ) (own lists : List (List ℕ)) → AreImports (view_in s) (paths_in s) all → All (λ x. x < length s.root.modules) merged → numbers ≡ merged → own ≡ lists_of all numbers
+    → lists ≡ own → AreEdgesOf s numbers lists
+own_edges s all merged numbers own lists are low same is view = edges_of_numbers s all numbers lists are (subst (All (λ x. x < length s.root.modules)) (sym same) low) (view ∙ is)
+
+pub few_among : (s : Sources) (merged numbers : List ℕ) (inner among : List (List ℕ)) → AreImports (view_in s) (paths_at (paths_in s) numbers) inner → among ≡ inner → numbers ≡ merged → IsRising merged → All (λ x. x < length s.root.modules) merged
+    → length s.root.modules < 2 ^ 32 → length among < 2 ^ 32
+few_among s merged numbers inner among are is same rising low few =
+    let less = few_numbers s merged rising low few in
+    let sizes = ap length is in
+    let many = are.len in
+    let places = length_mapped (λ (y : ℕ). get_or (paths_in s) y []) numbers in
+    let numbered = ap length same in
+    omega arith
+
+pub within_among : (s : Sources) (numbers : List ℕ) (inner among : List (List ℕ)) → AreImports (view_in s) (paths_at (paths_in s) numbers) inner → among ≡ inner → AreWithin among
+within_among s numbers inner among are is = subst AreWithin (sym is) (within_imports (view_in s) (paths_at (paths_in s) numbers) inner are)

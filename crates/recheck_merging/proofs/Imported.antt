@@ -4,6 +4,8 @@ use Rattle.std.specs.List.{AllZip}
 use Rattle.std.specs.Cmp.Lexicographic.{bytes_decides}
 use Rattle.flow_base.specs.Program.{Bytes, IsRising, paths_of}
 use Rattle.heap_core.proofs.Lists.{get_index, get_there}
+use Rattle.check_values.specs.Roots as roots
+use Rattle.check_values.specs.declared.root.Root.{Root}
 use Rattle.check_values.specs.declared.root.RootRow.{RootRow}
 use Rattle.check_values.specs.declared.signatures.DepRow.{DepRow}
 use Rattle.check_values.specs.declared.signatures.Deps.{Deps}
@@ -13,16 +15,15 @@ use Rattle.module_resolution.specs.Resolution.{resolved}
 use Rattle.module_resolution.specs.Dependencies.{specifiers, dependencies_of}
 use Rattle.merged_signatures.specs.Chains.{Known, found, found_in}
 use Rattle.graph_search.specs.Cycles.{Has, Edge}
-use Rattle.graph_search.proofs.Lists.{take_whole}
 use Rattle.program_check.specs.Full.{module_in, deps_in}
 use Rattle.affected_sizes.specs.Polls.{IsImport, AreImports}
-use Rattle.check_phases.specs.Phases.{lists_in}
+use Rattle.check_phases.specs.Phases.{lists_in, knowns}
 use Rattle.check_phases.specs.Sourced.{program_in, paths_in, view_in, AreSources}
 use Rattle.check_phases.specs.Merging.{known_rows}
 use Rattle.check_phases.specs.declared.merging.Sources.{Sources}
 use Rattle.check_phases.proofs.Edges.{length_paths}
 use Rattle.check_phases.proofs.Jobs.{beside_at, zip_at}
-use Rattle.check_phases.proofs.Lists.{one_value, within_there, value_at, same_paths, zip_more, zip_length}
+use Rattle.check_phases.proofs.Lists.{one_value, within_there, value_at, same_paths, zip_more, zip_whole, zip_length}
 use Rattle.check_phases.proofs.Merges.{many_parses, many_lists, path_get, known_member}
 use Rattle.recheck_merging.specs.Rows.{IsFoundBy, FollowRows, FollowList, FollowLists}
 
@@ -80,6 +81,9 @@ pub record IsHere (s : Sources) (x : ℕ) : Type 0 where
   pub at_known : slice_get (known_rows s) x ≡ Some (row.path, record { sig = parse.sig; deps = deps })
   pub seen : view_in s row.path ≡ Some (record { sig = parse.sig; deps = deps })
 
+abbrev pub known_here : (s : Sources) (x : ℕ) → IsHere s x → Known
+known_here s x h = record { sig = h.parse.sig; deps = h.deps }
+
 list_here : (paths : List Bytes) (ms : List RootRow) (parses : List Parse) (x : ℕ) (m : RootRow) (p : Parse) → slice_get ms x ≡ Some m → slice_get parses x ≡ Some p
     → slice_get (lists_in paths (map (λ (r : RootRow). (r.path, r.text)) ms) parses) x ≡ Some (deps_in paths m.path p)
 list_here paths [] parses x m p at_m at_p = absurd (let z : None ≡ Some m = at_m in cc)
@@ -97,7 +101,8 @@ here s sources x low =
     let m = get_there s.root.modules x low in
     let p = get_there s.parses.items x (omega arith) in
     let d = get_there s.lists.items x (omega arith) in
-    let known = known_member s s.root.modules x m.0 p.0 d.0 m.0.path p.0.sig d.0 refl low (value_at s.root.modules x m.0 m.0 m.1) (omega arith) (value_at s.parses.items x p.0 p.0 p.1) (omega arith)
+    let k : Known = record { sig = p.0.sig; deps = d.0 } in
+    let known : slice_get (known_rows s) x ≡ Some (m.0.path, k) = known_member s s.root.modules x m.0 p.0 d.0 m.0.path p.0.sig d.0 refl low (value_at s.root.modules x m.0 m.0 m.1) (omega arith) (value_at s.parses.items x p.0 p.0 p.1) (omega arith)
     (value_at s.lists.items x d.0 d.0 d.1) refl refl refl in
     record {
       row = m.0;
@@ -109,7 +114,7 @@ here s sources x low =
       at_path = path_get s.root.modules x m.0 m.1;
       is_list = one_value d.0 (deps_in (paths_in s) m.0.path p.0) (sym d.1 ∙ (ap (λ (ls : List Deps). slice_get ls x) sources.listed ∙ list_here (paths_in s) s.root.modules s.parses.items x m.0 p.0 m.1 p.1));
       at_known = known;
-      seen = beside_at (program_in s) _ x (m.0.path, record { sig = p.0.sig; deps = d.0 }) (rising_program s sources) known;
+      seen = beside_at (program_in s) (knowns s.parses.items s.lists.items) x (m.0.path, k) (rising_program s sources) known;
     }
 
 -- there are as many paths as modules
@@ -122,10 +127,13 @@ low_path s x path at = let low = within_there (paths_in s) x path at in let many
 
 -- ---- all lists
 
-pub one_more : (paths : List Bytes) (lists : List Deps) (i : ℕ) (deps : Deps) (ys : List ℕ) (old new : List (List ℕ)) → i < length lists → deps ≡ get_or lists i deps → FollowLists paths (take i lists) old
+pub more_lists : (paths : List Bytes) (lists : List Deps) (i : ℕ) (deps : Deps) (ys : List ℕ) (old new : List (List ℕ)) → i < length lists → deps ≡ get_or lists i deps → FollowLists paths (take i lists) old
     → FollowRows paths deps.rows (length deps.rows) ys → new ≡ old ++ ys ∷ [] → FollowLists paths (take (i + 1) lists) new
-one_more paths lists i deps ys old new low is so_far follow pushed =
+more_lists paths lists i deps ys old new low is so_far follow pushed =
     subst (λ (l : List (List ℕ)). FollowLists paths (take (i + 1) lists) l) (sym pushed) (zip_more (FollowList paths) lists old i deps ys so_far (get_index lists i deps low is) follow)
+
+pub whole_lists : (paths : List Bytes) (lists : List Deps) (edges : List (List ℕ)) → FollowLists paths (take (length lists) lists) edges → FollowLists paths lists edges
+whole_lists paths lists edges all = zip_whole (FollowList paths) lists edges all
 
 module _ (s : Sources) (sources : AreSources s) (edges : List (List ℕ)) (follow : FollowLists (paths_in s) s.lists.items edges) where
   edges_here : (x : ℕ) (h : IsHere s x) → (ys : List ℕ) × (slice_get edges x ≡ Some ys) × FollowList (paths_in s) h.deps ys
@@ -148,7 +156,7 @@ module _ (s : Sources) (sources : AreSources s) (edges : List (List ℕ)) (follo
         other = by.4.0;
         at_path = h.at_path;
         at_other = by.4.2;
-        edge = (record { sig = h.parse.sig; deps = h.deps }, by.1.spec, h.seen, tells ∙ by.4.1);
+        edge = (known_here s x h, by.1.spec, h.seen, tells ∙ by.4.1);
       }
 
   complete : (x y : ℕ) → IsImport (view_in s) (paths_in s) x y → Edge edges x y
@@ -156,7 +164,7 @@ module _ (s : Sources) (sources : AreSources s) (edges : List (List ℕ)) (follo
       let h = here s sources x (low_path s x i.path i.at_path) in
       let e = edges_here x h in
       let path : h.row.path ≡ i.path = one_value h.row.path i.path (sym h.at_path ∙ i.at_path) in
-      let known : record { sig = h.parse.sig; deps = h.deps } ≡ i.edge.0 = one_value (record { sig = h.parse.sig; deps = h.deps }) i.edge.0 (sym h.seen ∙ (ap (view_in s) path ∙ i.edge.2)) in
+      let known : known_here s x h ≡ i.edge.0 = one_value (known_here s x h) i.edge.0 (sym h.seen ∙ (ap (view_in s) path ∙ i.edge.2)) in
       let finds : found h.deps i.edge.1 ≡ Some i.other = ap (λ (k : Known). found k.deps i.edge.1) known ∙ i.edge.3 in
       let row = found_row h.deps.rows i.edge.1 i.other finds in
       (e.0, e.1, e.2.complete y (row.0, row.1, within_there h.deps.rows row.0 row.1 row.2, row.2, (i.other, row.3, i.at_other)))
@@ -164,6 +172,6 @@ module _ (s : Sources) (sources : AreSources s) (edges : List (List ℕ)) (follo
   imports : AreImports (view_in s) (paths_in s) edges
   imports = record { len = many_edges ∙ sym (as_many s); sound = sound; complete = complete }
 
-pub are_imports : (s : Sources) (lists : List Deps) (i : ℕ) (edges : List (List ℕ)) → AreSources s → lists ≡ s.lists.items → length lists ≤ i → FollowLists (paths_in s) (take i lists) edges → AreImports (view_in s) (paths_in s) edges
-are_imports s lists i edges sources same all follow =
-    imports s sources edges (subst (λ (ls : List Deps). FollowLists (paths_in s) ls edges) same (subst (λ (ls : List Deps). FollowLists (paths_in s) ls edges) (take_whole lists i all) follow))
+pub are_imports : (s : Sources) (root : Root) (lists : List Deps) (edges : List (List ℕ)) → AreSources s → root ≡ s.root → lists ≡ s.lists.items → FollowLists (roots.paths_of root) lists edges → AreImports (view_in s) (paths_in s) edges
+are_imports s root lists edges sources same_root same_lists follow =
+    imports s sources edges (subst (λ (r : Root). FollowLists (roots.paths_of r) s.lists.items edges) same_root (subst (λ (ls : List Deps). FollowLists (roots.paths_of root) ls edges) same_lists follow))

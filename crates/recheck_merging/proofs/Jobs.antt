@@ -23,7 +23,7 @@ use Rattle.check_phases.proofs.Jobs.{beside_at}
 use Rattle.check_phases.proofs.Lists.{one_value}
 use Rattle.check_phases.proofs.Waves.{named_has, has_named}
 use Rattle.recheck_merging.specs.Merging.{job_by, IsReady}
-use Rattle.recheck_merging.proofs.Imported.{IsHere, here, rising_program, low_path}
+use Rattle.recheck_merging.proofs.Imported.{IsHere, known_here, here, rising_program, low_path}
 
 -- ---- rows
 
@@ -83,7 +83,7 @@ imported s sources x h spec other finds =
     let among = found_is_among (paths_in s) h.row.path (module_in h.parse.tree) spec other (ap (λ (d : Deps). found d spec) (sym h.is_list) ∙ finds) in
     let place = place_among (paths_in s) other among in (
       place.0,
-      record { path = h.row.path; other = other; at_path = h.at_path; at_other = place.1; edge = (record { sig = h.parse.sig; deps = h.deps }, spec, h.seen, finds) },
+      record { path = h.row.path; other = other; at_path = h.at_path; at_other = place.1; edge = (known_here s x h, spec, h.seen, finds) },
       place.1,
     )
 
@@ -138,7 +138,7 @@ module _ (s : Sources) (made : List (Option Sig)) (group : List ℕ) (edges : Li
       let has = named_has group y named in
       some_at (member_at s) group has.0 y other has.1
       (subst (λ (o : Option (Bytes × Known)). IsSome (row_at (option_to_list o) other)) (sym h.at_known)
-      (subst (λ (p : Bytes). IsSome (row_at ((p, record { sig = h.parse.sig; deps = h.deps }) ∷ []) other)) (sym same) (one_row other (record { sig = h.parse.sig; deps = h.deps }))))
+      (subst (λ (p : Bytes). IsSome (row_at ((p, known_here s y h) ∷ []) other)) (sym same) (one_row other (known_here s y h))))
 
   -- a module whose signature is made
   beyond : (y : ℕ) (other : Bytes) → IsMade made y → slice_get (paths_in s) y ≡ Some other → IsSome (row_at (made_at s made y) other)
@@ -152,7 +152,7 @@ module _ (s : Sources) (made : List (Option Sig)) (group : List ℕ) (edges : Li
       let x = it.1 in
       let named = has_named group x (it.0, it.2) in
       let h = here s sources x (ready.within x named) in
-      let known : (h.row.path, record { sig = h.parse.sig; deps = h.deps }) ≡ (path, m) = one_value (h.row.path, record { sig = h.parse.sig; deps = h.deps }) (path, m) (sym h.at_known ∙ it.3) in
+      let known : (h.row.path, known_here s x h) ≡ (path, m) = one_value (h.row.path, known_here s x h) (path, m) (sym h.at_known ∙ it.3) in
       let y = imported s sources x h spec other (ap (λ (row : Bytes × Known). found row.1.deps spec) known ∙ finds) in
       let edge = ready.edges_are.complete it.0 x y.0 it.2 y.1 in
       go y.0 (names group y.0) refl x named y.1 y.2 edge.2.0 it.0 edge.0 edge.1 edge.2.1

@@ -24,7 +24,7 @@ use Rattle.recheck_merging.specs.Plans.{IsToMerge, IsPlanOf}
 use Rattle.recheck_merging.specs.Merging.{AreMergedTo}
 use Rattle.recheck_merging.specs.Keeping.{kept_in, AreKept, ComeFrom, AreTouched, KeptAreRight}
 use Rattle.recheck_merging.specs.declared.planning.MergePlan.{MergePlan}
-use Rattle.recheck_merging.proofs.Imported.{IsHere, here, low_path, as_many}
+use Rattle.recheck_merging.proofs.Imported.{known_here, here, low_path}
 use Rattle.recheck_merging.proofs.Jobs.{imported}
 use Rattle.recheck_merging.proofs.Leads.{seen_place, touched_merges}
 
@@ -38,7 +38,7 @@ edge_place s sources path other step =
     let z = seen_place s path step.0 step.2 in
     let h = here s sources z.0 (low_path s z.0 path z.1) in
     let same : h.row.path ≡ path = one_value h.row.path path (sym h.at_path ∙ z.1) in
-    let known : record { sig = h.parse.sig; deps = h.deps } ≡ step.0 = one_value (record { sig = h.parse.sig; deps = h.deps }) step.0 (sym h.seen ∙ (ap (view_in s) same ∙ step.2)) in
+    let known : known_here s z.0 h ≡ step.0 = one_value (known_here s z.0 h) step.0 (sym h.seen ∙ (ap (view_in s) same ∙ step.2)) in
     let y = imported s sources z.0 h step.1 other (ap (λ (k : Known). found k.deps step.1) known ∙ step.3) in
     (y.0, y.2)
 
@@ -88,7 +88,8 @@ module _ (local : IsLocal) (was : Made) (s : Sources) (from : List (Option ℕ))
       let old_path : h_old.row.path ≡ other = one_value h_old.row.path other (sym h_old.at_path ∙ (comes.1 ∙ (sym comes.2 ∙ at))) in
       let sig : h.parse.sig ≡ h_old.parse.sig = same_by local_type.the_row.coded h.parse.sig h_old.parse.sig (λ differs. outside (merges y low (are_touched.signed y o.0 h_old.parse h.parse o.1 h_old.at_parse h.at_parse differs))) in
       let deps : h.deps ≡ h_old.deps = same_deps h.deps h_old.deps (λ differs. outside (merges y low (are_touched.listed y o.0 h_old.deps h.deps o.1 h_old.at_deps h.at_deps differs))) in
-      ap (view_in s) (sym new_path) ∙ (h.seen ∙ ((λ i. Some (record { sig = sig i; deps = deps i })) ∙ (sym h_old.seen ∙ ap (view_in was.sources) old_path)))
+      let same : known_here s y h ≡ known_here was.sources o.0 h_old = (λ i. record { sig = sig i; deps = deps i }) in
+      ap (view_in s) (sym new_path) ∙ (h.seen ∙ (ap Some same ∙ (sym h_old.seen ∙ ap (view_in was.sources) old_path)))
 
   keeps_imports : (x : ℕ) (path : Bytes) → slice_get (paths_in s) x ≡ Some path → ¬ (Has p.merged x) → (other : Bytes) → Imports (view_in s) path other → view_in s other ≡ view_in was.sources other
   keeps_imports x path at outside other leads =

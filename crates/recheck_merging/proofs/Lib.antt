@@ -7,6 +7,7 @@ pub mod Imported
 pub mod Jobs
 pub mod Keeps
 pub mod Leads
+pub mod Loops
 pub mod Mapped
 pub mod Merged
 pub mod Outside

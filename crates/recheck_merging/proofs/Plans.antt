@@ -14,8 +14,10 @@ use Rattle.recheck_plan.specs.Affected.{AreExactly, LeadsToTouched}
 use Rattle.check_phases.specs.Sourced.{paths_in, view_in, AreSources}
 use Rattle.check_phases.specs.declared.merging.Sources.{Sources}
 use Rattle.check_phases.proofs.Lists.{place_at}
+use Rattle.recheck_merging.specs.Inner.{lists_of}
 use Rattle.recheck_merging.specs.Plans.{IsToMerge, AreEdgesOf, IsPlan, IsPlanOf}
 use Rattle.recheck_merging.specs.declared.planning.MergePlan.{MergePlan}
+use Rattle.recheck_merging.proofs.Among.{many_imports, edges_of_numbers}
 use Rattle.recheck_merging.proofs.Imported.{as_many, low_path}
 use Rattle.recheck_merging.proofs.Mapped.{all_has, has_all}
 use Rattle.recheck_merging.proofs.Leads.{to_merge}
@@ -40,6 +42,31 @@ pub are_to_merge : (s : Sources) (edges : List (List ℕ)) (touched all : List �
 are_to_merge s edges touched all sources are low exactly =
     to_merge s edges touched all sources are
     (λ t has. let small = all_has (λ (x : ℕ). x < length s.root.modules) touched low t has in (_, place_at (paths_in s) t [] (let many = as_many s in omega arith))) exactly
+
+-- ---- as the code has them
+
+pub touched_low : (s : Sources) (edges : List (List ℕ)) (touched : List ℕ) → AreImports (view_in s) (paths_in s) edges → All (λ t. t < length s.root.modules) touched → All (λ t. t < length edges) touched
+touched_low s edges touched are low = subst (λ (n : ℕ). All (λ t. t < n) touched) (sym (many_imports (view_in s) s edges are)) low
+
+pub merge_rising : (edges : List (List ℕ)) (touched all : List ℕ) → AreExactly (LeadsToTouched edges touched) all → IsRising all
+merge_rising edges touched all exactly = exactly.rising
+
+pub merge_low : (s : Sources) (edges : List (List ℕ)) (touched all : List ℕ) → AreSources s → AreImports (view_in s) (paths_in s) edges → All (λ t. t < length s.root.modules) touched → AreExactly (LeadsToTouched edges touched) all
+    → All (λ x. x < length s.root.modules) all
+merge_low s edges touched all sources are low exactly = merged_low s touched all (are_to_merge s edges touched all sources are low exactly)
+
+pub plan_of_touched : (s : Sources) (edges : List (List ℕ)) (touched all : List ℕ) (p : MergePlan) → AreSources s → AreImports (view_in s) (paths_in s) edges → All (λ t. t < length s.root.modules) touched
+    → AreExactly (LeadsToTouched edges touched) all → IsPlan s p → p.merged ≡ all → IsPlanOf s touched p
+plan_of_touched s edges touched all p sources are low exactly plan is = record {
+  merged = subst (AreExactly (IsToMerge s touched)) (sym is) (are_to_merge s edges touched all sources are low exactly);
+  plan = plan;
+}
+
+pub plan_by : (s : Sources) (all : List (List ℕ)) (numbers : List ℕ) (p : MergePlan) (inner among : List (List ℕ)) → AreImports (view_in s) (paths_in s) all → IsRising p.merged → All (λ x. x < length s.root.modules) p.merged
+    → numbers ≡ p.merged → p.edges.items ≡ lists_of all numbers → AreImports (view_in s) (paths_at (paths_in s) numbers) inner → among ≡ inner → AreComponents among p.components → AreWaves among p.components p.waves → IsPlan s p
+plan_by s all numbers p inner among are rising low same own imports is components waves =
+    is_plan s p inner rising low (edges_of_numbers s all p.merged p.edges.items are low (own ∙ ap (lists_of all) same)) (subst (λ (l : List ℕ). AreImports (view_in s) (paths_at (paths_in s) l) inner) same imports)
+    (subst (λ (es : List (List ℕ)). AreComponents es p.components) is components) (subst (λ (es : List (List ℕ)). AreWaves es p.components p.waves) is waves)
 
 -- ---- nothing
 

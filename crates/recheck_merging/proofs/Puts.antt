@@ -52,8 +52,8 @@ module _ (s : Sources) where
   set_right made x sig is each y path mine at there = dite (ℕ_discrete y x)
       (λ (same : y ≡ x).
       let low : x < length made = (let l = length-set made x (Some sig) in let b = within_there (set made x (Some sig)) y (Some mine) there in omega arith) in
-      let here : Some (Some sig) ≡ Some (Some mine) = sym (put_here made x (Some sig) low) ∙ (ap (slice_get (set made x (Some sig))) (sym same) ∙ there) in
-      let eq : sig ≡ mine = one_value sig mine (one_value (Some sig) (Some mine) here) in
+      let stands : Some (Some sig) ≡ Some (Some mine) = sym (put_here made x (Some sig) low) ∙ (ap (slice_get (set made x (Some sig))) (sym same) ∙ there) in
+      let eq : sig ≡ mine = one_value sig mine (one_value (Some sig) (Some mine) stands) in
       is path (ap (slice_get (paths_in s)) (sym same) ∙ at) ∙ ap Some eq)
       (λ (ne : y ≢ x). each y path mine at (sym (put_else made x y (Some sig) ne) ∙ there))
 
@@ -67,7 +67,6 @@ module _ (s : Sources) where
   sigs_right sources [] low = tt
   sigs_right sources (x ∷ group) low =
       let h = here s sources x (low x (names-first x group)) in
-      let known : Known = record { sig = h.parse.sig; deps = h.deps } in
       let rest = sigs_right sources group (λ y named. low y (names-later x group y named)) in
       subst (λ (o : Option (Bytes × Known)). AllZip IsSigAt (x ∷ group) (map (λ (row : Bytes × Known). merged_known (view_in s) row.0 row.1) (option_to_list o ++ flat_map (member_at s) group))) (sym h.at_known) (
         (λ path at.

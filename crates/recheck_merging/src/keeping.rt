@@ -26,6 +26,7 @@ fn kept(was: &[Shared<Sig>], number: Option<u32>) -> Result<Option<Shared<Sig>>,
 }
 
 // For each module its old signature, if it has one.
+#[tactic(auto, using(crate::proofs::Loops::olds_more))]
 fn old_signatures(
     alloc: Global,
     was: &[Shared<Sig>],
@@ -42,6 +43,7 @@ fn old_signatures(
 }
 
 // Empties the slots of these numbers.
+#[tactic(auto, using(crate::proofs::Clears::none_cleared, crate::proofs::Clears::more_cleared, crate::proofs::Clears::all_cleared))]
 fn clear_all(slots: &mut Slots, numbers: &[u32])
     requires { All (λ x. x < length slots.old.items) numbers.now }
     ensures { AreCleared numbers.now slots.old.items slots.new.items }

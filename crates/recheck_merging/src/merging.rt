@@ -81,6 +81,7 @@ fn add_outside(
 }
 
 // The numbers of the modules at some places of a plan.
+#[tactic(auto, using(crate::proofs::Loops::numbers_more))]
 fn numbers_of(alloc: Global, plan: &MergePlan, places: &[u32]) -> Result<List<u32>, NoMemory>
     requires { All (λ i. i < length plan.now.merged) places.now }
     ensures { IfOk result (λ numbers. numbers ≡ numbers_at plan.now.merged places.now) }

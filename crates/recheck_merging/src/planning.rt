@@ -67,6 +67,7 @@ fn places_of(alloc: Global, count: usize, numbers: &[u32]) -> Result<Vec<Option<
 }
 
 // The edges of these numbers.
+#[tactic(auto, using(crate::proofs::Loops::lists_more))]
 fn edges_at(
     alloc: Global,
     edges: &[List<u32>],
@@ -112,6 +113,7 @@ fn places_among(
 }
 
 // The edges by places, where they lead to one.
+#[tactic(auto, using(crate::proofs::Loops::inner_more))]
 fn placed_edges(
     alloc: Global,
     places: &[Option<u32>],
@@ -129,14 +131,13 @@ fn placed_edges(
 }
 
 // The import edges among some modules, by places: `edges` has their edges.
-#[tactic(auto, using(crate::proofs::Among::imports_among, crate::proofs::Among::all_low))]
+#[tactic(auto, using(crate::proofs::Among::low_slots, crate::proofs::Among::few_numbers, crate::proofs::Among::among_by))]
 fn edges_among(
     alloc: Global,
     sources: &Sources,
     numbers: &[u32],
     edges: &[List<u32>],
 ) -> Result<Vec<List<u32>>, NoMemory>
-    requires sources { AreSources sources.now }
     requires few { length sources.now.root.modules < 2 ^ 32 }
     requires rising { IsRising numbers.now }
     requires within { All (λ x. x < length sources.now.root.modules) numbers.now }
@@ -145,18 +146,19 @@ fn edges_among(
 {
     let count = sources.root.get().modules.len();
     let places = places_of(alloc, count, numbers)?;
-    let inner = placed_edges(alloc, places.as_slice(), edges)?;
+    let slots = places.as_slice();
+    let inner = placed_edges(alloc, slots, edges)?;
     Ok(inner)
 }
 
 // The plan of some modules.
+#[tactic(auto, using(crate::proofs::Among::low_numbers, crate::proofs::Among::own_edges, crate::proofs::Among::few_among, crate::proofs::Among::within_among))]
 fn plan_for(
     alloc: Global,
     sources: &Sources,
     edges: &[List<u32>],
     merged: List<u32>,
 ) -> Result<MergePlan, NoMemory>
-    requires sources { AreSources sources.now }
     requires few { length sources.now.root.modules < 2 ^ 32 }
     requires edges { AreImports (view_in sources.now) (paths_in sources.now) edges.now }
     requires rising { IsRising merged }
@@ -164,10 +166,13 @@ fn plan_for(
     ensures plan { IfOk result (IsPlan sources.now) }
     ensures merged { IfOk result (λ plan. plan.merged ≡ merged) }
 {
-    let own = edges_at(alloc, edges, merged.as_slice())?;
-    let inner = edges_among(alloc, sources, merged.as_slice(), own.as_slice())?;
-    let components = components(alloc, inner.as_slice())?;
-    let waves = waves(alloc, &components, inner.as_slice())?;
+    let numbers = merged.as_slice();
+    let own = edges_at(alloc, edges, numbers)?;
+    let lists = own.as_slice();
+    let inner = edges_among(alloc, sources, numbers, lists)?;
+    let among = inner.as_slice();
+    let components = components(alloc, among)?;
+    let waves = waves(alloc, &components, among)?;
     Ok(MergePlan {
         merged,
         edges: own,
@@ -182,6 +187,7 @@ fn plan_for(
 /// # Errors
 ///
 /// `NoMemory` where memory is refused.
+#[tactic(auto, using(crate::proofs::Among::few_imports, crate::proofs::Among::within_imports, crate::proofs::Plans::touched_low, crate::proofs::Plans::merge_rising, crate::proofs::Plans::merge_low, crate::proofs::Plans::plan_of_touched))]
 pub fn plan_of(
     alloc: Global,
     sources: &Sources,
