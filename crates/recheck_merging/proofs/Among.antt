@@ -31,26 +31,30 @@ within_imports view paths edges are = All-from_get_or (λ (ys : List ℕ). All (
 pub many_imports : (view : View) (s : Sources) (edges : List (List ℕ)) → AreImports view (paths_in s) edges → length edges ≡ length s.root.modules
 many_imports view s edges are = are.len ∙ as_many s
 
+module _ (s : Sources) (all : List (List ℕ)) (numbers : List ℕ) (are : AreImports (view_in s) (paths_in s) all) (low : All (λ x. x < length s.root.modules) numbers) where
+  abbrev list_of : ℕ → List ℕ
+  list_of x = get_or all x []
+
+  at_list : (x : ℕ) → Has numbers x → slice_get all x ≡ Some (list_of x)
+  at_list x has = place_at all x [] (let small = all_has (λ (z : ℕ). z < length s.root.modules) numbers low x has in let many = many_imports (view_in s) s all are in omega arith)
+
+  lists_are_edges : AreEdgesOf s numbers (lists_of all numbers)
+  lists_are_edges = record {
+    len = length_mapped list_of numbers;
+    sound = λ i x y at edge.
+        let from = mapped_from list_of numbers i edge.0 edge.1 in
+        let same : from.0 ≡ x = one_value from.0 x (sym from.1 ∙ at) in
+        are.sound x y (edge.0, at_list x (i, at) ∙ ap Some (sym (from.2 ∙ ap list_of same)), edge.2);
+    complete = λ i x y at import.
+        let edge = are.complete x y import in
+        let mine : list_of x ≡ edge.0 = one_value (list_of x) edge.0 (sym (at_list x (i, at)) ∙ edge.1) in
+        (edge.0, get_mapped list_of numbers i x at ∙ ap Some mine, edge.2);
+  }
+
 -- the edges of some modules are lists of all edges
 pub edges_of_numbers : (s : Sources) (all : List (List ℕ)) (numbers : List ℕ) (own : List (List ℕ)) → AreImports (view_in s) (paths_in s) all → All (λ x. x < length s.root.modules) numbers → own ≡ lists_of all numbers
     → AreEdgesOf s numbers own
-edges_of_numbers s all numbers own are low is = subst (λ (l : List (List ℕ)). AreEdgesOf s numbers l) (sym is) (record {
-  len = length_mapped list_of numbers;
-  sound = λ i x y at edge.
-      let from = mapped_from list_of numbers i edge.0 edge.1 in
-      let same : from.0 ≡ x = one_value from.0 x (sym from.1 ∙ at) in
-      are.sound x y (edge.0, at_list x (i, at) ∙ ap Some (sym (from.2 ∙ ap list_of same)), edge.2);
-  complete = λ i x y at import.
-      let edge = are.complete x y import in
-      let here : list_of x ≡ edge.0 = one_value (list_of x) edge.0 (sym (at_list x (i, at)) ∙ edge.1) in
-      (edge.0, get_mapped list_of numbers i x at ∙ ap Some here, edge.2);
-})
-  where
-    abbrev list_of : ℕ → List ℕ
-    list_of x = get_or all x []
-
-    at_list : (x : ℕ) → Has numbers x → slice_get all x ≡ Some (list_of x)
-    at_list x has = place_at all x [] (let small = all_has (λ (z : ℕ). z < length s.root.modules) numbers low x has in let many = many_imports (view_in s) s all are in omega arith)
+edges_of_numbers s all numbers own are low is = subst (λ (l : List (List ℕ)). AreEdgesOf s numbers l) (sym is) (lists_are_edges s all numbers are low)
 
 -- their edges lead to modules
 pub all_low : (s : Sources) (numbers : List ℕ) (edges : List (List ℕ)) (n : ℕ) → AreEdgesOf s numbers edges → n ≡ length s.root.modules → All (λ ys. All (λ y. y < n) ys) edges
@@ -73,40 +77,46 @@ path_of_place s numbers i path low at =
     let small = all_has (λ (z : ℕ). z < length s.root.modules) numbers low from.0 (i, from.1) in
     (from.0, from.1, place_at (paths_in s) from.0 [] (let many = as_many s in omega arith) ∙ ap Some (sym from.2))
 
+module _ (s : Sources) (numbers : List ℕ) (edges : List (List ℕ)) (places : List (Option ℕ)) (low : All (λ x. x < length s.root.modules) numbers) (are : AreEdgesOf s numbers edges)
+    (places_are : ArePlacesTo numbers (length numbers) places) where
+  abbrev paths : List Bytes
+  paths = paths_at (paths_in s) numbers
+
+  among_sound : (i j : ℕ) → Edge (map (placed places) edges) i j → IsImport (view_in s) paths i j
+  among_sound i j edge =
+      let from = mapped_from (placed places) edges i edge.0 edge.1 in
+      let it = has_placed places from.0 j (subst (λ (l : List ℕ). Has l j) from.2 edge.2) in
+      let y = it.0 in
+      let at_y = places_are.sound y j it.2 in
+      let small = within_there edges i from.0 from.1 in
+      let x = get_there numbers i (let len = are.len in omega arith) in
+      let import = are.sound i x.0 y x.1 (from.0, from.1, it.1) in
+      record {
+        path = import.path;
+        other = import.other;
+        at_path = path_at_place (paths_in s) numbers i x.0 import.path x.1 import.at_path;
+        at_other = path_at_place (paths_in s) numbers j y import.other at_y import.at_other;
+        edge = import.edge;
+      }
+
+  among_complete : (i j : ℕ) → IsImport (view_in s) paths i j → Edge (map (placed places) edges) i j
+  among_complete i j import =
+      let x = path_of_place s numbers i import.path low import.at_path in
+      let y = path_of_place s numbers j import.other low import.at_other in
+      let edge = are.complete i x.0 y.0 x.1 (record { path = import.path; other = import.other; at_path = x.2; at_other = y.2; edge = import.edge }) in
+      (placed places edge.0, get_mapped (placed places) edges i edge.0 edge.1, placed_has places edge.0 y.0 j edge.2 (places_are.complete y.0 j (within_there numbers j y.0 y.1) y.1))
+
+  among_are : AreImports (view_in s) paths (map (placed places) edges)
+  among_are = record {
+    len = length_mapped (placed places) edges ∙ (are.len ∙ sym (length_mapped (λ (y : ℕ). get_or (paths_in s) y []) numbers));
+    sound = among_sound;
+    complete = among_complete;
+  }
+
 pub imports_among : (s : Sources) (numbers : List ℕ) (edges : List (List ℕ)) (places : List (Option ℕ)) (inner : List (List ℕ)) → All (λ x. x < length s.root.modules) numbers → AreEdgesOf s numbers edges
     → ArePlacesTo numbers (length numbers) places → inner ≡ map (placed places) edges → AreImports (view_in s) (paths_at (paths_in s) numbers) inner
-imports_among s numbers edges places inner low are places_are is = subst (λ (l : List (List ℕ)). AreImports (view_in s) paths l) (sym is) (record {
-  len = length_mapped (placed places) edges ∙ (are.len ∙ sym (length_mapped (λ (y : ℕ). get_or (paths_in s) y []) numbers));
-  sound = sound;
-  complete = complete;
-})
-  where
-    abbrev paths : List Bytes
-    paths = paths_at (paths_in s) numbers
-
-    sound : (i j : ℕ) → Edge (map (placed places) edges) i j → IsImport (view_in s) paths i j
-    sound i j edge =
-        let from = mapped_from (placed places) edges i edge.0 edge.1 in
-        let it = has_placed places from.0 j (subst (λ (l : List ℕ). Has l j) from.2 edge.2) in
-        let y = it.0 in
-        let at_y = places_are.sound y j it.2 in
-        let small = within_there edges i from.0 from.1 in
-        let x = get_there numbers i (let len = are.len in omega arith) in
-        let import = are.sound i x.0 y x.1 (from.0, from.1, it.1) in
-        record {
-          path = import.path;
-          other = import.other;
-          at_path = path_at_place (paths_in s) numbers i x.0 import.path x.1 import.at_path;
-          at_other = path_at_place (paths_in s) numbers j y import.other at_y import.at_other;
-          edge = import.edge;
-        }
-
-    complete : (i j : ℕ) → IsImport (view_in s) paths i j → Edge (map (placed places) edges) i j
-    complete i j import =
-        let x = path_of_place s numbers i import.path low import.at_path in
-        let y = path_of_place s numbers j import.other low import.at_other in
-        let edge = are.complete i x.0 y.0 x.1 (record { path = import.path; other = import.other; at_path = x.2; at_other = y.2; edge = import.edge }) in
-        (placed places edge.0, get_mapped (placed places) edges i edge.0 edge.1, placed_has places edge.0 y.0 j edge.2 (places_are.complete y.0 j (within_there numbers j y.0 y.1) y.1))
+imports_among s numbers edges places inner low are places_are is =
+    subst (λ (l : List (List ℕ)). AreImports (view_in s) (paths_at (paths_in s) numbers) l) (sym is) (among_are s numbers edges places low are places_are)
 
 -- ---- as the code has them
 

@@ -78,33 +78,32 @@ place_number : (p : MergePlan) (places : List ℕ) (i x : ℕ) → Has places i 
 place_number p places i x has at =
     (has.0, get_mapped (λ (j : ℕ). get_or p.merged j 0) places has.0 i has.1 ∙ ap Some (sym (value_at p.merged i x 0 at)))
 
-group_edges : (s : Sources) (p : MergePlan) → IsPlan s p → (k : ℕ) (places : List ℕ) → slice_get p.components k ≡ Some places → AreEdgesOf s (numbers_at p.merged places) (edges_at p.edges.items places)
-group_edges s p plan k places at = record {
-  len = length_mapped list places ∙ sym (length_mapped number places);
-  sound = λ j x y at_x edge.
-      let i = mapped_from number places j x at_x in
-      let e = mapped_from list places j edge.0 edge.1 in
-      let same : e.0 ≡ i.0 = one_value e.0 i.0 (sym e.1 ∙ i.1) in
-      let here : slice_get p.merged i.0 ≡ Some x = place_at p.merged i.0 0 (low_member s p plan k i.0 (places, at, (j, i.1))) ∙ ap Some (sym i.2) in
-      plan.edges.sound i.0 x y here (edge.0, list_there i.0 (low i.0 (j, i.1)) ∙ ap Some (sym (e.2 ∙ ap list same)), edge.2);
-  complete = λ j x y at_x import.
-      let i = mapped_from number places j x at_x in
-      let here : slice_get p.merged i.0 ≡ Some x = place_at p.merged i.0 0 (low_member s p plan k i.0 (places, at, (j, i.1))) ∙ ap Some (sym i.2) in
-      let edge = plan.edges.complete i.0 x y here import in
-      (edge.0, get_mapped list places j i.0 i.1 ∙ ap Some (sym (value_at p.edges.items i.0 edge.0 [] edge.1)), edge.2);
-}
-  where
-    abbrev number : ℕ → ℕ
-    number i = get_or p.merged i 0
+module _ (s : Sources) (p : MergePlan) (plan : IsPlan s p) (k : ℕ) (places : List ℕ) (at : slice_get p.components k ≡ Some places) where
+  abbrev number : ℕ → ℕ
+  number i = get_or p.merged i 0
 
-    abbrev list : ℕ → List ℕ
-    list i = get_or p.edges.items i []
+  abbrev list : ℕ → List ℕ
+  list i = get_or p.edges.items i []
 
-    low : (i : ℕ) → Has places i → i < length p.edges.items
-    low i has = let small = low_member s p plan k i (places, at, has) in let many = plan.edges.len in omega arith
+  number_there : (i : ℕ) → Has places i → slice_get p.merged i ≡ Some (number i)
+  number_there i has = place_at p.merged i 0 (low_member s p plan k i (places, at, has))
 
-    list_there : (i : ℕ) → i < length p.edges.items → slice_get p.edges.items i ≡ Some (list i)
-    list_there i small = place_at p.edges.items i [] small
+  list_there : (i : ℕ) → Has places i → slice_get p.edges.items i ≡ Some (list i)
+  list_there i has = place_at p.edges.items i [] (let small = low_member s p plan k i (places, at, has) in let many = plan.edges.len in omega arith)
+
+  group_edges : AreEdgesOf s (numbers_at p.merged places) (edges_at p.edges.items places)
+  group_edges = record {
+    len = length_mapped list places ∙ sym (length_mapped number places);
+    sound = λ j x y at_x edge.
+        let i = mapped_from number places j x at_x in
+        let e = mapped_from list places j edge.0 edge.1 in
+        let same : e.0 ≡ i.0 = one_value e.0 i.0 (sym e.1 ∙ i.1) in
+        plan.edges.sound i.0 x y (number_there i.0 (j, i.1) ∙ ap Some (sym i.2)) (edge.0, list_there i.0 (j, i.1) ∙ ap Some (sym (e.2 ∙ ap list same)), edge.2);
+    complete = λ j x y at_x import.
+        let i = mapped_from number places j x at_x in
+        let edge = plan.edges.complete i.0 x y (number_there i.0 (j, i.1) ∙ ap Some (sym i.2)) import in
+        (edge.0, get_mapped list places j i.0 i.1 ∙ ap Some (sym (value_at p.edges.items i.0 edge.0 [] edge.1)), edge.2);
+  }
 
 pub ready_now : (s : Sources) (p : MergePlan) (wave n k : ℕ) (ks places : List ℕ) (made : List (Option Sig)) → AreSources s → IsPlan s p → slice_get p.waves wave ≡ Some ks → slice_get ks n ≡ Some k → slice_get p.components k ≡ Some places
     → AreMergedTo s p wave made → IsReady s (numbers_at p.merged places) (edges_at p.edges.items places) made

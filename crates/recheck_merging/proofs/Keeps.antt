@@ -47,7 +47,7 @@ imports_place s sources path _ itself x at = (x, at)
 imports_place s sources path _ (further r other leads step) x at = edge_place s sources r other step
 
 module _ (local : IsLocal) (was : Made) (s : Sources) (from : List (Option ℕ)) (touched : List ℕ) (p : MergePlan) (slots : List (Option Sig)) (made : AreMade was) (sources : AreSources s)
-      (come : ComeFrom was.sources s from) (are_touched : AreTouched was.sources s from touched) (plan : IsPlanOf s touched p) (kept : AreKept was.signatures.items from p.merged slots) where
+    (come : ComeFrom was.sources s from) (are_touched : AreTouched was.sources s from touched) (plan : IsPlanOf s touched p) (kept : AreKept was.signatures.items from p.merged slots) where
   -- a module that is touched is merged, and one that leads to a module that is merged
   merges : (x : ℕ) → x < length s.root.modules → Has touched x → Has p.merged x
   merges x low has = let h = here s sources x low in plan.merged.complete x (touched_merges s touched x h.row.path has h.at_path)

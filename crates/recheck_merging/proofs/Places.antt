@@ -25,41 +25,49 @@ no_places numbers count places is = subst (λ (l : List (Option ℕ)). ArePlaces
   complete = λ x i low at. absurd (omega arith);
 })
 
+module _ (numbers : List ℕ) (i : ℕ) (places : List (Option ℕ)) (rising : IsRising numbers) (within : All (λ x. x < length places) numbers) (low : i < length numbers) (are : ArePlacesTo numbers i places) where
+  abbrev mine : ℕ
+  mine = get_or numbers i 0
+
+  abbrev now : List (Option ℕ)
+  now = set places mine (Some i)
+
+  at_mine : slice_get numbers i ≡ Some mine
+  at_mine = place_at numbers i 0 low
+
+  room : mine < length places
+  room = all_has (λ (x : ℕ). x < length places) numbers within mine (i, at_mine)
+
+  put_sound : (x j : ℕ) → slice_get now x ≡ Some (Some j) → slice_get numbers j ≡ Some x
+  put_sound x j at = dite (ℕ_discrete x mine)
+      (λ (same : x ≡ mine).
+      let is : Some (Some i) ≡ Some (Some j) = sym (put_here places mine (Some i) room) ∙ (ap (slice_get now) (sym same) ∙ at) in
+      let eq : i ≡ j = one_value i j (one_value (Some i) (Some j) is) in
+      ap (slice_get numbers) (sym eq) ∙ (at_mine ∙ ap Some (sym same)))
+      (λ (ne : x ≢ mine). are.sound x j (sym (put_else places mine x (Some i) ne) ∙ at))
+
+  put_complete : (x j : ℕ) → j < i + 1 → slice_get numbers j ≡ Some x → slice_get now x ≡ Some (Some j)
+  put_complete x j below at = elim (cases_lt j i) [
+    | inl before ↦
+        let less = rising j i x mine before at at_mine in
+        let ne : x ≢ mine = (λ (same : x ≡ mine). omega arith) in
+        put_else places mine x (Some i) ne ∙ are.complete x j before at
+    | inr behind ↦
+        let same : j ≡ i = omega arith in
+        let is : x ≡ mine = one_value x mine (sym at ∙ (ap (slice_get numbers) same ∙ at_mine)) in
+        ap (slice_get now) is ∙ (put_here places mine (Some i) room ∙ ap (λ (k : ℕ). Some (Some k)) (sym same))
+  ]
+
+  placed_now : ArePlacesTo numbers (i + 1) now
+  placed_now = record { sound = put_sound; complete = put_complete }
+
 pub place_put : (numbers : List ℕ) (i : ℕ) (places : List (Option ℕ)) → IsRising numbers → All (λ x. x < length places) numbers → i < length numbers → ArePlacesTo numbers i places
     → ArePlacesTo numbers (i + 1) (set places (get_or numbers i 0) (Some i))
-place_put numbers i places rising within low are = record { sound = sound; complete = complete }
-  where
-    abbrev here : ℕ
-    here = get_or numbers i 0
+place_put numbers i places rising within low are = placed_now numbers i places rising within low are
 
-    abbrev now : List (Option ℕ)
-    now = set places here (Some i)
-
-    at_here : slice_get numbers i ≡ Some here
-    at_here = place_at numbers i 0 low
-
-    room : here < length places
-    room = all_has (λ (x : ℕ). x < length places) numbers within here (i, at_here)
-
-    sound : (x j : ℕ) → slice_get now x ≡ Some (Some j) → slice_get numbers j ≡ Some x
-    sound x j at = dite (ℕ_discrete x here)
-        (λ (same : x ≡ here).
-        let is : Some (Some i) ≡ Some (Some j) = sym (put_here places here (Some i) room) ∙ (ap (slice_get now) (sym same) ∙ at) in
-        let eq : i ≡ j = one_value i j (one_value (Some i) (Some j) is) in
-        ap (slice_get numbers) (sym eq) ∙ (at_here ∙ ap Some (sym same)))
-        (λ (ne : x ≢ here). are.sound x j (sym (put_else places here x (Some i) ne) ∙ at))
-
-    complete : (x j : ℕ) → j < i + 1 → slice_get numbers j ≡ Some x → slice_get now x ≡ Some (Some j)
-    complete x j below at = elim (cases_lt j i) [
-      | inl before ↦
-          let less = rising j i x here before at at_here in
-          let ne : x ≢ here = (λ (same : x ≡ here). omega arith) in
-          put_else places here x (Some i) ne ∙ are.complete x j before at
-      | inr behind ↦
-          let same : j ≡ i = omega arith in
-          let is : x ≡ here = one_value x here (sym at ∙ (ap (slice_get numbers) same ∙ at_here)) in
-          ap (slice_get now) is ∙ (put_here places here (Some i) room ∙ ap (λ (k : ℕ). Some (Some k)) (sym same))
-    ]
+-- the slots of the numbers are there
+pub low_places : (numbers : List ℕ) (count : ℕ) (places : List (Option ℕ)) → All (λ x. x < count) numbers → length places ≡ count → All (λ x. x < length places) numbers
+low_places numbers count places low many = subst (λ (n : ℕ). All (λ x. x < n) numbers) (sym many) low
 
 pub all_places : (numbers : List ℕ) (i : ℕ) (places : List (Option ℕ)) → length numbers ≤ i → ArePlacesTo numbers i places → ArePlacesTo numbers (length numbers) places
 all_places numbers i places all are = record { sound = are.sound; complete = λ x j low at. are.complete x j (omega arith) at }

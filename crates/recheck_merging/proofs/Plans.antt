@@ -15,7 +15,7 @@ use Rattle.check_phases.specs.Sourced.{paths_in, view_in, AreSources}
 use Rattle.check_phases.specs.declared.merging.Sources.{Sources}
 use Rattle.check_phases.proofs.Lists.{place_at}
 use Rattle.recheck_merging.specs.Inner.{lists_of}
-use Rattle.recheck_merging.specs.Plans.{IsToMerge, AreEdgesOf, IsPlan, IsPlanOf}
+use Rattle.recheck_merging.specs.Plans.{IsToMerge, AreEdgesOf, IsPlan, IsPlanOf, IsPlanOfNothing}
 use Rattle.recheck_merging.specs.declared.planning.MergePlan.{MergePlan}
 use Rattle.recheck_merging.proofs.Among.{many_imports, edges_of_numbers}
 use Rattle.recheck_merging.proofs.Imported.{as_many, low_path}
@@ -84,7 +84,7 @@ no_components = record {
   whole = λ x low. absurd (omega arith);
   within = λ k x stands. none_some stands.0 stands.1;
   together = λ k x y a b. none_some a.0 a.1;
-  apart = λ k j x y a b mutual. none_some a.0 a.1;
+  apart = λ k j x y a b each. none_some a.0 a.1;
 }
 
 no_waves : AreWaves [] [] []
@@ -107,8 +107,8 @@ no_edges s = record {
 nothing_exactly : (s : Sources) → AreExactly (IsToMerge s []) []
 nothing_exactly s = record { rising = rising_none; sound = λ x has. absurd (has_none x has); complete = λ x is. absurd (has_none is.number is.is_touched) }
 
-pub nothing : (s : Sources) (p : MergePlan) → p.merged ≡ [] → p.edges.items ≡ [] → p.components ≡ [] → p.waves ≡ [] → IsPlanOf s [] p
-nothing s p merged edges components waves =
+pub nothing : (p : MergePlan) → p.merged ≡ [] → p.edges.items ≡ [] → p.components ≡ [] → p.waves ≡ [] → IsPlanOfNothing p
+nothing p merged edges components waves s =
     let own : AreEdgesOf s p.merged p.edges.items = subst (λ (l : List ℕ). AreEdgesOf s l p.edges.items) (sym merged) (subst (AreEdgesOf s []) (sym edges) (no_edges s)) in
     let among : AreImports (view_in s) (paths_at (paths_in s) p.merged) [] = subst (λ (l : List ℕ). AreImports (view_in s) (paths_at (paths_in s) l) []) (sym merged) (nothing_among (view_in s) (paths_in s)) in
     let grouped : AreComponents [] p.components = subst (AreComponents []) (sym components) no_components in

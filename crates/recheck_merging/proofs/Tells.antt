@@ -21,7 +21,7 @@ use Rattle.recheck_merging.specs.declared.planning.MergePlan.{MergePlan}
 use Rattle.recheck_merging.proofs.Keeps.{imports_place}
 
 module _ (s : Sources) (touched : List ℕ) (p : MergePlan) (old : Program) (before after : List Results) (sources : AreSources s) (seen : full.view_in (program_in s) after ≡ view_in s)
-      (places : ArePlaces (Differs (full.view_in old before) (full.view_in (program_in s) after)) (paths_in s) touched) (plan : IsPlanOf s touched p) where
+    (places : ArePlaces (Differs (full.view_in old before) (full.view_in (program_in s) after)) (paths_in s) touched) (plan : IsPlanOf s touched p) where
   abbrev Affected : Bytes → Type 0
   Affected = Merged old (program_in s) before after
 
@@ -42,16 +42,19 @@ module _ (s : Sources) (touched : List ℕ) (p : MergePlan) (old : Program) (bef
   complete path (is, other, leads, differs) =
       let x = path_has path is in
       let ways : Imports (view_in s) path other = subst (λ (v : View). Imports v path other) seen leads in
-      let y = imports_place s sources path other ways x.0 x.1 in
-      (x.0, x.1, plan.merged.complete x.0 (record {
-        number = y.0;
-        path = path;
-        other = other;
-        is_touched = places.complete y.0 other y.1 differs;
-        at_path = x.1;
-        at_other = y.1;
-        leads = ways;
-      }))
+      let y = imports_place s sources path other ways x.0 x.1 in (
+        x.0,
+        x.1,
+        plan.merged.complete x.0 (record {
+          number = y.0;
+          path = path;
+          other = other;
+          is_touched = places.complete y.0 other y.1 differs;
+          at_path = x.1;
+          at_other = y.1;
+          leads = ways;
+        }),
+      )
 
 pub plans_are_of_merged : PlansAreOfMerged
 plans_are_of_merged s touched p old before after sources seen places plan = record {

@@ -41,6 +41,10 @@ pub record IsPlanOf (s : Sources) (touched : List ℕ) (p : MergePlan) : Type 0 
   pub merged : AreExactly (IsToMerge s touched) p.merged
   pub plan : IsPlan s p
 
+-- it is that of any sources where nothing is touched
+abbrev pub IsPlanOfNothing : MergePlan → Type 0
+IsPlanOfNothing p = (s : Sources) → IsPlanOf s [] p
+
 -- the numbers at some places, and the edges there
 abbrev pub numbers_at : List ℕ → List ℕ → List ℕ
 numbers_at numbers places = map (λ i. get_or numbers i 0) places

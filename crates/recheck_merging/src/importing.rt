@@ -45,11 +45,7 @@ fn edges_from(alloc: Global, root: &Root, deps: &Deps) -> Result<List<u32>, NoMe
 
 // The numbers of the modules that each dependency list finds.
 #[tactic(auto, using(crate::proofs::Imported::more_lists, crate::proofs::Imported::whole_lists))]
-fn edges_by(
-    alloc: Global,
-    root: &Root,
-    lists: &[Shared<Deps>],
-) -> Result<Vec<List<u32>>, NoMemory>
+fn edges_by(alloc: Global, root: &Root, lists: &[Shared<Deps>]) -> Result<Vec<List<u32>>, NoMemory>
     requires rising { IsRising (paths_of root.now) }
     requires few { length root.now.modules < 2 ^ 32 }
     ensures { IfOk result (λ edges. FollowLists (paths_of root.now) lists.now edges.items) }

@@ -1,5 +1,5 @@
 //! Old signatures that are kept, and all signatures in the end.
-ghost use Rattle.std.specs.Prelude.{◌≡◌, ◌<◌, ◌+◌, All, IfOk, OnOk, length, map, take, Some};
+ghost use Rattle.std.specs.Prelude.{◌≡◌, ◌<◌, All, IfOk, length, map, Some};
 ghost use Rattle.recheck_merging.specs.Keeping.{kept_in, AreKept};
 ghost use Rattle.recheck_merging.specs.Merging.{IsFilled};
 ghost use Rattle.recheck_merging.specs.Clearing.{AreCleared};
@@ -43,7 +43,7 @@ fn old_signatures(
 }
 
 // Empties the slots of these numbers.
-#[tactic(auto, using(crate::proofs::Clears::none_cleared, crate::proofs::Clears::more_cleared, crate::proofs::Clears::all_cleared))]
+#[tactic(auto, using(crate::proofs::Clears::none_cleared))]
 fn clear_all(slots: &mut Slots, numbers: &[u32])
     requires { All (λ x. x < length slots.old.items) numbers.now }
     ensures { AreCleared numbers.now slots.old.items slots.new.items }
@@ -80,6 +80,7 @@ pub fn kept_signatures(
 /// # Errors
 ///
 /// `NoMemory` where memory is refused.
+#[tactic(auto, using(crate::proofs::Clears::never_empty))]
 pub fn whole_signatures(alloc: Global, slots: &Slots) -> Result<Vec<Shared<Sig>>, NoMemory>
     requires filled { IsFilled slots.now.items }
     ensures { IfOk result (λ all. map Some all.items ≡ slots.now.items) }

@@ -1,5 +1,5 @@
 //! The merged signatures of the modules of a plan, wave by wave.
-ghost use Rattle.std.specs.Prelude.{◌≡◌, ◌+◌, ◌<◌, ◌++◌, [], All, IfOk, OnOk, map, take, sum_by, length, slice_get, get_or, Some};
+ghost use Rattle.std.specs.Prelude.{◌≡◌, ◌+◌, ◌<◌, ◌++◌, [], All, IfOk, OnOk, map, take, length, slice_get, get_or, Some};
 ghost use Rattle.std.specs.List.{flat_map};
 ghost use Rattle.job_ends.specs.Jobs.{job_view, member_view};
 ghost use Rattle.analyst.specs.Work.{Works, merging};

@@ -1,12 +1,11 @@
 //! Which modules are merged anew, and in which order.
-ghost use Rattle.std.specs.Prelude.{◌≡◌, ◌<◌, ◌+◌, ◌^◌, ◌++◌, [], All, IfOk, OnOk, length, map, replicate, option_to_list, get_or, None, List, ℕ};
+ghost use Rattle.std.specs.Prelude.{◌≡◌, ◌<◌, ◌+◌, ◌^◌, ◌++◌, [], All, IfOk, OnOk, length, map, option_to_list, get_or, None};
 ghost use Rattle.graph_search.specs.Reach.{IsRising};
 ghost use Rattle.affected_sizes.specs.Polls.{AreImports};
 ghost use Rattle.check_phases.specs.Sourced.{AreSources, paths_in, view_in};
-ghost use Rattle.check_phases.specs.declared.merging.Sources.{Sources};
 ghost use Rattle.recheck_merging.specs.Inner.{ArePlacesTo, placed, lists_of};
 ghost use Rattle.path_numbers.specs.Sets.{paths_at};
-ghost use Rattle.recheck_merging.specs.Plans.{IsPlan, IsPlanOf, AreEdgesOf};
+ghost use Rattle.recheck_merging.specs.Plans.{IsPlan, IsPlanOf, AreEdgesOf, IsPlanOfNothing};
 
 use check_phases::Sources;
 use dep_lists::{components, waves};
@@ -51,7 +50,7 @@ fn put_place(places: &mut Vec<Option<u32>>, numbers: &[u32], i: usize)
 }
 
 // For each number below `count` its place among these, if it has one.
-#[tactic(auto, using(crate::proofs::Places::no_places, crate::proofs::Places::all_places))]
+#[tactic(auto, using(crate::proofs::Places::no_places, crate::proofs::Places::low_places, crate::proofs::Places::all_places))]
 fn places_of(alloc: Global, count: usize, numbers: &[u32]) -> Result<Vec<Option<u32>>, NoMemory>
     requires few { length numbers.now < 2 ^ 32 }
     requires rising { IsRising numbers.now }
@@ -68,11 +67,7 @@ fn places_of(alloc: Global, count: usize, numbers: &[u32]) -> Result<Vec<Option<
 
 // The edges of these numbers.
 #[tactic(auto, using(crate::proofs::Loops::lists_more))]
-fn edges_at(
-    alloc: Global,
-    edges: &[List<u32>],
-    numbers: &[u32],
-) -> Result<Vec<List<u32>>, NoMemory>
+fn edges_at(alloc: Global, edges: &[List<u32>], numbers: &[u32]) -> Result<Vec<List<u32>>, NoMemory>
     requires within { All (λ x. x < length edges.now) numbers.now }
     ensures { IfOk result (λ lists. lists.items ≡ lists_of edges.now numbers.now) }
 {
@@ -208,7 +203,7 @@ pub fn plan_of(
 /// The plan where nothing is touched.
 #[tactic(auto, using(crate::proofs::Plans::nothing))]
 pub fn nothing_to_merge(alloc: Global) -> MergePlan
-    ensures { (s : Sources) → IsPlanOf s [] result }
+    ensures { IsPlanOfNothing result }
 {
     MergePlan {
         merged: List::new(alloc),
