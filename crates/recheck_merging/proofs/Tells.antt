@@ -36,7 +36,7 @@ module _ (s : Sources) (touched : List ℕ) (p : MergePlan) (old : Program) (bef
       let is = plan.merged.sound x has in
       let t = places.sound is.number is.is_touched in
       let same : t.0 ≡ is.other = one_value t.0 is.other (sym t.1 ∙ is.at_other) in
-      (is.path, is.at_path, (path_is x is.path is.at_path, (is.other, subst (λ (v : View). Imports v is.path is.other) (sym seen) is.leads, subst (Differs (full.view_in old before) (full.view_in (program_in s) after)) same t.2)))
+      (is.path, is.at_path, (path_is x is.path is.at_path, is.other, subst (λ (v : View). Imports v is.path is.other) (sym seen) is.leads, subst (Differs (full.view_in old before) (full.view_in (program_in s) after)) same t.2))
 
   complete : (path : Bytes) → Affected path → (x : ℕ) × (slice_get (paths_in s) x ≡ Some path) × Has p.merged x
   complete path (is, other, leads, differs) =
