@@ -1,0 +1,63 @@
+-- How the modules of a plan are merged, wave by wave, beside signatures that are kept.
+use Rattle.std.specs.Prelude.{◌≡◌, ◌<◌, ℕ, true, false, List, [], map, length, slice_get, Option, Some}
+use Rattle.std.specs.List.{flat_map}
+use Rattle.check_values.specs.Rows.{Rows}
+use Rattle.check_values.specs.declared.signatures.Sig.{Sig}
+use Rattle.heap_core.specs.Meaning.{names}
+use Rattle.graph_search.specs.Cycles.{Has}
+use Rattle.graph_search.specs.Components.{StandsIn}
+use Rattle.merged_signatures.specs.Job.{Job}
+use Rattle.affected_sizes.specs.Polls.{IsImport}
+use Rattle.check_phases.specs.Phases.{AreMerged}
+use Rattle.check_phases.specs.Merging.{IsMade, AreRight, member_at, made_at}
+use Rattle.check_phases.specs.Sourced.{program_in, paths_in, view_in, AreSources}
+use Rattle.check_phases.specs.declared.merging.Sources.{Sources}
+use Rattle.recheck_merging.specs.Plans.{IsPlan, AreEdgesOf}
+use Rattle.recheck_merging.specs.declared.planning.MergePlan.{MergePlan}
+
+-- the module of a number is a member of a component of the plan
+abbrev pub IsMember : MergePlan → ℕ → ℕ → Type 0
+IsMember p k x = (i : ℕ) × StandsIn p.components k i × (slice_get p.merged i ≡ Some x)
+
+-- All that is made is right; of the modules outside of the plan, and of the waves before one, it is made.
+pub record AreMergedTo (s : Sources) (p : MergePlan) (wave : ℕ) (made : List (Option Sig)) : Type 0 where
+  pub right : AreRight s made
+  pub kept : (x : ℕ) → x < length s.root.modules → ¬ (Has p.merged x) → IsMade made x
+  pub before : (w k x : ℕ) → w < wave → StandsIn p.waves w k → IsMember p k x → IsMade made x
+
+-- and of these components
+pub record AreMergedIn (s : Sources) (p : MergePlan) (wave : ℕ) (components : List ℕ) (made : List (Option Sig)) : Type 0 where
+  pub to : AreMergedTo s p wave made
+  pub so_far : (k x : ℕ) → Has components k → IsMember p k x → IsMade made x
+
+-- ---- a job
+
+-- the signatures of the modules to which these edges lead, where they are made
+abbrev pub outside_by : Sources → List (Option Sig) → List (List ℕ) → Rows Sig
+outside_by s made edges = flat_map (λ ys. flat_map (made_at s made) ys) edges
+
+-- the job of some modules with these edges
+abbrev pub job_by : Sources → List (Option Sig) → List ℕ → List (List ℕ) → Job
+job_by s made group edges =
+    record {
+      members = flat_map (member_at s) group;
+      outside = outside_by s made edges;
+    }
+
+-- These are the edges of the modules of a group, and whatever they lead to outside of it is made.
+pub record IsReady (s : Sources) (group : List ℕ) (edges : List (List ℕ)) (made : List (Option Sig)) : Type 0 where
+  pub within : (x : ℕ) → names group x ≡ true → x < length s.root.modules
+  pub edges_are : AreEdgesOf s group edges
+  pub before : (x y : ℕ) → names group x ≡ true → IsImport (view_in s) (paths_in s) x y → names group y ≡ false → IsMade made y
+
+-- ---- all waves
+
+-- something stands in each slot
+abbrev pub IsFilled : List (Option Sig) → Type 0
+IsFilled made = (x : ℕ) → x < length made → IsMade made x
+
+-- Behind the last wave all signatures are made, and are those of the program.
+abbrev pub WavesMakeAll : Type 0
+WavesMakeAll =
+    (s : Sources) (p : MergePlan) (made : List (Option Sig)) → AreSources s → IsPlan s p → AreMergedTo s p (length p.waves) made
+    → IsFilled made × ((sigs : List Sig) → map Some sigs ≡ made → AreMerged (view_in s) (program_in s) sigs)

@@ -1,0 +1,15 @@
+//! The merged signatures of an edited program: which modules are merged anew, wave by wave, and which old signatures are kept.
+#![tactic(auto)]
+
+mod importing;
+mod keeping;
+mod laws;
+mod merging;
+mod planning;
+mod work;
+
+pub use importing::edges_of;
+pub use keeping::{Slots, kept_signatures, whole_signatures};
+pub use laws::{kept_are_right, members_add_up, plans_are_of_merged, waves_make_all};
+pub use merging::merge_wave;
+pub use planning::{MergePlan, nothing_to_merge, plan_of};
