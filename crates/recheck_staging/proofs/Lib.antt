@@ -1,0 +1,6 @@
+pub mod Changes
+pub mod Fit
+pub mod Kept
+pub mod State
+pub mod Steps
+pub mod Versions
