@@ -37,12 +37,7 @@ fn section_of(line: &str) -> Option<Section> {
 }
 
 // Prints what a line of a section answers.
-fn report(
-    rt: &impl Print,
-    alloc: Global,
-    section: Option<Section>,
-    line: &str,
-) -> io::Result<()> {
+fn report(rt: &impl Print, alloc: Global, section: Option<Section>, line: &str) -> io::Result<()> {
     match section {
         Some(Section::Signatures) => signatures::report(rt, alloc, line),
         Some(Section::Counts) => signatures::report_counts(rt, alloc, line),

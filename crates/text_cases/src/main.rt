@@ -31,12 +31,7 @@ fn section_of(line: &str) -> Option<Section> {
 }
 
 // Prints what a line of a section answers.
-fn report(
-    rt: &impl Print,
-    alloc: Global,
-    section: Option<Section>,
-    line: &str,
-) -> io::Result<()> {
+fn report(rt: &impl Print, alloc: Global, section: Option<Section>, line: &str) -> io::Result<()> {
     match section {
         Some(Section::Tokens) => tokens::report(rt, alloc, line),
         Some(Section::Trees) => trees::report(rt, alloc, line),

@@ -20,9 +20,13 @@ const MARKS: [(&str, &str); 13] = [
     ("‹10FFFF›", "\u{10FFFF}"),
 ];
 
-// Stand at the end of a line.
+// Ends a line: a byte that is no UTF-8.
 const NO_UTF8: &str = "‹a byte that is no UTF-8›";
+
+// Ends a line: as many spaces as a source may have behind what stands before.
 const TO_THE_LIMIT: &str = "‹spaces up to the limit›";
+
+// Ends a line: one space more than that.
 const PAST_THE_LIMIT: &str = "‹spaces past the limit›";
 
 /// A text with marks for its characters.
