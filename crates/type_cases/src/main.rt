@@ -36,12 +36,7 @@ fn section_of(line: &str) -> Option<Section> {
 }
 
 // Prints what a line of a section answers.
-fn report(
-    rt: &impl Print,
-    alloc: Global,
-    section: Option<Section>,
-    line: &str,
-) -> io::Result<()> {
+fn report(rt: &impl Print, alloc: Global, section: Option<Section>, line: &str) -> io::Result<()> {
     match section {
         Some(Section::Types) => reading::report(rt, alloc, line),
         Some(Section::Members) => members::report(rt, alloc, line),

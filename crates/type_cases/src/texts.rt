@@ -33,7 +33,11 @@ impl<'a> Names for OneModule<'a> {
 /// # Errors
 ///
 /// `NoMemory` where memory is refused.
-pub(crate) fn type_in_text(alloc: Global, home: &Path, text: &str) -> Result<Option<FlowType>, NoMemory> {
+pub(crate) fn type_in_text(
+    alloc: Global,
+    home: &Path,
+    text: &str,
+) -> Result<Option<FlowType>, NoMemory> {
     let Ok(tokens) = lex(alloc, text.as_bytes()) else {
         return Ok(None);
     };
