@@ -4,11 +4,11 @@
 # which names those of the module before, so that each module's table has those of all before it.
 # Each line: the shape, how many aliases it has, the answer or what is printed, the milliseconds of the processor in the shortest of
 # five runs, less those of an empty run, and the microseconds an alias, which are to stay.
-# `rt run` in crates/subtype_cases and ./build build the programs that it measures.
+# `rt run` in crates/type_cases and ./build build the programs that it measures.
 cd "$(dirname "$0")" || exit 1
-program=${PROGRAM:-../crates/subtype_cases/out/subtype_cases}
+program=${PROGRAM:-../crates/type_cases/out/type_cases}
 flowd=${FLOWD:-../crates/flowd/out/flowd}
-[ -x "$program" ] && [ -x "$flowd" ] || { echo "build them first: rt run in crates/subtype_cases, and ./build" >&2; exit 1; }
+[ -x "$program" ] && [ -x "$flowd" ] || { echo "build them first: rt run in crates/type_cases, and ./build" >&2; exit 1; }
 folder=$(mktemp -d)
 trap 'rm -rf "$folder"' EXIT
 TIMEFORMAT='%3U %3S'
@@ -28,9 +28,12 @@ tell() {
 
 # one NAME SCRIPT: the script makes the type of alias i of n
 one() {
+    local count took
     for count in 4096 16384 65536; do
-        node -e "const n = $count; console.log(['A' + (n - 1), 'null | void | number', ...Array.from({length: n}, (_, i) => 'A' + i + ' = ' + ($2))].join('\t'))" >"$folder/asked"
-        tell "$1" "$count" "$empty" "$(best "$program")"
+        node -e "const n = $count; console.log('# subtyping\n' + ['A' + (n - 1), 'null | void | number', ...Array.from({length: n}, (_, i) => 'A' + i + ' = ' + ($2))].join('\t'))" >"$folder/asked"
+        took=$(best "$program")
+        sed -i 1d "$folder/told"
+        tell "$1" "$count" "$empty" "$took"
     done
 }
 

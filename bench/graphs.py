@@ -3,11 +3,11 @@
 
     bench/graphs.py
 
-It builds crates/graph_cases with `rt run`, writes edges for each shape and size, and times the program on them: reading and
+It builds crates/module_cases with `rt run`, writes edges for each shape and size, and times the program on them: reading and
 printing them is in it. Twice the size should take about twice the time."""
 import os, random, subprocess, sys, time
 
-crate = os.path.join(os.path.dirname(os.path.abspath(__file__)), '..', 'crates', 'graph_cases')
+crate = os.path.join(os.path.dirname(os.path.abspath(__file__)), '..', 'crates', 'module_cases')
 
 
 def chain(count, edges):
@@ -51,11 +51,11 @@ def main():
         sys.exit('rt run failed')
     for shape, count, edges in RUNS:
         lists = shape(count, edges)
-        text = (str(lists) + '\n').encode()
+        text = ('# graphs\n' + str(lists) + '\n').encode()
         start = time.perf_counter()
-        answer = subprocess.run([os.path.join(crate, 'out', 'graph_cases')], input=text, stdout=subprocess.PIPE).stdout.decode()
+        answer = subprocess.run([os.path.join(crate, 'out', 'module_cases')], input=text, stdout=subprocess.PIPE).stdout.decode()
         spent = (time.perf_counter() - start) * 1000
-        parts = answer.rstrip('\n').split('\t')
+        parts = answer.splitlines()[-1].split('\t')
         found = [len(eval(part)) for part in parts[1:]]
         print(f'{shape.__name__:>14} {count:>7} numbers {sum(map(len, lists)):>7} edges: {found[0]:>7} components {found[1]:>7} waves {spent:>8.1f} ms')
 

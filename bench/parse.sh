@@ -2,10 +2,10 @@
 # Lexing and reading of modules: megabytes a second and the peak of memory, on declarations and on dense code, each from 64 KiB
 # to a megabyte, beside TypeScript's own parser; and chains of 100,000 operators, which take time in proportion. Both read ten times
 # before their ten measured rounds, and measure by a clock of their own; ours lets go of tokens and tree within its rounds.
-# `rt run` in crates/parse_run builds the program that it measures.
+# `rt run` in crates/text_cases builds the program that it measures.
 cd "$(dirname "$0")" || exit 1
-program=../crates/parse_run/out/parse_run
-[ -x "$program" ] || { echo "build it first: rt run in crates/parse_run" >&2; exit 1; }
+program=../crates/text_cases/out/text_cases
+[ -x "$program" ] || { echo "build it first: rt run in crates/text_cases" >&2; exit 1; }
 folder=$(mktemp -d)
 trap 'rm -rf "$folder"' EXIT
 node source.js >"$folder/declarations.js"

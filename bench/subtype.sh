@@ -3,10 +3,10 @@
 # question, and how many times those of the line before they are. They are the processor's in the shortest of five runs, less
 # those of a run that reads the same types and aliases and asks whether `any` is below `any`. Tagged objects are asked each with
 # each, and coprime cycles meet in so many pairs too: four times is in proportion there.
-# `rt run` in crates/subtype_cases builds the program that it measures.
+# `rt run` in crates/type_cases builds the program that it measures.
 cd "$(dirname "$0")" || exit 1
-program=${PROGRAM:-../crates/subtype_cases/out/subtype_cases}
-[ -x "$program" ] || { echo "build it first: rt run in crates/subtype_cases" >&2; exit 1; }
+program=${PROGRAM:-../crates/type_cases/out/type_cases}
+[ -x "$program" ] || { echo "build it first: rt run in crates/type_cases" >&2; exit 1; }
 folder=$(mktemp -d)
 trap 'rm -rf "$folder"' EXIT
 cat >"$folder/shapes.js" <<'END'
@@ -30,7 +30,7 @@ const [a, b, ...aliases] = {
     'two cycles of aliases that differ at the end': () => ['A0', 'B0', ...cycle('A', n, 'number'), ...cycle('B', n, 'string')],
     'two cycles of coprime lengths': () => ['A0', 'B0', ...cycle('A', n, 'string'), ...cycle('B', n + 1, 'string')],
 }[shape]();
-const write = (name, fields) => require('fs').writeFileSync(`${folder}/${name}`, fields.join('\t') + '\n');
+const write = (name, fields) => require('fs').writeFileSync(`${folder}/${name}`, '# subtyping\n' + fields.join('\t') + '\n');
 write('asked', [a, b, ...aliases]);
 write('read', ['any', 'any', `First = ${a}`, `Second = ${b}`, ...aliases]);
 END
@@ -44,7 +44,7 @@ grow() { # SHAPE SIZE..
     for size in "${@:2}"; do
         node "$folder/shapes.js" "$shape" "$size" "$folder" || exit 1
         took=$(awk -v read="$(best read)" -v asked="$(best asked)" 'BEGIN { print (asked - read) * 1e3 }')
-        awk -v name="$shape: $size" -v answer="$(cut -f 1 "$folder/told")" -v took="$took" -v before="$before" \
+        awk -v name="$shape: $size" -v answer="$(tail -n 1 "$folder/told" | cut -f 1)" -v took="$took" -v before="$before" \
             'BEGIN { printf "%s, %s, %.0f ms%s\n", name, answer, took, (before > 0 ? sprintf(", x %.1f", took / before) : "") }'
         before=$took
     done

@@ -1,50 +1,61 @@
-//! Reads the types that its input names, one a line behind `Type` or `Type0`, and prints what reading
-//! answers: how many tokens the type has, or the token at which the fault stands. `Type0` has no
-//! function type outside brackets. What must be printed is told by the grammar.
+//! Reads cases of types by sections, and prints the answers. A line `# WORD` begins a section, and is printed as it is; each other
+//! line is answered as the module of its section says. What must be printed comes from the language's description.
 #![tactic(auto)]
 
-use js_lexer::lex;
-use std::alloc::Global;
-use std::{fmt, io};
-use type_parser::{ParseFault, read_type};
+mod example;
+mod facts;
+mod members;
+mod narrowed;
+mod reading;
+mod subtypes;
+mod texts;
 
-/// What reading a type answers.
+use std::alloc::Global;
+use std::io;
+
+/// What the lines of a section are.
 #[derive(Clone, Copy)]
-enum Outcome {
-    Whole { tokens: usize },
-    Fault { token: usize },
-    NoTokens,
-    NoMemory,
+enum Section {
+    Types,
+    Members,
+    Subtyping,
+    Narrowing,
+    Facts,
 }
 
-impl fmt::Display for Outcome {
-    fn fmt<W: fmt::Write>(&self, f: &mut fmt::Formatter<W>) -> fmt::Result {
-        match self {
-            Outcome::Whole { tokens } => write!(f, "a type of {tokens} tokens"),
-            Outcome::Fault { token } => write!(f, "a fault at token {token}"),
-            Outcome::NoTokens => write!(f, "no tokens"),
-            Outcome::NoMemory => write!(f, "no memory"),
-        }
+// The section that a line begins.
+fn section_of(line: &str) -> Option<Section> {
+    match line {
+        "# types" => Some(Section::Types),
+        "# members" => Some(Section::Members),
+        "# subtyping" => Some(Section::Subtyping),
+        "# narrowing" => Some(Section::Narrowing),
+        "# facts" => Some(Section::Facts),
+        _ => None,
     }
 }
 
-fn reading(alloc: Global, source: &str, plain: bool) -> Outcome {
-    let Ok(tokens) = lex(alloc, source.as_bytes()) else {
-        return Outcome::NoTokens;
-    };
-    match read_type(alloc, tokens.as_slice(), 0, plain) {
-        Ok((_, tokens)) => Outcome::Whole { tokens },
-        Err(ParseFault::At { token }) => Outcome::Fault { token },
-        Err(ParseFault::NoMemory) => Outcome::NoMemory,
+// Prints what a line of a section answers.
+fn report(rt: &impl Print, alloc: Global, section: Option<Section>, line: &str) -> io::Result<()> {
+    match section {
+        Some(Section::Types) => reading::report(rt, alloc, line),
+        Some(Section::Members) => members::report(rt, alloc, line),
+        Some(Section::Subtyping) => subtypes::report(rt, alloc, line),
+        Some(Section::Narrowing) => narrowed::report(rt, alloc, line),
+        Some(Section::Facts) => facts::report(rt, alloc, line),
+        None => println!(rt; "in no section: {line}"),
     }
 }
 
 fn main(rt: HostRuntime) -> io::Result<()> {
+    let mut section = None;
     for line in rt.lines(rt.alloc()) {
         let line = line?;
-        if let Some((form, source)) = line.split_once(' ') {
-            let outcome = reading(rt.alloc(), source, form == "Type");
-            println!(rt; "{form} {source}: {outcome}")?;
+        if let Some(next) = section_of(line.as_str()) {
+            section = Some(next);
+            println!(rt; "{line}")?;
+        } else {
+            report(&rt, rt.alloc(), section, line.as_str())?;
         }
     }
     Ok(())

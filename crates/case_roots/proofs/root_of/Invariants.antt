@@ -1,6 +1,0 @@
-use Rattle.std.proofs.Common.{◌≡◌, take}
-use Rattle.check_values.specs.Roots.{paths_of_rows}
-use Rattle.case_roots.proofs.root_of.Given as goal
-
-abbrev pub invariant-loop-i : goal.invariant-loop-i
-invariant-loop-i l = paths_of_rows l.modules ≡ take l.i l.paths
