@@ -3,6 +3,7 @@ ghost use Rattle.std.specs.Prelude.{refl};
 
 mod calls;
 mod rows;
+mod running;
 mod teller;
 mod worlds;
 
