@@ -90,8 +90,8 @@ row_vacant : (root : Root) (results : List Results) (row : ℕ) → names (rows_
 row_vacant root results row unnamed = (
   one (parse_entity row) (omega arith) (record { low = omega arith; high = omega arith }),
   (
-      one (deps_entity row) (omega arith) (record { low = omega arith; high = omega arith }),
-      (one (signature_entity row) (omega arith) (record { low = omega arith; high = omega arith }), (one (errors_entity row) (omega arith) (record { low = omega arith; high = omega arith }), tt)),
+    one (deps_entity row) (omega arith) (record { low = omega arith; high = omega arith }),
+    (one (signature_entity row) (omega arith) (record { low = omega arith; high = omega arith }), (one (errors_entity row) (omega arith) (record { low = omega arith; high = omega arith }), tt)),
   ),
 )
   where
