@@ -9,3 +9,4 @@ pub mod Taking
 pub mod Again
 pub mod Freshening
 pub mod Settling
+pub mod Staying

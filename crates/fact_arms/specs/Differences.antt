@@ -90,6 +90,12 @@ pub record GoesBack (old new : Trail) : Type 0 where
   pub moments : KeepsMoments (length new.changes.items) old new
   pub fresh : (s : Slot) → IsNew s old → IsNew s new
 
+-- the moments up to this number stay, and no slot gets its first fact
+pub record KeepsUpTo (number : ℕ) (old new : Trail) : Type 0 where
+  pub within : number ≤ length new.changes.items
+  pub moments : KeepsMoments number old new
+  pub fresh : (s : Slot) → IsNew s old → IsNew s new
+
 -- the last change goes from the trail to a difference
 pub record TakesLast (old new : Difference) (before after : Trail) : Type 0 where
   pub made : over new (map_of after) ≡ over old (map_of before)

@@ -13,4 +13,4 @@ mod trails;
 pub use difference::Difference;
 pub use gathered::Gathered;
 pub use joining::{Joins, meet};
-pub use trails::go_back;
+pub use trails::{go_back, go_back_or_stay};

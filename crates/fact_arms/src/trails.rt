@@ -1,16 +1,17 @@
 //! Differences and trails: taking one off a trail, and making it again.
-ghost use Rattle.std.specs.Prelude.{◌≡◌, ◌&&◌, ◌<◌, ◌≤◌, ◌+◌, false, true, length, OnOk, IfOk, Some, None, if◌then◌else◌};
+ghost use Rattle.std.specs.Prelude.{◌≡◌, ◌&&◌, ◌<◌, ◌≤◌, ◌+◌, false, true, length, vec_capacity, OnOk, OnErr, IfOk, Some, None, if◌then◌else◌};
 ghost use Rattle.std.specs.Option.{is_some};
 ghost use Rattle.fact_trail.specs.declared.slot.Slot.{Slot};
 ghost use Rattle.fact_trail.specs.Slots.{at_slot, is_slot, is_variable, is_property};
 ghost use Rattle.fact_trail.specs.Moments.{map_of, map_at, KeepsMoments, IsNew, Adds};
-ghost use Rattle.fact_arms.specs.Differences.{SameTypes, GoesBack, class_gone, is_gone};
+ghost use Rattle.fact_trail.specs.Spares.{spare_map, CanTake};
+ghost use Rattle.fact_arms.specs.Differences.{SameTypes, GoesBack, KeepsUpTo, class_gone, is_gone};
 ghost use Rattle.fact_arms.specs.Joining.{said_at};
 
 use crate::Difference;
 use crate::gone::Gone;
 use crate::slots::add_said;
-use fact_trail::{Fact, Slot, Trail};
+use fact_trail::{Fact, Slot, Spare, Trail};
 use flow_values::NoMemory;
 use std::alloc::Global;
 
@@ -66,12 +67,48 @@ pub fn go_back(trail: &mut Trail, number: usize) -> Result<(), NoMemory>
     ensures back { OnOk result (map_of trail.new ≡ map_at number trail.old) }
     ensures within { number ≤ length trail.new.changes.items }
     ensures goes { GoesBack trail.old trail.new }
+    ensures capacity { vec_capacity trail.old.changes ≤ vec_capacity trail.new.changes }
 {
     while trail.len() > number {
         let change = trail.undo()?;
         drop(change);
     }
     Ok(())
+}
+
+// Takes the changes of a trail back, or takes over a copy of its facts.
+fn go_back_over(trail: &mut Trail, number: usize, spare: Spare) -> Result<(), NoMemory>
+    requires within { number ≤ length trail.old.changes.items }
+    requires room { CanTake spare trail.old }
+    requires copy { spare_map spare ≡ map_of trail.old }
+    ensures back { OnOk result (map_of trail.new ≡ map_at number trail.old) }
+    ensures stays { OnErr result (map_of trail.new ≡ map_of trail.old) }
+    ensures keeps { KeepsUpTo number trail.old trail.new }
+{
+    match go_back(trail, number) {
+        Ok(()) => Ok(()),
+        Err(refused) => {
+            trail.take_over(spare);
+            Err(refused)
+        }
+    }
+}
+
+/// Takes the changes of a trail back, down to this number of them, or leaves the facts as they are. It
+/// copies all facts before, so that they can be left.
+///
+/// # Errors
+///
+/// `NoMemory` where memory is refused, or a part of a type has 2^63 - 1 owners. The facts then stay,
+/// and those of the moments up to this number.
+pub fn go_back_or_stay(trail: &mut Trail, number: usize) -> Result<(), NoMemory>
+    requires { number ≤ length trail.old.changes.items }
+    ensures back { OnOk result (map_of trail.new ≡ map_at number trail.old) }
+    ensures stays { OnErr result (map_of trail.new ≡ map_of trail.old) }
+    ensures keeps { KeepsUpTo number trail.old trail.new }
+{
+    let spare = trail.spare()?;
+    go_back_over(trail, number, spare)
 }
 
 impl Difference {

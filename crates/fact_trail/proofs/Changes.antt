@@ -12,7 +12,7 @@ use Rattle.fact_trail.specs.declared.variables.Variables.{Variables}
 use Rattle.fact_trail.specs.declared.properties.Properties.{Properties}
 use Rattle.fact_trail.specs.declared.trail.Trail.{Trail}
 use Rattle.fact_trail.specs.declared.trail.Change.{Change}
-use Rattle.fact_trail.specs.declared.trail.Change.TheVariants.{At, Variables as all_variables, Properties as all_properties}
+use Rattle.fact_trail.specs.declared.trail.Change.TheVariants.{At, Variables as all_variables}
 use Rattle.fact_trail.specs.declared.slot.Slot.TheVariants.{Variable, Property}
 use Rattle.fact_trail.specs.Rows.{variables_of, class_facts_of, properties_of}
 use Rattle.fact_trail.specs.Slots.{Key, Slot, Map, at_slot, is_slot, is_class, is_variable, without}

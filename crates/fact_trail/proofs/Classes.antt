@@ -1,5 +1,5 @@
 -- Facts on variables by their classes.
-use Rattle.std.proofs.Common.{◌≡◌, ◌≤◌, ◌<◌, ℕ, Bool, true, false, not, List, [], Option, Some, None, MatchOption, Result, Ok, Err, OnOk, OnErr, nat_lt, refl, sym, ap, ◌∙◌, subst, cond, if◌then◌else◌, arith}
+use Rattle.std.proofs.Common.{◌≡◌, ◌≤◌, ◌<◌, ℕ, Bool, true, false, not, [], Option, Some, None, MatchOption, Result, Ok, Err, OnOk, OnErr, nat_lt, refl, sym, ap, ◌∙◌, subst, cond, if◌then◌else◌, arith}
 use Rattle.std.specs.Map.{lookup}
 use Rattle.std.specs.Option.{is_some, IfSome, IfNone}
 use Rattle.std.specs.Ordering.{nat_cmp}
@@ -133,7 +133,7 @@ pub set_changing : {T E : Type 0} (r : Result T E) (old new : Variables) (a : �
 set_changing (Ok x) old new a v k tells fails is same = changed_changing old new a v k tells fails is same
 set_changing (Err x) old new a v k tells fails is same = tt
 
-same_both : (c c' d d' : ℕ → Option Fact) → c' ≡ c → d' ≡ d → both c' d' ≡ both c d
+pub same_both : (c c' d d' : ℕ → Option Fact) → c' ≡ c → d' ≡ d → both c' d' ≡ both c d
 same_both c c' d d' one two = λ i q. if is_constant_number q then one i q else two i q
 
 pub same_constants : {T E : Type 0} (r : Result T E) (old new : Variables) → OnErr r (class_facts_of new.constants ≡ class_facts_of old.constants) → new.changing ≡ old.changing → OnErr r (variables_of new ≡ variables_of old)

@@ -1,9 +1,9 @@
 -- Changes of maps, by variables and properties.
-use Rattle.std.proofs.Common.{◌≡◌, ◌==◌, ℕ, Bool, true, false, Option, None, Result, Ok, Err, OnOk, OnErr, refl, sym, ap, ◌∙◌, if◌then◌else◌}
+use Rattle.std.proofs.Common.{◌≡◌, ℕ, Bool, true, false, Option, None, Result, Ok, Err, OnOk, OnErr, refl, sym, ap, ◌∙◌, if◌then◌else◌}
 use Rattle.std.proofs.lemmas.Bool.{eqb-true}
 use Rattle.fact_trail.specs.declared.fact.Fact.{Fact}
 use Rattle.fact_trail.specs.declared.slot.Slot.TheVariants.{Variable, Property}
-use Rattle.fact_trail.specs.Slots.{Key, Slot, Map, at_number, at_key, at_slot, is_slot, is_named, is_of, is_class, is_variable, is_property, without}
+use Rattle.fact_trail.specs.Slots.{Key, Slot, Map, at_number, at_key, at_slot, is_slot, is_named, is_other_named, is_of, is_class, is_variable, is_property, without}
 use Rattle.fact_trail.proofs.Same.{same_slot}
 
 -- a change of a property, which leaves the variables
@@ -41,6 +41,10 @@ all_dropped gone m n others none = λ i s. at s (gone s) refl i
 pub named_gone : (n : Map) (name : ℕ) → ((k : Key) → k.name ≡ name → n (Property k) ≡ None) → (s : Slot) → is_named name s ≡ true → n s ≡ None
 named_gone n name none (Variable b) is = cc
 named_gone n name none (Property k) is = none k (sym (eqb-true name k.name is))
+
+pub others_gone : (n : Map) (key : Key) → ((k : Key) → is_other_named key (Property k) ≡ true → n (Property k) ≡ None) → (s : Slot) → is_other_named key s ≡ true → n s ≡ None
+others_gone n key none (Variable b) is = cc
+others_gone n key none (Property k) is = none k is
 
 pub of_gone : (n : Map) (binding : ℕ) → ((k : Key) → k.binding ≡ binding → n (Property k) ≡ None) → (s : Slot) → is_of binding s ≡ true → n s ≡ None
 of_gone n binding none (Variable b) is = cc

@@ -1,11 +1,14 @@
 -- The first key from a place on.
-use Rattle.std.proofs.Common.{◌≡◌, ℕ, ◌≤◌, ◌<◌, Bool, true, false, IsTrue, sym, ◌∙◌, List, ◌∷◌, slice_get, Option, Some, None, refl, ap, subst, arith}
+use Rattle.std.proofs.Common.{◌≡◌, ℕ, ◌≤◌, ◌<◌, ◌==◌, ◌&&◌, not, Bool, true, false, IsTrue, Ordering, sym, ◌∙◌, List, ◌∷◌, slice_get, Option, Some, None, refl, ap, subst, arith}
 use Rattle.std.specs.Ordering.{nat_cmp, is_eq, is_gt, ordering_then}
 use Rattle.std.specs.Option.{is_some, IsSome, IfSome}
 use Rattle.std.specs.BTreeMap.Range.{IsLeBy, IsLtBy}
-use Rattle.std.specs.declared.cmp.Ordering.TheVariants.{Less}
+use Rattle.std.specs.declared.cmp.Ordering.TheVariants.{Less, Equal, Greater}
+use Rattle.std.proofs.lemmas.Bool.{eqb-true, eq-eqb}
 use Rattle.std.proofs.lemmas.Bool.Decides.{nat_tests}
-use Rattle.fact_trail.specs.Slots.{Key, Turned, key_cmp, turned_cmp, turn}
+use Rattle.fact_trail.specs.declared.slot.Slot.TheVariants.{Property}
+use Rattle.fact_trail.specs.Slots.{Key, Turned, key_cmp, turned_cmp, turn, is_key, is_other_named}
+use Rattle.fact_trail.proofs.Same.{same_key}
 
 then_le : (a b c d : ℕ) → is_gt (ordering_then (nat_cmp a b) (nat_cmp c d)) ≡ false → a ≤ b
 then_le a b c d is = grind (arith, nat_tests)
@@ -124,3 +127,75 @@ next_number {T} m low all rest e are above least = (
         let under = from_not_gt e.0 b first in
         omega (arith, before, under)
         )
+
+-- the first key from a name on is of the name: so it is the first one of the name
+pub least_named : {T : Type 0} (m : Key → Option T) (name : ℕ) (all rest : List (Key × T)) (e : Key × T) → all ≡ e ∷ rest →
+    IfSome (slice_get all 0) (λ x. (IsLeBy key_cmp (low name) x.0 × Unit {0}) × (m x.0 ≡ Some x.1)) →
+    ((q : Key) → IsLeBy key_cmp (low name) q × Unit {0} → IsSome (m q) → IfSome (slice_get all 0) (λ x. IsLeBy key_cmp x.0 q)) →
+    e.0.name ≡ name → (e.0.name ≡ name) × (is_some (m e.0) ≡ true) × ((q : Key) → q.name ≡ name → is_some (m q) ≡ true → IsLeBy key_cmp e.0 q)
+least_named {T} m name all rest e are above least here = (
+  here,
+  ap is_some (subst (λ (l : List (Key × T)). IfSome (slice_get l 0) (λ x. (IsLeBy key_cmp (low name) x.0 × Unit {0}) × (m x.0 ≡ Some x.1))) are above).1,
+  λ q same some. subst (λ (l : List (Key × T)). IfSome (slice_get l 0) (λ x. IsLeBy key_cmp x.0 q)) are (least q (low_first name q same, tt) some),
+)
+
+after_apart : (p q : Key) → key_cmp p q ≡ Less → is_eq (key_cmp p q) ≡ false
+after_apart p q is = ap is_eq is
+
+-- the first key behind another one is of its name
+pub next_named : {T : Type 0} (m : Key → Option T) (key : Key) (all rest : List (Key × T)) (e : Key × T) → all ≡ e ∷ rest →
+    IfSome (slice_get all 0) (λ x. (IsLtBy key_cmp key x.0 × Unit {0}) × (m x.0 ≡ Some x.1)) →
+    e.0.name ≡ key.name → (e.0.name ≡ key.name) × (is_key key e.0 ≡ false) × (is_some (m e.0) ≡ true)
+next_named {T} m key all rest e are above here =
+    let first = subst (λ (l : List (Key × T)). IfSome (slice_get l 0) (λ x. (IsLtBy key_cmp key x.0 × Unit {0}) × (m x.0 ≡ Some x.1))) are above in
+    (here, after_apart key e.0 first.0.0, ap is_some first.1)
+
+less_le : (a b c d : ℕ) → ordering_then (nat_cmp a b) (nat_cmp c d) ≡ Less → a ≤ b
+less_le a b c d is = grind (arith, nat_tests)
+
+-- it is of another name: so no key behind it is of the name
+pub none_behind : {T : Type 0} (m : Key → Option T) (key : Key) (all rest : List (Key × T)) (e : Key × T) → all ≡ e ∷ rest →
+    IfSome (slice_get all 0) (λ x. (IsLtBy key_cmp key x.0 × Unit {0}) × (m x.0 ≡ Some x.1)) →
+    ((q : Key) → IsLtBy key_cmp key q × Unit {0} → IsSome (m q) → IfSome (slice_get all 0) (λ x. IsLeBy key_cmp x.0 q)) →
+    (e.0.name ≡ key.name → ⊥) → (q : Key) → q.name ≡ key.name → IsLtBy key_cmp key q → m q ≡ None
+none_behind {T} m key all rest e are above least other q same after = at (m q) refl
+  where
+    at : (o : Option T) → m q ≡ o → o ≡ None
+    at None is = refl
+    at (Some t) is = absurd (other (
+        let first = subst (λ (l : List (Key × T)). IfSome (slice_get l 0) (λ x. (IsLtBy key_cmp key x.0 × Unit {0}) × (m x.0 ≡ Some x.1))) are above in
+        let from = less_le key.name e.0.name key.binding e.0.binding first.0.0 in
+        let next = subst (λ (l : List (Key × T)). IfSome (slice_get l 0) (λ x. IsLeBy key_cmp x.0 q)) are (least q (after, tt) (ap is_some is)) in
+        let up = then_le e.0.name q.name e.0.binding q.binding next in
+        omega (arith, from, up, same)
+        ))
+
+-- ---- another key of a name
+
+less_or_equal : (o : Ordering) → is_gt o ≡ false → is_eq o ≡ false → o ≡ Less
+less_or_equal Less above apart = refl
+less_or_equal Equal above apart = cc
+less_or_equal Greater above apart = cc
+
+name_of_other : (key k : Key) → is_other_named key (Property k) ≡ true → (k.name ≡ key.name) × (is_key key k ≡ false)
+name_of_other key k is = parts (key.name == k.name) (is_key key k) refl is
+  where
+    parts : (b c : Bool) → (key.name == k.name) ≡ b → (b && not c) ≡ true → (k.name ≡ key.name) × (c ≡ false)
+    parts true false same both = (sym (eqb-true key.name k.name same), refl)
+    parts true true same both = cc
+    parts false c same both = cc
+
+-- a key of the name that is another one
+pub is_other : (key k : Key) → k.name ≡ key.name → is_key key k ≡ false → is_other_named key (Property k) ≡ true
+is_other key k same apart = (λ i. eq-eqb key.name k.name (sym same) i && not (apart i))
+
+-- the first one of the name is the key itself, and none is behind it
+pub no_other : {T : Type 0} (m : Key → Option T) (key first : Key) → is_key first key ≡ true → ((k : Key) → k.name ≡ key.name → is_some (m k) ≡ true → IsLeBy key_cmp first k) →
+    ((k : Key) → k.name ≡ key.name → IsLtBy key_cmp key k → m k ≡ None) → (k : Key) → is_other_named key (Property k) ≡ true → m k ≡ None
+no_other {T} m key first same least behind k is = at (m k) refl
+  where
+    at : (o : Option T) → m k ≡ o → m k ≡ None
+    at None none = none
+    at (Some t) some =
+        let other = name_of_other key k is in
+        behind k other.0 (less_or_equal (key_cmp key k) (subst (λ p. IsLeBy key_cmp p k) (same_key first key same) (least k other.0 (ap is_some some))) other.1)

@@ -9,7 +9,7 @@ use Rattle.std.specs.BTreeMap.{BTreeMap, get, is_at, Updates, btree_map_len}
 use Rattle.std.specs.BTreeSet.{BTreeSet, contains}
 use Rattle.std.specs.BTreeSet as sets
 use Rattle.fact_trail.specs.declared.fact.Fact.{Fact}
-use Rattle.fact_trail.specs.Slots.{Key, Turned, key_cmp, turned_cmp, turn, is_number, is_key, is_rough_at}
+use Rattle.fact_trail.specs.Slots.{Key, Turned, key_cmp, turned_cmp, turn, is_key, is_rough_at}
 use Rattle.fact_trail.proofs.Same.{same_number, same_key, turned_alike}
 
 -- the same keys
@@ -169,3 +169,11 @@ none_in {K} cmp r none c = ap (lookup (is_at (cmp c))) (at r.entries refl)
     at : (es : List (K × Fact)) → r.entries ≡ es → r.entries ≡ []
     at [] is = is
     at (e ∷ es) is = absurd (let some = ap length is in omega (arith, none, some))
+
+-- a key whose turned key is not in the set has no fact
+pub turned_absent : (rows : Key → Option Fact) (in_set : Turned → Bool) (b : Key) (t : Turned) → t ≡ turn b → ((k : Key) → is_some (rows k) ≡ true → in_set (turn k) ≡ true) → in_set t ≡ false → rows b ≡ None
+turned_absent rows in_set b t turned kept absent = at (rows b) refl
+  where
+    at : (o : Option Fact) → rows b ≡ o → o ≡ None
+    at None is = refl
+    at (Some fact) is = absurd (let clash : true ≡ false = sym (kept b (ap is_some is)) ∙ ap in_set (sym turned) ∙ absent in cc)

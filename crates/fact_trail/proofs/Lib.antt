@@ -6,3 +6,5 @@ pub mod Classes
 pub mod Dropped
 pub mod Changes
 pub mod Waiting
+pub mod Planning
+pub mod Sparing

@@ -1,10 +1,9 @@
 -- Keys and slots that are compared as equal are the same.
-use Rattle.std.proofs.Common.{◌≡◌, ℕ, nat_eq, true, false, Ordering, refl, sym, ap, ◌∙◌, arith}
-use Rattle.std.specs.declared.cmp.Ordering.TheVariants.{Less, Equal, Greater}
+use Rattle.std.proofs.Common.{◌≡◌, ℕ, nat_eq, Bool, true, false, refl, sym, ap, ◌∙◌, arith}
 use Rattle.std.specs.Ordering.{nat_cmp, is_eq, ordering_then}
 use Rattle.std.proofs.lemmas.Bool.Decides.{nat_tests}
 use Rattle.fact_trail.specs.declared.slot.Slot.TheVariants.{Variable, Property}
-use Rattle.fact_trail.specs.Slots.{Key, Turned, Slot, key_cmp, turned_cmp, turn, is_number, is_key, is_slot, is_property, is_named, is_of}
+use Rattle.fact_trail.specs.Slots.{Key, Slot, turned_cmp, turn, is_number, is_key, is_slot, is_named, is_other_named, is_of}
 
 pub then_equal : (a b c d : ℕ) → is_eq (ordering_then (nat_cmp a b) (nat_cmp c d)) ≡ true → (a ≡ b) × (c ≡ d)
 then_equal a b c d is = (grind (arith, nat_tests), grind (arith, nat_tests))
@@ -50,3 +49,11 @@ named_apart k (Property q) name here other = named_key k q name here other
 pub owned_apart : (k : Key) (s : Slot) (binding : ℕ) → k.binding ≡ binding → is_of binding s ≡ false → is_slot (Property k) s ≡ false
 owned_apart k (Variable b) binding here other = refl
 owned_apart k (Property q) binding here other = owned_key k q binding here other
+
+-- another slot than those that share the name of a property
+pub other_apart : (key k : Key) (s : Slot) → is_other_named key (Property k) ≡ true → is_other_named key s ≡ false → is_slot (Property k) s ≡ false
+other_apart key k s here left = at (is_slot (Property k) s) refl
+  where
+    at : (b : Bool) → is_slot (Property k) s ≡ b → is_slot (Property k) s ≡ false
+    at false other = other
+    at true same = absurd (let clash : true ≡ false = sym here ∙ ap (is_other_named key) (same_slot (Property k) s same) ∙ left in cc)

@@ -1,7 +1,6 @@
 -- What facts with their trail stand for: the facts now, and as they were after each number of changes.
-use Rattle.std.specs.Prelude.{ℕ, ◌≡◌, ◌≤◌, Bool, false, List, [], ◌∷◌, Option, None, drop, length, if◌then◌else◌}
+use Rattle.std.specs.Prelude.{ℕ, ◌≡◌, ◌≤◌, Bool, false, List, [], ◌∷◌, None, drop, length, if◌then◌else◌}
 use Rattle.std.specs.Option.{is_some}
-use Rattle.fact_trail.specs.declared.fact.Fact.{Fact}
 use Rattle.fact_trail.specs.declared.class_facts.ClassFacts.{ClassFacts}
 use Rattle.fact_trail.specs.declared.properties.Properties.{Properties}
 use Rattle.fact_trail.specs.declared.trail.Trail.{Trail}
@@ -63,6 +62,12 @@ pub record Adds (slot : Slot) (old new : Trail) : Type 0 where
   pub longer : length old.changes.items ≤ length new.changes.items
   pub moments : KeepsMoments (length old.changes.items) old new
   pub fresh : (s : Slot) → is_slot slot s ≡ false → IsNew s old → IsNew s new
+
+-- the moments before stay, and no slot gets its first fact
+pub record Extends (old new : Trail) : Type 0 where
+  pub longer : length old.changes.items ≤ length new.changes.items
+  pub moments : KeepsMoments (length old.changes.items) old new
+  pub fresh : (s : Slot) → IsNew s old → IsNew s new
 
 -- the facts on some slots go, and the moments before stay
 pub record Drops (gone : Slot → Bool) (old new : Trail) : Type 0 where

@@ -1,5 +1,5 @@
 -- Slots, which have facts, and maps from them.
-use Rattle.std.specs.Prelude.{ℕ, ◌==◌, Bool, true, false, not, nat_lt, Option, Some, None, if◌then◌else◌}
+use Rattle.std.specs.Prelude.{ℕ, ◌==◌, ◌&&◌, Bool, true, false, not, nat_lt, Option, Some, None, if◌then◌else◌}
 use Rattle.std.specs.Ordering.{nat_cmp, is_eq, ordering_then}
 use Rattle.std.specs.declared.cmp.Ordering.{Ordering}
 use Rattle.flow_facts.specs.Known.{is_constant_number}
@@ -77,6 +77,11 @@ first_of (Some x) (Some y) = if nat_lt y x then Some y else Some x
 abbrev pub is_named : ℕ → Slot → Bool
 is_named name (Variable b) = false
 is_named name (Property k) = name == k.name
+
+-- another property of the name of this one
+abbrev pub is_other_named : Key → Slot → Bool
+is_other_named key (Variable b) = false
+is_other_named key (Property k) = key.name == k.name && not (is_key key k)
 
 -- a property of this variable
 abbrev pub is_of : ℕ → Slot → Bool

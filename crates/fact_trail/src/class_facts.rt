@@ -8,6 +8,7 @@ ghost use Rattle.fact_trail.specs.Slots.{is_number, at_number, is_class, is_roug
 
 use crate::Fact;
 use crate::marks::mark;
+use flow_values::NoMemory;
 use std::alloc::Global;
 use std::collections::{BTreeMap, BTreeSet};
 use std::ops::Bound;
@@ -40,6 +41,26 @@ impl ClassFacts {
         }
     }
 
+    /// The same facts.
+    ///
+    /// # Errors
+    ///
+    /// `NoMemory` where memory is refused, or a part of a type has 2^63 - 1 owners.
+    #[tactic(auto)]
+    pub(crate) fn copy(&self) -> Result<ClassFacts, NoMemory>
+        ensures class { IfOk result (λ copy. copy.constant ≡ self.now.constant) }
+        ensures facts { IfOk result (λ copy. class_facts_of copy ≡ class_facts_of self.now) }
+        ensures len { IfOk result (λ copy. btree_map_len copy.rows ≡ btree_map_len self.now.rows) }
+    {
+        let rows = self.rows.clone()?;
+        let rough = self.rough.clone()?;
+        Ok(ClassFacts {
+            constant: self.constant,
+            rows,
+            rough,
+        })
+    }
+
     /// Whether they are those on constants.
     pub fn is_constant(&self) -> bool
         ensures { result ≡ self.now.constant }
@@ -70,7 +91,7 @@ impl ClassFacts {
     }
 
     /// Sets a variable's fact, and gives the one before it. Where memory is refused, the fact comes
-    /// back.
+    /// back. It is only for a variable without a fact, and for a rough one.
     #[tactic(auto, using(crate::proofs::Kept::number_set, crate::proofs::Kept::number_refused, crate::proofs::Classes::own_after))]
     pub(crate) fn insert(&mut self, binding: u32, fact: Fact) -> Result<Option<Fact>, Fact>
         requires { is_class self.old.constant binding ≡ true }
@@ -79,6 +100,7 @@ impl ClassFacts {
         ensures was { IfOk result (λ was. was ≡ class_facts_of self.old binding) }
         ensures err { OnErr result (class_facts_of self.new ≡ class_facts_of self.old) }
         ensures back { IfErr result (λ back. back ≡ fact) }
+        ensures kept { OnErr result (fact.rough ≡ false → class_facts_of self.old binding ≡ None) }
         ensures len { IfOk result (λ was. btree_map_len self.new.rows ≡ btree_map_len self.old.rows + (if is_some was then 0 else 1)) }
         ensures err_len { OnErr result (btree_map_len self.new.rows ≡ btree_map_len self.old.rows) }
     {

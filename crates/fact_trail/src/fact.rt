@@ -4,7 +4,7 @@ ghost use Rattle.type_terms.specs.Join.{join_of};
 ghost use Rattle.fact_trail.specs.Holding.{type_held};
 
 use flow_values::{List, NoMemory};
-use std::alloc::Global;
+use std::alloc::{AllocError, Global};
 use type_terms::join;
 use type_values::FlowType;
 
@@ -13,6 +13,7 @@ use type_values::FlowType;
 /// place are made at once.
 #[derive(Drop)]
 pub struct Fact {
+    alloc: Global,
     ty: FlowType,
     // The types with which it is to be joined, those in front of it, the first one last.
     waiting: List<FlowType>,
@@ -46,16 +47,54 @@ fn reversed(alloc: Global, types: &[FlowType]) -> Result<List<FlowType>, NoMemor
     Ok(all)
 }
 
+// The same types.
+fn all_shared(alloc: Global, types: &[FlowType]) -> Result<List<FlowType>, NoMemory>
+    ensures { IfOk result (λ all. all ≡ types.now) }
+{
+    let mut all = List::new(alloc);
+    for i in 0..types.len() {
+        all.push(types[i].share()?)?;
+    }
+    Ok(all)
+}
+
+impl Clone for Fact {
+    ghost is_clone = { λ fact copy. copy ≡ fact };
+
+    fn clone(&self) -> Result<Fact, AllocError> {
+        match self.again() {
+            Ok(copy) => Ok(copy),
+            Err(_) => Err(AllocError),
+        }
+    }
+}
+
 impl Fact {
     ghost use Rattle.fact_trail.specs.Types.{ty_of};
+
+    // The same fact, with the joins that wait.
+    fn again(&self) -> Result<Fact, NoMemory>
+        ensures { IfOk result (λ copy. copy ≡ self.now) }
+    {
+        let ty = self.ty.share()?;
+        let waiting = all_shared(self.alloc, self.waiting.as_slice())?;
+        Ok(Fact {
+            alloc: self.alloc,
+            ty,
+            waiting,
+            rough: self.rough,
+        })
+    }
 
     /// The fact of a type that is its own join with itself, as each join is.
     #[tactic(auto, using(crate::proofs::Waiting::held_alone, crate::proofs::Waiting::settled_alone))]
     pub fn settled(alloc: Global, ty: FlowType) -> Fact
         requires { join_of (ty ∷ ty ∷ []) ≡ ty }
-        ensures { ty_of result ≡ ty }
+        ensures ty { ty_of result ≡ ty }
+        ensures rough { result.rough ≡ false }
     {
         Fact {
+            alloc,
             ty,
             waiting: List::new(alloc),
             rough: false,
@@ -69,6 +108,7 @@ impl Fact {
     {
         let rough = may_change(&ty);
         Fact {
+            alloc,
             ty,
             waiting: List::new(alloc),
             rough,
@@ -87,6 +127,7 @@ impl Fact {
         ensures rough { IfOk result (λ fact. fact.rough ≡ false) }
     {
         let Fact {
+            alloc,
             ty,
             waiting,
             rough: _,
@@ -94,6 +135,7 @@ impl Fact {
         let mut more = waiting;
         more.push(first)?;
         Ok(Fact {
+            alloc,
             ty,
             waiting: more,
             rough: false,
@@ -137,6 +179,7 @@ impl Fact {
     {
         let ty = self.ty(alloc)?;
         Ok(Fact {
+            alloc,
             ty,
             waiting: List::new(alloc),
             rough: self.rough,

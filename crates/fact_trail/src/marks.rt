@@ -11,6 +11,7 @@ use std::collections::BTreeSet;
 pub(crate) fn mark<K: Ord + Copy>(set: &mut BTreeSet<K>, key: K, yes: bool) -> Result<(), NoMemory>
     ensures others { (k : K) → is_eq (K.cmp key k) ≡ false → contains K.cmp set.new k ≡ contains K.cmp set.old k }
     ensures here { OnOk result (yes ≡ true → contains K.cmp set.new key ≡ true) }
+    ensures only { OnErr result (yes ≡ true) }
     ensures err { OnErr result ((k : K) → contains K.cmp set.new k ≡ contains K.cmp set.old k) }
 {
     if yes {

@@ -3,11 +3,14 @@ ghost use Rattle.std.specs.Prelude.{◌≡◌, ◌<◌, ◌+◌, ◌^◌, ℕ, t
 ghost use Rattle.std.specs.Option.{option_copied, is_some, IfSome, IfNone};
 ghost use Rattle.std.specs.BTreeMap.{btree_map_len, get};
 ghost use Rattle.std.specs.BTreeSet.{contains, btree_set_len};
-ghost use Rattle.fact_trail.specs.Slots.{Key, is_key, key_cmp, turned_cmp, turn, at_key, is_rough_at};
+ghost use Rattle.std.specs.BTreeMap.Range.{IsLeBy, IsLtBy};
+ghost use Rattle.fact_trail.specs.declared.slot.Slot.TheVariants.{Property};
+ghost use Rattle.fact_trail.specs.Slots.{Key, is_key, is_other_named, key_cmp, turned_cmp, turn, at_key, is_rough_at};
 
 use crate::marks::mark;
 use crate::slot::Turned;
 use crate::{Fact, Key};
+use flow_values::NoMemory;
 use std::alloc::Global;
 use std::collections::{BTreeMap, BTreeSet};
 use std::ops::Bound;
@@ -48,6 +51,26 @@ impl Properties {
         }
     }
 
+    /// The same facts.
+    ///
+    /// # Errors
+    ///
+    /// `NoMemory` where memory is refused, or a part of a type has 2^63 - 1 owners.
+    #[tactic(auto)]
+    pub(crate) fn copy(&self) -> Result<Properties, NoMemory>
+        ensures facts { IfOk result (λ copy. properties_of copy ≡ properties_of self.now) }
+        ensures len { IfOk result (λ copy. btree_map_len copy.rows ≡ btree_map_len self.now.rows) }
+    {
+        let rows = self.rows.clone()?;
+        let turned = self.turned.clone()?;
+        let rough = self.rough.clone()?;
+        Ok(Properties {
+            rows,
+            turned,
+            rough,
+        })
+    }
+
     // The number of facts.
     pub(crate) fn len(&self) -> usize
         ensures len { result ≡ btree_map_len self.now.rows }
@@ -71,12 +94,13 @@ impl Properties {
     }
 
     /// Sets the fact at a key, and gives the one before it. Where memory is refused, the fact comes
-    /// back.
+    /// back. It is only for a key without a fact, and for a rough one.
     pub(crate) fn insert(&mut self, key: Key, fact: Fact) -> Result<Option<Fact>, Fact>
         ensures facts { OnOk result (properties_of self.new ≡ at_key key (Some fact) (properties_of self.old)) }
         ensures was { IfOk result (λ was. was ≡ properties_of self.old key) }
         ensures err { OnErr result (properties_of self.new ≡ properties_of self.old) }
         ensures back { IfErr result (λ back. back ≡ fact) }
+        ensures kept { OnErr result (fact.rough ≡ false → properties_of self.old key ≡ None) }
         ensures len { IfOk result (λ was. btree_map_len self.new.rows ≡ btree_map_len self.old.rows + (if is_some was then 0 else 1)) }
         ensures err_len { OnErr result (btree_map_len self.new.rows ≡ btree_map_len self.old.rows) }
     {
@@ -115,9 +139,10 @@ impl Properties {
         self.rows.pop_first()
     }
 
-    /// A key with this name and a fact.
+    /// The first key with this name and a fact.
     pub(crate) fn named(&self, name: usize) -> Option<Key>
-        ensures { MatchOption result ((k : Key) → k.name ≡ name → properties_of self.now k ≡ None) (λ key. (key.name ≡ name) × (is_some (properties_of self.now key) ≡ true)) }
+        ensures { MatchOption result ((k : Key) → k.name ≡ name → properties_of self.now k ≡ None)
+            (λ key. (key.name ≡ name) × (is_some (properties_of self.now key) ≡ true) × ((k : Key) → k.name ≡ name → is_some (properties_of self.now k) ≡ true → IsLeBy key_cmp key k)) }
     {
         let low = Key { name, binding: 0 };
         match self
@@ -133,6 +158,38 @@ impl Properties {
             }
             None => None,
         }
+    }
+
+    /// The first key behind this one with its name and a fact.
+    fn behind(&self, key: Key) -> Option<Key>
+        ensures { MatchOption result ((k : Key) → k.name ≡ key.name → IsLtBy key_cmp key k → properties_of self.now k ≡ None)
+            (λ next. (next.name ≡ key.name) × (is_key key next ≡ false) × (is_some (properties_of self.now next) ≡ true)) }
+    {
+        match self
+            .rows
+            .range((Bound::Excluded(key), Bound::Unbounded))
+            .next()
+        {
+            Some((next, _)) => {
+                if next.name == key.name {
+                    return Some(*next);
+                }
+                None
+            }
+            None => None,
+        }
+    }
+
+    /// Another key with the name of this one and a fact.
+    pub(crate) fn other(&self, key: Key) -> Option<Key>
+        ensures { MatchOption result ((k : Key) → is_other_named key (Property k) ≡ true → properties_of self.now k ≡ None)
+            (λ other. (is_other_named key (Property other) ≡ true) × (is_some (properties_of self.now other) ≡ true)) }
+    {
+        let first = self.named(key.name)?;
+        if first != key {
+            return Some(first);
+        }
+        self.behind(key)
     }
 
     /// A key of this variable, which may have a fact. Where there is none, no property of the

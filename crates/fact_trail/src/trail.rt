@@ -4,7 +4,7 @@ ghost use Rattle.std.specs.Option.{option_copied, is_some};
 ghost use Rattle.std.specs.BTreeMap.{btree_map_len};
 ghost use Rattle.std.specs.BTreeSet.{btree_set_len, contains};
 ghost use Rattle.fact_trail.specs.Rows.{facts_count};
-ghost use Rattle.fact_trail.specs.Slots.{Slot, turn, turned_cmp, at_slot, is_slot, is_variable, is_property, is_named, is_of, without};
+ghost use Rattle.fact_trail.specs.Slots.{Slot, turn, turned_cmp, at_slot, is_slot, is_variable, is_property, is_named, is_other_named, is_of, without};
 ghost use Rattle.fact_trail.specs.declared.slot.Slot.TheVariants.{Variable, Property};
 
 use crate::{ClassFacts, Fact, Key, Properties, Slot, Variables};
@@ -27,15 +27,19 @@ pub enum Change {
 #[derive(Drop)]
 pub struct Trail {
     alloc: Global,
-    variables: Variables,
-    properties: Properties,
-    changes: Vec<Change>,
+    pub(crate) variables: Variables,
+    pub(crate) properties: Properties,
+    pub(crate) changes: Vec<Change>,
     // Each fact has room for the change that drops it, so that dropping takes no memory.
     ghost room: { vec_len changes + (facts_count variables + btree_map_len properties.rows) ≤ vec_capacity changes },
 }
 
 // Makes room for this many changes and more.
-fn make_room(changes: &mut Vec<Change>, count: usize, more: usize) -> Result<(), NoMemory>
+pub(crate) fn make_room(
+    changes: &mut Vec<Change>,
+    count: usize,
+    more: usize,
+) -> Result<(), NoMemory>
     ensures room { OnOk result (vec_len changes.new + count + more ≤ vec_capacity changes.new) }
     ensures capacity { vec_capacity changes.old ≤ vec_capacity changes.new }
     ensures items { changes.new.items ≡ changes.old.items }
@@ -49,6 +53,7 @@ fn make_room(changes: &mut Vec<Change>, count: usize, more: usize) -> Result<(),
 
 impl Trail {
     ghost use Rattle.fact_trail.specs.Rows.{properties_of};
+    ghost use Rattle.fact_trail.specs.Room.{KeepsRoom};
     ghost use Rattle.fact_trail.specs.declared.trail.Change.TheVariants.{At, Variables as all_variables, Properties as all_properties};
     ghost use Rattle.fact_trail.specs.Moments.{map_of, before, KeepsMoments, IsNew, IsQuiet, Adds, Drops, TakesBack, IsSame};
 
@@ -105,20 +110,22 @@ impl Trail {
     }
 
     // The number of facts.
-    fn rows(&self) -> usize
+    pub(crate) fn rows(&self) -> usize
         ensures { result ≡ facts_count self.now.variables + btree_map_len self.now.properties.rows }
     {
         let _most = self.changes.capacity();
         self.variables.len() + self.properties.len()
     }
 
-    // Sets a fact, and gives the one before it, without a change on the trail.
-    fn set(&mut self, slot: Slot, fact: Fact) -> Result<Option<Fact>, Fact>
+    // Sets a fact, and gives the one before it, without a change on the trail. Memory is refused only
+    // where there was none, or for a rough one.
+    pub(crate) fn set(&mut self, slot: Slot, fact: Fact) -> Result<Option<Fact>, Fact>
         requires room { vec_len self.old.changes + (facts_count self.old.variables + btree_map_len self.old.properties.rows) < vec_capacity self.old.changes }
         ensures facts { OnOk result (map_of self.new ≡ at_slot slot (Some fact) (map_of self.old)) }
         ensures was { IfOk result (λ was. was ≡ map_of self.old slot) }
         ensures err { OnErr result (map_of self.new ≡ map_of self.old) }
         ensures back { IfErr result (λ back. back ≡ fact) }
+        ensures kept { OnErr result (fact.rough ≡ false → map_of self.old slot ≡ None) }
         ensures changes { self.new.changes ≡ self.old.changes }
         ensures rows { IfOk result (λ was. facts_count self.new.variables + btree_map_len self.new.properties.rows ≡ facts_count self.old.variables + btree_map_len self.old.properties.rows + (if is_some was then 0 else 1)) }
         ensures err_rows { OnErr result (facts_count self.new.variables + btree_map_len self.new.properties.rows ≡ facts_count self.old.variables + btree_map_len self.old.properties.rows) }
@@ -168,7 +175,8 @@ impl Trail {
 
     /// Drops the fact at a slot.
     pub fn remove(&mut self, slot: Slot)
-        ensures { Drops (is_slot slot) self.old self.new }
+        ensures drops { Drops (is_slot slot) self.old self.new }
+        ensures room { KeepsRoom self.old self.new }
     {
         match slot {
             Slot::Variable(binding) => self.drop_variable(binding),
@@ -178,7 +186,8 @@ impl Trail {
 
     // Drops the fact on a variable.
     fn drop_variable(&mut self, binding: u32)
-        ensures { Drops (is_slot (Variable binding)) self.old self.new }
+        ensures drops { Drops (is_slot (Variable binding)) self.old self.new }
+        ensures room { KeepsRoom self.old self.new }
     {
         if let Some(fact) = self.variables.remove(binding) {
             let slot = Slot::Variable(binding);
@@ -191,6 +200,7 @@ impl Trail {
         ensures drops { Drops (is_slot (Property key)) self.old self.new }
         ensures fewer { is_some (properties_of self.old.properties key) ≡ true → btree_map_len self.new.properties.rows < btree_map_len self.old.properties.rows }
         ensures turned { contains turned_cmp self.old.properties.turned (turn key) ≡ true → btree_set_len self.new.properties.turned < btree_set_len self.old.properties.turned }
+        ensures room { KeepsRoom self.old self.new }
     {
         if let Some(fact) = self.properties.remove(key) {
             let slot = Slot::Property(key);
@@ -231,6 +241,15 @@ impl Trail {
         }
     }
 
+    /// Drops the facts on the other properties of a property's name. It looks at no other facts.
+    pub fn drop_other_named(&mut self, key: Key)
+        ensures { Drops (is_other_named key) self.old self.new }
+    {
+        while let Some(other) = self.properties.other(key) {
+            self.drop_property(other);
+        }
+    }
+
     /// Drops the facts on the properties of a variable. It looks at no other facts.
     pub fn drop_of(&mut self, binding: u32)
         ensures { Drops (is_of binding) self.old self.new }
@@ -268,6 +287,7 @@ impl Trail {
         ensures quiet { IfOk result (λ change. (s : Slot) → IsNew s self.old → MatchOption change ⊤ (λ change. IsQuiet s change)) }
         ensures fresh { (s : Slot) → IsNew s self.old → IsNew s self.new }
         ensures err { OnErr result (IsSame self.old self.new) }
+        ensures capacity { vec_capacity self.old.changes ≤ vec_capacity self.new.changes }
     {
         match self.changes.pop() {
             Some(change) => Ok(Some(self.take_back(change)?)),
@@ -281,6 +301,7 @@ impl Trail {
         requires room { vec_len self.old.changes + (facts_count self.old.variables + btree_map_len self.old.properties.rows) < vec_capacity self.old.changes }
         ensures back { IfOk result (λ opposite. TakesBack change opposite self.old self.new) }
         ensures err { OnErr result ((map_of self.new ≡ map_of self.old) × (self.new.changes.items ≡ self.old.changes.items ++ change ∷ [])) }
+        ensures capacity { vec_capacity self.old.changes ≤ vec_capacity self.new.changes }
     {
         match change {
             Change::At(slot, fact) => self.put_back(slot, fact),
@@ -294,6 +315,7 @@ impl Trail {
         requires room { vec_len self.old.changes + (facts_count self.old.variables + btree_map_len self.old.properties.rows) < vec_capacity self.old.changes }
         ensures back { IfOk result (λ opposite. TakesBack (At slot fact) opposite self.old self.new) }
         ensures err { OnErr result ((map_of self.new ≡ map_of self.old) × (self.new.changes.items ≡ self.old.changes.items ++ At slot fact ∷ [])) }
+        ensures capacity { vec_capacity self.old.changes ≤ vec_capacity self.new.changes }
     {
         let Some(fact) = fact else {
             let before = self.unset(slot);
@@ -314,6 +336,7 @@ impl Trail {
         requires room { vec_len self.old.changes + (facts_count self.old.variables + btree_map_len self.old.properties.rows) < vec_capacity self.old.changes }
         ensures back { IfOk result (λ opposite. TakesBack (all_variables facts) opposite self.old self.new) }
         ensures err { OnErr result ((map_of self.new ≡ map_of self.old) × (self.new.changes.items ≡ self.old.changes.items ++ all_variables facts ∷ [])) }
+        ensures capacity { vec_capacity self.old.changes ≤ vec_capacity self.new.changes }
     {
         let rows = self.rows();
         if make_room(&mut self.changes, rows, facts.len()).is_err() {
@@ -329,6 +352,7 @@ impl Trail {
         requires room { vec_len self.old.changes + (facts_count self.old.variables + btree_map_len self.old.properties.rows) < vec_capacity self.old.changes }
         ensures back { IfOk result (λ opposite. TakesBack (all_properties properties) opposite self.old self.new) }
         ensures err { OnErr result ((map_of self.new ≡ map_of self.old) × (self.new.changes.items ≡ self.old.changes.items ++ all_properties properties ∷ [])) }
+        ensures capacity { vec_capacity self.old.changes ≤ vec_capacity self.new.changes }
     {
         let rows = self.rows();
         if make_room(&mut self.changes, rows, properties.len()).is_err() {

@@ -6,6 +6,7 @@ ghost use Rattle.fact_trail.specs.Slots.{at_number, is_class, first_of};
 
 use crate::slot::is_constant;
 use crate::{ClassFacts, Fact};
+use flow_values::NoMemory;
 use std::alloc::Global;
 use std::mem;
 
@@ -47,6 +48,35 @@ impl Variables {
         }
     }
 
+    /// The same facts.
+    ///
+    /// # Errors
+    ///
+    /// `NoMemory` where memory is refused, or a part of a type has 2^63 - 1 owners.
+    pub(crate) fn copy(&self) -> Result<Variables, NoMemory>
+        ensures facts { IfOk result (λ copy. variables_of copy ≡ variables_of self.now) }
+        ensures len { IfOk result (λ copy. facts_count copy ≡ facts_count self.now) }
+    {
+        let constants = self.constants.copy()?;
+        let changing = self.changing.copy()?;
+        Ok(Variables {
+            constants,
+            changing,
+        })
+    }
+
+    /// The facts on constants, and those on the other variables.
+    pub(crate) fn into_parts(self) -> (ClassFacts, ClassFacts)
+        ensures constants { result.0 ≡ self.constants }
+        ensures changing { result.1 ≡ self.changing }
+    {
+        let Variables {
+            constants,
+            changing,
+        } = self;
+        (constants, changing)
+    }
+
     /// The facts on constants.
     pub fn constants(&self) -> &ClassFacts
         ensures { result.now ≡ self.now.constants }
@@ -80,13 +110,14 @@ impl Variables {
     }
 
     /// Sets a variable's fact, and gives the one before it. Where memory is refused, the fact comes
-    /// back.
+    /// back. It is only for a variable without a fact, and for a rough one.
     #[tactic(auto, using(crate::proofs::Classes::set_constant, crate::proofs::Classes::set_changing, crate::proofs::Classes::same_constants, crate::proofs::Classes::same_changing, crate::proofs::Classes::constant_at, crate::proofs::Classes::changing_at, crate::proofs::Classes::of_class))]
     pub(crate) fn insert(&mut self, binding: u32, fact: Fact) -> Result<Option<Fact>, Fact>
         ensures facts { OnOk result (variables_of self.new ≡ at_number binding (Some fact) (variables_of self.old)) }
         ensures was { IfOk result (λ was. was ≡ variables_of self.old binding) }
         ensures err { OnErr result (variables_of self.new ≡ variables_of self.old) }
         ensures back { IfErr result (λ back. back ≡ fact) }
+        ensures kept { OnErr result (fact.rough ≡ false → variables_of self.old binding ≡ None) }
         ensures len { IfOk result (λ was. facts_count self.new ≡ facts_count self.old + (if is_some was then 0 else 1)) }
         ensures err_len { OnErr result (facts_count self.new ≡ facts_count self.old) }
     {

@@ -9,6 +9,7 @@ loop-trail-preserved c =
     record {
       within = let one = one_back c.loop-trail.trail c.undo.new.self c.in_ok-change.change (omega (arith, c.loop-trail-test.true, c.len.ensures)) took.after took.shorter in omega (arith, one, c.loop-trail-test.true, c.len.ensures);
       goes = goes_then c.args.trail.now c.loop-trail.trail c.undo.new.self before.goes (goes_last c.loop-trail.trail c.undo.new.self c.in_ok-change.change took.shorter took.moments took.fresh);
+      capacity = let had = before.capacity in omega (arith, had, c.undo.ensures.capacity);
     }
 
 pub returns-clause-back : goal.returns-clause-back

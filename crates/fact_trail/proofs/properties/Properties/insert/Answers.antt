@@ -1,8 +1,9 @@
-use Rattle.std.proofs.Common.{◌≡◌, true, refl, sym, ◌∙◌}
+use Rattle.std.proofs.Common.{◌≡◌, true, false, refl, sym, ◌∙◌}
 use Rattle.std.specs.BTreeSet.{contains}
 use Rattle.std.specs.BTreeSet as sets
+use Rattle.fact_trail.specs.Rows.{properties_of}
 use Rattle.fact_trail.specs.Slots.{Key, key_cmp, turned_cmp}
-use Rattle.fact_trail.proofs.Kept.{ok_of, err_of, turned_more, turned_after, rough_after}
+use Rattle.fact_trail.proofs.Kept.{ok_of, err_of, turned_absent, turned_more, turned_after, rough_after}
 use Rattle.fact_trail.proofs.properties.Properties.insert.Goals as goal
 
 pub invariant_of-self-then-is_err-2 : goal.invariant_of-self-then-is_err-2
@@ -24,3 +25,9 @@ invariant_of-self-2 c =
       turned_too = turned_after c.insert-2.result before.rows c.insert-2.new.self before.turned c.insert.new.self c.args.key c.turn.result c.args.fact c.turn.ensures c.insert-2.ensures.updates c.insert-2.ensures.err turned before.turned_too;
       rough_too = rough_after c.insert-2.result before.rows c.insert-2.new.self before.rough c.mark.new.set c.args.key c.args.fact c.is_rough.result c.is_rough.ensures c.insert-2.ensures.updates c.insert-2.ensures.absent c.insert-2.ensures.err c.mark.ensures.others marked before.rough_too;
     }
+
+pub returns-then-is_err-clause-kept : goal.returns-then-is_err-clause-kept
+returns-then-is_err-clause-kept c = λ smooth.
+    let before = c.args.self.now in
+    turned_absent (properties_of before) (contains turned_cmp before.turned) c.args.key c.turn.result c.turn.ensures before.turned_too
+    (err_of c.insert.result (contains turned_cmp before.turned c.turn.result ≡ false) (sym c.is_err.ensures.value ∙ c.if-is_err.true) c.insert.ensures.absent)
