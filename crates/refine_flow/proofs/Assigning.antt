@@ -55,7 +55,7 @@ overwrites_itself p = at p.prop refl
     at None prop = ap (λ o. unwrap_or (option_map (λ name. is_named name p) o) (is_of p.binding p)) prop ∙ eq-eqb p.binding p.binding refl
     at (Some x) prop = ap (λ o. unwrap_or (option_map (λ name. is_named name p) o) (is_of p.binding p)) prop ∙ ap (is_some_text x) prop ∙ text_itself' x
 
-overwrites_as : (p : Place) (x : Option (List ℕ)) (q : Place) → p.prop ≡ x → overwrites p q ≡ unwrap_or (option_map (λ name. is_named name q) x) (is_of p.binding q)
+pub overwrites_as : (p : Place) (x : Option (List ℕ)) (q : Place) → p.prop ≡ x → overwrites p q ≡ unwrap_or (option_map (λ name. is_named name q) x) (is_of p.binding q)
 overwrites_as p x q prop = ap (λ o. unwrap_or (option_map (λ name. is_named name q) o) (is_of p.binding q)) prop
 
 -- a property is assigned
@@ -77,19 +77,15 @@ told_at p None m = λ i q. at q (is_place p q) refl i
         ap (without (overwrites p) m) (sym (same_place p q same)) ∙ ap (λ b. if b then None else m p) (overwrites_itself p) ∙ sym (ap (λ b. if b then None else without (overwrites p) m q) same)
 
 -- a value is assigned
-pub assigned_told : (members : FlowType → List FlowType) (below : FlowType → FlowType → Bool) (p : Place) (declared value : FlowType) (told : Option FlowType) (old mid put new : Facts) →
-    told ≡ fact_of_value members below declared value → Changes (without (overwrites p)) old mid → Changes (with_told p told) mid put → known new ≡ known put → known new ≡ live (assigned members below p declared value) (known old)
-assigned_told members below p declared value told old mid put new is first second same =
-    settled_facts (λ m. with_told p told (without (overwrites p) m)) old put new (changed_twice (without (overwrites p)) (with_told p told) old mid put first second) same
+pub assigned_told : (members : FlowType → List FlowType) (below : FlowType → FlowType → Bool) (p : Place) (declared value : FlowType) (told : Option FlowType) (old put new : Facts) →
+    told ≡ fact_of_value members below declared value → Changes (λ m. with_told p told (without (overwrites p) m)) old put → known new ≡ known put → known new ≡ live (assigned members below p declared value) (known old)
+assigned_told members below p declared value told old put new is changes same =
+    settled_facts (λ m. with_told p told (without (overwrites p) m)) old put new changes same
     ∙ (λ i. live (λ m. (told_at p told m ∙ ap (λ o. at_place p o (without (overwrites p) m)) is) i) (known old))
 
 pub on_err : {T E : Type 0} (r : Result T E) (P : Type 0) → P → OnErr r P
 on_err (Ok x) P is = tt
 on_err (Err x) P is = is
-
--- it is dropped what was, and no more
-pub overwritten : (p : Place) (old mid new : Facts) → Changes (without (overwrites p)) old mid → Changes (λ m. m) mid new → known new ≡ live (without (overwrites p)) (known old)
-overwritten p old mid new first second = known_same mid new new second refl ∙ known_changed (without (overwrites p)) old mid first
 
 -- ---- loops
 

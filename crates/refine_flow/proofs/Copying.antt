@@ -37,6 +37,9 @@ pub all_rows : (f : Facts) (none variables all : List Row) → none ≡ [] → A
 all_rows f none variables all empty first has second have =
     told_all (shown f) all (second.0 (first.0 (subst (AreTrue (shown f)) (sym empty) tt))) (unlisted_none f all (λ b there. second.1 (variable_place b) (has b there)) have)
 
+pub all_true : (f : Facts) (none variables all : List Row) → none ≡ [] → AddsTrue (shown f) none variables → AddsTrue (shown f) variables all → AreTrue (shown f) all
+all_true f none variables all empty first second = second.0 (first.0 (subst (AreTrue (shown f)) (sym empty) tt))
+
 -- ---- copies
 
 -- facts that are set row by row where there were none
@@ -52,29 +55,6 @@ joined_dead f other dead = at (known f) ∙ ap (joined (known f)) (sym (known_by
     at : (k : Known) → k ≡ joined k None
     at None = refl
     at (Some m) = refl
-
--- all facts go where they are joined with none
-pub all_cleared : {T E : Type 0} (r : Result T E) (old none new : Facts) (rows : List Row) → told rows no_facts ≡ shown old → known none ≡ Some no_facts → OnOk r (shown new ≡ met (shown none) rows (shown old)) → OnOk r (shown new ≡ no_facts)
-all_cleared (Err x) old none new rows tells empty is = tt
-all_cleared (Ok x) old none new rows tells empty is = is ∙ met_all (shown none) (shown old) rows tells ∙ (λ i q. at (shown old q) (ap (λ (m : Map). m q) (live_of none no_facts empty).1) i)
-  where
-    at : {o : Option FlowType} (own : Option FlowType) → o ≡ None → both own o ≡ None
-    at None is = ap (both None) is
-    at (Some t) is = ap (both (Some t)) is
-
--- where these are dead, the others are taken over
-pub taken_over : {T E : Type 0} (r : Result T E) (old new other : Facts) (mid : Map) (rows : List Row) → old.dead ≡ true → other.dead ≡ false → mid ≡ no_facts → told rows no_facts ≡ shown other →
-    OnOk r (shown new ≡ told rows mid) → new.dead ≡ false → OnOk r (known new ≡ joined (known old) (known other))
-taken_over (Err x) old new other mid rows dead live none tells took alive = tt
-taken_over (Ok x) old new other mid rows dead live none tells took alive =
-    known_by new false alive ∙ ap Some (took ∙ ap (told rows) none ∙ tells) ∙ sym (known_by other false live) ∙ ap (λ k. joined k (known other)) (sym (known_by old true dead))
-
--- where all are live, each place is joined
-pub met_with : {T E : Type 0} (r : Result T E) (old new other : Facts) (rows : List Row) → old.dead ≡ false → other.dead ≡ false → told rows no_facts ≡ shown old → OnOk r (shown new ≡ met (shown other) rows (shown old)) → new.dead ≡ old.dead →
-    OnOk r (known new ≡ joined (known old) (known other))
-met_with (Err x) old new other rows live alive tells is same = tt
-met_with (Ok x) old new other rows live alive tells is same =
-    known_by new false (same ∙ live) ∙ ap Some (is ∙ met_all (shown other) (shown old) rows tells) ∙ (λ i. joined (sym (known_by old false live) i) (sym (known_by other false alive) i))
 
 -- ---- going back
 

@@ -76,23 +76,6 @@ dropped_slots old new gone lost names dead marks alike drops = record {
 pub properties_forgotten : (old new : Facts) → new.names ≡ old.names → new.dead ≡ old.dead → new.marks ≡ old.marks → Drops slots.is_property old.trail new.trail → Changes without_properties old new
 properties_forgotten old new names dead marks drops = dropped_slots old new slots.is_property is_property names dead marks (properties_alike old.names) drops
 
--- one that drops the fact at a place's slot
-pub dropped_slot : (old new : Facts) (p : Place) (s : Slot) → new.names ≡ old.names → new.dead ≡ old.dead → new.marks ≡ old.marks → slot_of old.names p ≡ Some s → Drops (is_slot s) old.trail new.trail →
-    Changes (at_place p None) old new
-dropped_slot old new p s names dead marks there drops = record {
-  types = ap (λ ns. types_by ns (map_of new.trail)) names ∙ types_at old.names p s None (map_of old.trail) (map_of new.trail) there drops.facts;
-  dead = dead;
-  marks = keeps_marks old new marks (same_names old new names) drops.longer drops.moments;
-}
-
--- a place without a slot has no fact to be dropped
-pub nothing_placed : (f : Facts) (p : Place) → slot_of f.names p ≡ None → Changes (at_place p None) f f
-nothing_placed f p none = record { types = λ i q. at q (is_place p q) refl i; dead = refl; marks = keeps_itself f }
-  where
-    at : (q : Place) (b : Bool) → is_place p q ≡ b → shown f q ≡ at_place p None (shown f) q
-    at q true same = ap (shown f) (sym (same_place p q same)) ∙ ap (type_in (map_of f.trail)) none ∙ sym (ap (λ b. if b then None else shown f q) same)
-    at q false other = sym (ap (λ b. if b then None else shown f q) other)
-
 -- two calls of the trail that drop
 pub drops_both : (g h both : Slot → Bool) (a b c : Trail) → ((s : Slot) → both s ≡ (g s || h s)) → Drops g a b → Drops h b c → Drops both a c
 drops_both g h both a b c are first second = record {
@@ -160,11 +143,3 @@ numbered old new grows trail dead marks = record {
 -- nor where what was changed is forgotten
 pub tidy_forgotten : (names : Names) (old new : Trail) → new.changes.items ≡ [] → map_of new ≡ map_of old → ((s : Slot) → IsBeyond names s → IsNew s old) → (s : Slot) → IsBeyond names s → IsNew s new
 tidy_forgotten names old new nothing same tidy s beyond = fresh_at_first new s nothing (ap (λ (m : Slots). m s) same ∙ none_now old s (tidy s beyond))
-
--- a place that has the type already
-pub placed_already : (f : Facts) (p : Place) (given : Option FlowType) (t : FlowType) → given ≡ Some t → shown f p ≡ Some t → Changes (at_place p given) f f
-placed_already f p given t is has = record { types = λ i q. at q (is_place p q) refl i; dead = refl; marks = keeps_itself f }
-  where
-    at : (q : Place) (b : Bool) → is_place p q ≡ b → shown f q ≡ (if is_place p q then given else shown f q)
-    at q true same = sym (ap (shown f) (same_place p q same)) ∙ has ∙ sym is ∙ sym (ap (λ (b : Bool). if b then given else shown f q) same)
-    at q false other = sym (ap (λ (b : Bool). if b then given else shown f q) other)

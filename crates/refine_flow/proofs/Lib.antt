@@ -14,3 +14,5 @@ pub mod Lengthening
 pub mod Copying
 pub mod OwnJoins
 pub mod Gathers
+pub mod Joints
+pub mod Setting

@@ -115,14 +115,9 @@ told_end (x ∷ rows) row m = ap (at_place x.place (Some x.ty)) (told_end rows r
 pub told_last : (all rest : List Row) (row : Row) (m n : Map) → all ≡ rest ++ row ∷ [] → n ≡ at_place row.place (Some row.ty) m → told rest n ≡ told all m
 told_last all rest row m n are made = ap (told rest) made ∙ sym (told_end rest row m) ∙ ap (λ l. told l m) (sym are)
 
-met_end : (others : Map) (rows : List Row) (row : Row) (m : Map) → met others (rows ++ row ∷ []) m ≡ met others rows (at_place row.place (both (Some row.ty) (others row.place)) m)
+pub met_end : (others : Map) (rows : List Row) (row : Row) (m : Map) → met others (rows ++ row ∷ []) m ≡ met others rows (at_place row.place (both (Some row.ty) (others row.place)) m)
 met_end others [] row m = refl
 met_end others (x ∷ rows) row m = ap (at_place x.place (both (Some x.ty) (others x.place))) (met_end others rows row m)
-
--- the last row met
-pub met_last : (others : Map) (all rest : List Row) (row : Row) (v : Option FlowType) (m n : Map) → all ≡ rest ++ row ∷ [] → v ≡ both (Some row.ty) (others row.place) → n ≡ at_place row.place v m → met others rest n ≡ met others all m
-met_last others all rest row v m n are is made =
-    ap (met others rest) made ∙ (λ i. met others rest (at_place row.place (is i) m)) ∙ sym (met_end others rest row m) ∙ ap (λ l. met others l m) (sym are)
 
 -- a place with a row is joined, and the others stay
 met_at : (others m : Map) (rows : List Row) (q : Place) → met others rows m q ≡ (if is_listed rows q then both (told rows no_facts q) (others q) else m q)
@@ -202,6 +197,3 @@ slot_numbered names k x is = ap (option_map (slot_named k.binding)) (names.numbe
 pub shown_at : (f : Facts) (q : Place) (s : Slot) (fact : Fact) → slot_of f.names q ≡ Some s → map_of f.trail s ≡ Some fact → shown f q ≡ Some (ty_of fact)
 shown_at f q s fact there is = ap (type_in (map_of f.trail)) there ∙ ap (option_map ty_of) is
 
--- equal types that their join does not change
-pub joined_alike : (first second : FlowType) (rough : Bool) → first ≡ second → (rough ≡ false → join_of (first ∷ first ∷ []) ≡ first) → rough ≡ false → Some first ≡ both (Some first) (Some second)
-joined_alike first second rough same settled not_rough = ap Some (sym (settled not_rough) ∙ ap (λ (t : FlowType). join_of (first ∷ t ∷ [])) same)

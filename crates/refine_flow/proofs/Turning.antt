@@ -7,7 +7,7 @@ use Rattle.fact_trail.specs.Slots.{Map as Slots}
 use Rattle.fact_trail.specs.Moments.{map_of, map_at, IsNew}
 use Rattle.fact_trail.proofs.Changes.{map_at_end, none_now}
 use Rattle.fact_arms.specs.declared.difference.Difference.{Difference}
-use Rattle.fact_arms.specs.Differences.{over, type_of, SameTypes, Leaves, GoesBack, Goes}
+use Rattle.fact_arms.specs.Differences.{over, type_of, SameTypes, Leaves, GoesBack, KeepsUpTo, Goes}
 use Rattle.fact_arms.specs.Joining.{joined_type}
 use Rattle.fact_arms.proofs.Moving.{over_none}
 use Rattle.flow_facts.specs.Known.{Map, Known, both, joined}
@@ -38,6 +38,15 @@ kept_up_to old new mark names marks within goes = record {
   names = same_names old new names;
   each = λ m is up. let least : m.length ≤ mark.length = up.1 in
       same_mark old new m names (omega (arith, is.0, marks)) (omega (arith, least, within)) (goes.moments m.length (omega (arith, least, within)));
+}
+
+-- the same, where the moments up to the mark are kept
+pub kept_by : (old new : Facts) (mark : Mark) → new.names ≡ old.names → new.marks ≡ old.marks → KeepsUpTo mark.length old.trail new.trail → KeepsMarksUpTo mark old new
+kept_by old new mark names marks keeps = record {
+  count = marks;
+  names = same_names old new names;
+  each = λ m is up. let least : m.length ≤ mark.length = up.1 in
+      let within = keeps.within in same_mark old new m names (omega (arith, is.0, marks)) (omega (arith, least, within)) (keeps.moments m.length least);
 }
 
 -- marks that all stay

@@ -2,3 +2,4 @@ pub mod Numbers
 pub mod Standing
 pub mod Whole
 pub mod Gathered
+pub mod Planning

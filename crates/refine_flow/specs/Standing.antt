@@ -1,5 +1,5 @@
 -- What facts on a trail stand for, now and at their marks.
-use Rattle.std.specs.Prelude.{ℕ, ◌≡◌, ◌≤◌, ◌<◌, ◌+◌, Bool, false, not, List, Option, Some, None, length, if◌then◌else◌}
+use Rattle.std.specs.Prelude.{ℕ, ◌≡◌, ◌≤◌, ◌<◌, ◌+◌, ◌&&◌, Bool, false, not, List, Option, Some, None, length, if◌then◌else◌}
 use Rattle.std.specs.Option.{option_map}
 use Rattle.type_values.specs.declared.types.FlowType.{FlowType}
 use Rattle.fact_trail.specs.declared.slot.Slot.TheVariants.{Variable, Property}
@@ -9,7 +9,7 @@ use Rattle.fact_trail.specs.Slots.{Map as Slots}
 use Rattle.fact_trail.specs.Moments.{map_of, map_at}
 use Rattle.fact_arms.specs.Differences.{over, Leaves}
 use Rattle.flow_facts.specs.declared.place.Place.{Place}
-use Rattle.flow_facts.specs.Known.{Map, Known, at_place}
+use Rattle.flow_facts.specs.Known.{Map, Known, at_place, is_place, overwrites}
 use Rattle.refine_flow.specs.declared.names.Names.{Names}
 use Rattle.refine_flow.specs.Numbers.{number_of, GrowsNames, IsBeyond}
 use Rattle.refine_flow.specs.declared.facts.Facts.{Facts}
@@ -142,6 +142,10 @@ is_lost kept (Property k) = false
 abbrev pub with_told : Place → Option FlowType → Map → Map
 with_told p None m = m
 with_told p (Some t) m = at_place p (Some t) m
+
+-- what an assignment to a place makes unknown of other places
+abbrev pub overwrites_other : Place → Place → Bool
+overwrites_other p q = overwrites p q && not (is_place p q)
 
 -- the map is changed so, and all else stays
 pub record Changes (change : Map → Map) (old new : Facts) : Type 0 where

@@ -1,5 +1,5 @@
 //! Facts on a trail.
-ghost use Rattle.std.specs.Prelude.{◌≡◌, ◌==◌, ◌<◌, ◌++◌, ◌∷◌, [], filter, if◌then◌else◌, ◌&&◌, ◌||◌, not, Some, None, IsTrue, ◌↔◌, OnOk, OnErr, IfOk, ◌⊎◌};
+ghost use Rattle.std.specs.Prelude.{◌≡◌, ◌==◌, ◌<◌, ◌++◌, ◌∷◌, [], filter, if◌then◌else◌, ◌&&◌, ◌||◌, not, Some, None, IsTrue, ◌↔◌, OnOk, OnErr, IfOk};
 ghost use Rattle.std.specs.List.{list_any};
 ghost use Rattle.std.specs.Option.{option_map};
 ghost use Rattle.fact_trail.specs.declared.slot.Slot.TheVariants.{Variable};
@@ -11,7 +11,7 @@ ghost use Rattle.refine_flow.specs.Numbers.{GrowsNames, IsBeyond};
 ghost use Rattle.alias_table.specs.Members.{seen};
 ghost use Rattle.alias_members.specs.MembersIn.{members_in};
 ghost use Rattle.subtype_rules.specs.Answer.{below};
-ghost use Rattle.flow_facts.specs.Known.{no_facts, live, type_at, narrowed_at, without, without_properties, is_named, is_of, is_property, at_place, overwrites, reached, fact_of_value, assigned, entered_loop, entered_function};
+ghost use Rattle.flow_facts.specs.Known.{no_facts, live, type_at, narrowed_at, without, without_properties, is_named, is_of, is_property, is_place, at_place, variable_place, property_place, overwrites, reached, fact_of_value, assigned, entered_loop, entered_function};
 
 use crate::among::Among;
 use crate::names::Names;
@@ -143,7 +143,7 @@ fn fact_of_value(
 }
 
 impl Facts {
-    ghost use Rattle.refine_flow.specs.Standing.{is_lost, with_told, shown, known, open_marks, slot_of, Changes, KeepsMarks};
+    ghost use Rattle.refine_flow.specs.Standing.{is_lost, with_told, overwrites_other, shown, known, open_marks, slot_of, Changes, KeepsMarks};
 
     /// No facts, and live. It takes no memory.
     pub fn new(alloc: Global) -> Facts
@@ -176,7 +176,7 @@ impl Facts {
     }
 
     // Where a place's fact stands. A property whose name has no number has none.
-    fn slot(&self, place: &Place) -> Option<Slot>
+    pub(crate) fn slot(&self, place: &Place) -> Option<Slot>
         ensures { result ≡ slot_of self.now.names place.now }
     {
         let binding = place.binding;
@@ -213,15 +213,6 @@ impl Facts {
     {
         let slot = self.slot_for(place)?;
         self.trail.put(slot, Fact::of(self.alloc, ty))
-    }
-
-    // Drops the type at a place.
-    pub(crate) fn remove(&mut self, place: &Place)
-        ensures { Changes (at_place place.now None) self.old self.new }
-    {
-        if let Some(slot) = self.slot(place) {
-            self.trail.remove(slot);
-        }
     }
 
     // The type of a slot's fact.
@@ -293,8 +284,7 @@ impl Facts {
     ///
     /// # Errors
     ///
-    /// `NoMemory` where memory is refused. The facts then stay, or have lost those that the
-    /// assignment drops.
+    /// `NoMemory` where memory is refused. The facts then stay.
     pub fn assign(
         &mut self,
         table: &AliasTable,
@@ -303,28 +293,66 @@ impl Facts {
         value: &FlowType,
     ) -> Result<(), NoMemory>
         ensures facts { OnOk result (known self.new ≡ live (assigned (members_in table.now) (below table.now) place.now declared.now value.now) (known self.old)) }
-        ensures err { OnErr result ((known self.new ≡ known self.old) ⊎ (known self.new ≡ live (without (overwrites place.now)) (known self.old))) }
+        ensures err { OnErr result (known self.new ≡ known self.old) }
         ensures marks { KeepsMarks self.old self.new }
     {
         if self.dead {
             return Ok(());
         }
         let told = fact_of_value(self.alloc, table, declared, value)?;
-        self.overwrite(place);
-        self.put_told(place, told)?;
+        self.assign_told(place, told)?;
         self.settle();
         Ok(())
     }
 
-    // Sets the type at a place, if one is told.
-    fn put_told(&mut self, place: &Place, told: Option<FlowType>) -> Result<(), NoMemory>
-        ensures facts { OnOk result (Changes (with_told place.now told) self.old self.new) }
+    // Drops what an assignment to a place makes unknown, and sets the type there, if one is told.
+    fn assign_told(&mut self, place: &Place, told: Option<FlowType>) -> Result<(), NoMemory>
+        ensures facts { OnOk result (Changes (λ m. with_told place.now told (without (overwrites place.now) m)) self.old self.new) }
         ensures err { OnErr result (Changes (λ m. m) self.old self.new) }
     {
         match told {
-            Some(ty) => self.put(place, ty),
-            None => Ok(()),
+            Some(ty) => self.put_over(place, ty),
+            None => {
+                self.overwrite(place);
+                Ok(())
+            }
         }
+    }
+
+    // The same where a type is told. It is set first, since what is dropped behind it takes no memory.
+    fn put_over(&mut self, place: &Place, ty: FlowType) -> Result<(), NoMemory>
+        ensures facts { OnOk result (Changes (λ m. at_place place.now (Some ty) (without (overwrites place.now) m)) self.old self.new) }
+        ensures err { OnErr result (Changes (λ m. m) self.old self.new) }
+    {
+        self.put(place, ty)?;
+        self.overwrite_others(place);
+        Ok(())
+    }
+
+    // Drops what an assignment to a place makes unknown of other places.
+    fn overwrite_others(&mut self, place: &Place)
+        ensures { Changes (without (overwrites_other place.now)) self.old self.new }
+    {
+        match &place.prop {
+            Some(name) => self.forget_other_named(name, place.binding),
+            None => self.forget_properties_of(place.binding),
+        }
+    }
+
+    // Drops the facts on the properties of a name, but for the one of a variable.
+    fn forget_other_named(&mut self, name: &Text, binding: u32)
+        ensures { Changes (without (λ q. is_named name.now q && not (is_place (property_place binding name.now) q))) self.old self.new }
+    {
+        if let Some(name) = self.names.number(name) {
+            self.trail.drop_other_named(Key { name, binding });
+        }
+    }
+
+    // Drops the facts on the properties of a variable.
+    fn forget_properties_of(&mut self, binding: u32)
+        ensures { Changes (without (λ q. is_of binding q && not (is_place (variable_place binding) q))) self.old self.new }
+    {
+        self.trail.drop_of(binding);
     }
 
     // Drops what an assignment to a place makes unknown.

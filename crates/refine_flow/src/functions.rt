@@ -82,7 +82,7 @@ impl Facts {
     }
 
     // Drops the facts on the variables of a class.
-    fn forget_class(&mut self, constant: bool)
+    pub(crate) fn forget_class(&mut self, constant: bool)
         ensures { Changes (without (λ q. not (is_property q) && is_class constant q.binding)) self.old self.new }
     {
         self.trail.drop_variables(constant);

@@ -3,7 +3,7 @@ ghost use Rattle.std.specs.Prelude.{◌≡◌, ◌+◌, false, None, OnOk, OnErr
 ghost use Rattle.flow_facts.specs.Known.{joined};
 
 use crate::facts::{Arm, Facts, Mark};
-use fact_arms::{Difference, Joins, meet};
+use fact_arms::{Difference, Joins, go_back_or_stay, meet};
 use flow_values::NoMemory;
 
 impl Facts {
@@ -150,29 +150,42 @@ impl Facts {
         Ok(())
     }
 
-    /// Goes back to a mark, which is spent, and hands out the facts that stood before that. They are
-    /// copied, one by one; `turn` copies none.
+    /// Goes back to a mark, which is spent, and hands out the facts that stood before that. All facts
+    /// are copied, twice; `turn` copies none.
     ///
     /// # Errors
     ///
-    /// `NoMemory` where memory is refused, with the mark. Some changes may be taken back then.
+    /// `NoMemory` where memory is refused, or a part of a type has 2^63 - 1 owners, with the mark. The
+    /// facts then stay, and those at each mark.
     pub fn back(&mut self, mark: Mark) -> Result<Facts, (Mark, NoMemory)>
         requires { IsLast mark self.old }
         ensures handed { IfOk result (λ facts. (known facts ≡ known self.old) × (open_marks facts ≡ 0)) }
         ensures back { OnOk result (known self.new ≡ known_at mark self.old) }
         ensures marks { OnOk result (SpendsMark mark self.old self.new) }
-        ensures err { IfErr result (λ refused. (refused.0 ≡ mark) × KeepsMarksUpTo mark self.old self.new) }
+        ensures err { IfErr result (λ refused. (refused.0 ≡ mark) × (known self.new ≡ known self.old) × KeepsMarksUpTo mark self.old self.new) }
     {
         let copy = match self.copy() {
             Ok(copy) => copy,
             Err(refused) => return Err((mark, refused)),
         };
-        match self.turn(&mark) {
-            Ok(_) => {
+        match self.return_or_stay(&mark) {
+            Ok(()) => {
                 self.spend(mark);
                 Ok(copy)
             }
             Err(refused) => Err((mark, refused)),
         }
+    }
+
+    // Goes back to a mark, or leaves the facts.
+    fn return_or_stay(&mut self, mark: &Mark) -> Result<(), NoMemory>
+        requires { IsLast mark.now self.old }
+        ensures facts { OnOk result (known self.new ≡ known_at mark.now self.old) }
+        ensures err { OnErr result (known self.new ≡ known self.old) }
+        ensures marks { KeepsMarksUpTo mark.now self.old self.new }
+    {
+        go_back_or_stay(&mut self.trail, mark.length)?;
+        self.dead = mark.dead;
+        Ok(())
     }
 }

@@ -1,16 +1,18 @@
 //! Copies of facts, and their joins place by place.
-ghost use Rattle.std.specs.Prelude.{◌≡◌, ◌∷◌, [], ℕ, List, true, false, Some, OnOk, OnErr, IfOk};
+ghost use Rattle.std.specs.Prelude.{◌≡◌, ◌∷◌, ◌++◌, [], ℕ, List, true, false, Some, OnOk, OnErr, IfOk};
 ghost use Rattle.std.specs.Option.{is_some};
 ghost use Rattle.fact_trail.specs.declared.slot.Slot.TheVariants.{Variable, Property};
+ghost use Rattle.fact_trail.specs.declared.slot.Slot.{Slot};
 ghost use Rattle.fact_trail.specs.declared.slot.Key.{Key};
 ghost use Rattle.fact_trail.specs.Rows.{class_facts_of};
 ghost use Rattle.fact_trail.specs.Moments.{map_of};
 ghost use Rattle.type_terms.specs.Join.{join_of};
-ghost use Rattle.flow_facts.specs.Known.{no_facts, at_place, joined, both, variable_place, property_place};
+ghost use Rattle.flow_facts.specs.Known.{no_facts, joined, both, variable_place, property_place};
+ghost use Rattle.refine_flow.specs.Planning.{left_of, IsJoint};
 
 use crate::facts::Facts;
-use fact_trail::{ClassFacts, Key, Slot};
-use flow_facts::Place;
+use fact_trail::{ClassFacts, Fact, Key, Planned, Slot};
+use flow_facts::{Cell, Place};
 use flow_values::{List, NoMemory};
 use std::alloc::Global;
 use type_terms::join;
@@ -25,32 +27,48 @@ pub(crate) struct Row {
     ghost settled: { rough ≡ false → join_of (ty ∷ ty ∷ []) ≡ ty },
 }
 
-// The join of two types, and none where one of them lacks. Equal ones that their join does not change
-// are left as they are.
-#[tactic(auto, using(crate::proofs::Listing::joined_alike))]
-fn join_of_types(
-    alloc: Global,
-    first: FlowType,
-    rough: bool,
-    second: Option<FlowType>,
-) -> Result<Option<FlowType>, NoMemory>
-    requires { rough ≡ false → join_of (first ∷ first ∷ []) ≡ first }
-    ensures { IfOk result (λ t. t ≡ both (Some first) second) }
+// The join of two types.
+fn join_of_types(alloc: Global, first: &FlowType, second: FlowType) -> Result<FlowType, NoMemory>
+    ensures { IfOk result (λ t. t ≡ join_of (first.now ∷ second ∷ [])) }
 {
-    let Some(second) = second else {
-        return Ok(None);
-    };
-    if !rough && first.equals(&second) {
-        return Ok(Some(first));
-    }
     let mut all = List::new(alloc);
-    all.push(first)?;
+    all.push(first.share()?)?;
     all.push(second)?;
-    Ok(Some(join(alloc, all.as_slice())?))
+    join(alloc, all.as_slice())
+}
+
+// What a row's fact becomes where it is joined with one of another type. One that the join does not
+// change stays.
+#[tactic(auto, using(crate::proofs::Joints::row_alike, crate::proofs::Joints::joined_same, crate::proofs::Joints::joined_so, crate::proofs::Joints::joint_settled))]
+fn joint_with(alloc: Global, row: &Row, second: FlowType) -> Result<Cell, NoMemory>
+    ensures left { IfOk result (λ cell. left_of row.now.ty cell ≡ both (Some row.now.ty) (Some second)) }
+    ensures settled { IfOk result (λ cell. IsJoint cell) }
+{
+    let first = &row.ty;
+    if !row.rough && first.equals(&second) {
+        return Ok(Cell::Stays);
+    }
+    let ty = join_of_types(alloc, first, second)?;
+    if ty.equals(first) {
+        return Ok(Cell::Stays);
+    }
+    Ok(Cell::Becomes(ty))
+}
+
+// The same where there may be no other one.
+fn joint(alloc: Global, row: &Row, second: Option<FlowType>) -> Result<Cell, NoMemory>
+    ensures left { IfOk result (λ cell. left_of row.now.ty cell ≡ both (Some row.now.ty) second) }
+    ensures settled { IfOk result (λ cell. IsJoint cell) }
+{
+    match second {
+        Some(second) => joint_with(alloc, row, second),
+        None => Ok(Cell::Gone),
+    }
 }
 
 impl Facts {
-    ghost use Rattle.refine_flow.specs.Whole.{told, met, is_listed, AddsTrue};
+    ghost use Rattle.refine_flow.specs.Whole.{told, is_listed, AreTrue, AddsTrue};
+    ghost use Rattle.refine_flow.specs.Planning.{JoinsRows};
     ghost use Rattle.refine_flow.specs.Numbers.{name_of};
     ghost use Rattle.refine_flow.specs.Standing.{shown, known, open_marks, slot_of, Changes, KeepsMarks};
 
@@ -72,7 +90,8 @@ impl Facts {
 
     // All facts, in any order.
     fn rows(&self) -> Result<Vec<Row>, NoMemory>
-        ensures { IfOk result (λ rows. told rows.items no_facts ≡ shown self.now) }
+        ensures told { IfOk result (λ rows. told rows.items no_facts ≡ shown self.now) }
+        ensures each { IfOk result (λ rows. AreTrue (shown self.now) rows.items) }
     {
         let mut rows = Vec::new(self.alloc);
         self.add_variables(&mut rows)?;
@@ -173,61 +192,66 @@ impl Facts {
         Ok(())
     }
 
-    // Joins the facts of rows with those of others.
-    fn meet(&mut self, rows: Vec<Row>, others: &Facts) -> Result<(), NoMemory>
-        ensures facts { OnOk result (shown self.new ≡ met (shown others.now) rows.items (shown self.old)) }
-        ensures dead { self.new.dead ≡ self.old.dead }
-        ensures marks { KeepsMarks self.old self.new }
+    // Plans what a place is to have that has a fact.
+    fn plan_at(
+        &self,
+        place: &Place,
+        fact: Option<Fact>,
+        plan: &mut Vec<Planned>,
+    ) -> Result<(), NoMemory>
+        requires { is_some (shown self.now place.now) ≡ true }
+        ensures { OnOk result ((slot : Slot) × (slot_of self.now.names place.now ≡ Some slot) × (plan.new.items ≡ plan.old.items ++ record { slot = slot; fact = fact } ∷ [])) }
     {
-        let mut rows = rows;
-        while let Some(row) = rows.pop() {
-            let Row { place, ty, rough } = row;
-            let theirs = others.fact(&place)?;
-            let ty = join_of_types(self.alloc, ty, rough, theirs)?;
-            self.give(&place, ty)?;
-        }
+        let Some(slot) = self.slot(place) else {
+            unreachable!()
+        };
+        plan.push(Planned { slot, fact })?;
         Ok(())
     }
 
-    // Whether a place has this type.
-    fn has(&self, place: &Place, ty: &FlowType) -> Result<bool, NoMemory>
-        ensures { IfOk result (λ has. has ≡ true → shown self.now place.now ≡ Some ty.now) }
+    // Plans what a row's place is to have where its fact is joined with that of others.
+    fn plan_row(
+        &self,
+        row: &Row,
+        others: &Facts,
+        plan: &mut Vec<Planned>,
+    ) -> Result<(), NoMemory>
+        requires { shown self.now row.now.place ≡ Some row.now.ty }
+        ensures { OnOk result ((rows : List Row) → JoinsRows self.now.names (shown others.now) (shown self.now) rows plan.old.items → JoinsRows self.now.names (shown others.now) (shown self.now) (rows ++ row.now ∷ []) plan.new.items) }
     {
-        match self.fact(place)? {
-            Some(own) => Ok(own.equals(ty)),
-            None => Ok(false),
+        let place = &row.place;
+        let theirs = others.fact(place)?;
+        let cell = joint(self.alloc, row, theirs)?;
+        match cell {
+            Cell::Stays => Ok(()),
+            Cell::Gone => self.plan_at(place, None, plan),
+            Cell::Becomes(ty) => {
+                let fact = Fact::settled(self.alloc, ty);
+                self.plan_at(place, Some(fact), plan)
+            }
         }
     }
 
-    // Sets the type at a place, unless it has it, or drops it where there is none.
-    fn give(&mut self, place: &Place, ty: Option<FlowType>) -> Result<(), NoMemory>
-        ensures facts { OnOk result (Changes (at_place place.now ty) self.old self.new) }
-        ensures err { OnErr result (Changes (λ m. m) self.old self.new) }
+    // Plans what the places of rows are to have where their facts are joined with those of others.
+    fn plan(&self, rows: &[Row], others: &Facts) -> Result<Vec<Planned>, NoMemory>
+        requires { AreTrue (shown self.now) rows.now }
+        ensures { IfOk result (λ plan. JoinsRows self.now.names (shown others.now) (shown self.now) rows.now plan.items) }
     {
-        match ty {
-            Some(ty) => {
-                let has = self.has(place, &ty)?;
-                if has {
-                    return Ok(());
-                }
-                self.put(place, ty)
-            }
-            None => {
-                self.remove(place);
-                Ok(())
-            }
+        let mut plan = Vec::new(self.alloc);
+        for i in 0..rows.len() {
+            let row = &rows[i];
+            self.plan_row(row, others, &mut plan)?;
         }
+        Ok(plan)
     }
 
     // Drops all facts.
-    fn clear(&mut self) -> Result<(), NoMemory>
-        ensures facts { OnOk result (shown self.new ≡ no_facts) }
-        ensures dead { self.new.dead ≡ self.old.dead }
-        ensures marks { KeepsMarks self.old self.new }
+    fn clear(&mut self)
+        ensures { Changes (λ m. no_facts) self.old self.new }
     {
-        let rows = self.rows()?;
-        let none = Facts::new(self.alloc);
-        self.meet(rows, &none)
+        self.forget_properties();
+        self.forget_class(true);
+        self.forget_class(false);
     }
 
     /// Joins these facts with others, these first: what both have is joined, and what one of them
@@ -236,9 +260,10 @@ impl Facts {
     ///
     /// # Errors
     ///
-    /// `NoMemory` where memory is refused. Some places may be joined then.
+    /// `NoMemory` where memory is refused, or a part of a type has 2^63 - 1 owners. The facts then stay.
     pub fn join(&mut self, other: &Facts) -> Result<(), NoMemory>
         ensures facts { OnOk result (known self.new ≡ joined (known self.old) (known other.now)) }
+        ensures err { OnErr result (known self.new ≡ known self.old) }
         ensures marks { KeepsMarks self.old self.new }
     {
         if other.dead {
@@ -253,15 +278,40 @@ impl Facts {
     fn join_live(&mut self, other: &Facts) -> Result<(), NoMemory>
         requires { other.now.dead ≡ false }
         ensures facts { OnOk result (known self.new ≡ joined (known self.old) (known other.now)) }
+        ensures err { OnErr result (known self.new ≡ known self.old) }
         ensures marks { KeepsMarks self.old self.new }
     {
         if self.dead {
-            let rows = other.rows()?;
-            self.clear()?;
-            self.dead = false;
-            return self.take_over(rows);
+            return self.revive(other);
         }
+        self.join_both(other)
+    }
+
+    // Takes others over that are live, where these are dead. They are live at last.
+    fn revive(&mut self, other: &Facts) -> Result<(), NoMemory>
+        requires dead { self.old.dead ≡ true }
+        requires live { other.now.dead ≡ false }
+        ensures facts { OnOk result (known self.new ≡ joined (known self.old) (known other.now)) }
+        ensures err { OnErr result (known self.new ≡ known self.old) }
+        ensures marks { KeepsMarks self.old self.new }
+    {
+        let rows = other.rows()?;
+        self.clear();
+        self.take_over(rows)?;
+        self.dead = false;
+        Ok(())
+    }
+
+    // Joins these facts with others, where all are live. What differs is planned, and then made at once.
+    fn join_both(&mut self, other: &Facts) -> Result<(), NoMemory>
+        requires own { self.old.dead ≡ false }
+        requires live { other.now.dead ≡ false }
+        ensures facts { OnOk result (known self.new ≡ joined (known self.old) (known other.now)) }
+        ensures err { OnErr result (known self.new ≡ known self.old) }
+        ensures marks { KeepsMarks self.old self.new }
+    {
         let rows = self.rows()?;
-        self.meet(rows, other)
+        let plan = self.plan(rows.as_slice(), other)?;
+        self.trail.make_planned(plan)
     }
 }

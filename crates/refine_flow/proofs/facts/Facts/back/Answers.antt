@@ -5,10 +5,10 @@ use Rattle.refine_flow.proofs.Copying.{last_stays, spent_then}
 use Rattle.refine_flow.proofs.facts.Facts.back.Goals as goal
 
 pub spend-requires : goal.spend-requires
-spend-requires c = last_stays c.args.mark c.args.self.now c.turn.new.self c.requires c.turn.ensures.marks
+spend-requires c = last_stays c.args.mark c.args.self.now c.return_or_stay.new.self c.requires c.return_or_stay.ensures.marks
 
-pub returns-in-Ok-turn-clause-marks : goal.returns-in-Ok-turn-clause-marks
-returns-in-Ok-turn-clause-marks c = spent_then c.args.mark c.args.self.now c.turn.new.self c.spend.new.self c.turn.ensures.marks c.spend.ensures.marks
+pub returns-in-Ok-return_or_stay-clause-marks : goal.returns-in-Ok-return_or_stay-clause-marks
+returns-in-Ok-return_or_stay-clause-marks c = spent_then c.args.mark c.args.self.now c.return_or_stay.new.self c.spend.new.self c.return_or_stay.ensures.marks c.spend.ensures.marks
 
 pub returns-in-Err-clause-err : goal.returns-in-Err-clause-err
-returns-in-Err-clause-err c = (refl, kept_up_to_all c.args.mark c.args.self.now c.args.self.now (keeps_itself c.args.self.now))
+returns-in-Err-clause-err c = (refl, refl, kept_up_to_all c.args.mark c.args.self.now c.args.self.now (keeps_itself c.args.self.now))
