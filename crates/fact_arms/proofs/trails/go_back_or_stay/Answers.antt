@@ -17,22 +17,22 @@ stayed_so (Ok x) old mid new same is = tt
 stayed_so (Err x) old mid new same is = is ∙ same.0
 
 pub go_back_over-requires-clause-within : goal.go_back_over-requires-clause-within
-go_back_over-requires-clause-within c = omega (arith, c.requires, ap length c.spare-spare.ensures.same.1)
+go_back_over-requires-clause-within c = omega (arith, c.requires, ap length c.spare.ensures.same.1)
 
 pub go_back_over-requires-clause-copy : goal.go_back_over-requires-clause-copy
-go_back_over-requires-clause-copy c = c.in_ok-spare.ensures.facts ∙ sym c.spare-spare.ensures.same.0
+go_back_over-requires-clause-copy c = c.in_ok-spare.ensures.facts ∙ sym c.spare.ensures.same.0
 
 pub returns-in_err-spare-clause-stays : goal.returns-in_err-spare-clause-stays
-returns-in_err-spare-clause-stays c = on_err c.from_residual.result _ c.spare-spare.ensures.same.0
+returns-in_err-spare-clause-stays c = on_err c.from_residual.result _ c.spare.ensures.same.0
 
 pub returns-in_err-spare-clause-keeps : goal.returns-in_err-spare-clause-keeps
-returns-in_err-spare-clause-keeps c = stays_same c.args.number c.args.trail.now c.spare-spare.new.self c.requires c.spare-spare.ensures.same
+returns-in_err-spare-clause-keeps c = stays_same c.args.number c.args.trail.now c.spare.new.self c.requires c.spare.ensures.same
 
 pub returns-clause-back : goal.returns-clause-back
-returns-clause-back c = went c.go_back_over.result c.args.number c.args.trail.now c.spare-spare.new.self c.go_back_over.new.trail c.spare-spare.ensures.same c.go_back_over.ensures.back
+returns-clause-back c = went c.go_back_over.result c.args.number c.args.trail.now c.spare.new.self c.go_back_over.new.trail c.spare.ensures.same c.go_back_over.ensures.back
 
 pub returns-clause-stays : goal.returns-clause-stays
-returns-clause-stays c = stayed_so c.go_back_over.result c.args.trail.now c.spare-spare.new.self c.go_back_over.new.trail c.spare-spare.ensures.same c.go_back_over.ensures.stays
+returns-clause-stays c = stayed_so c.go_back_over.result c.args.trail.now c.spare.new.self c.go_back_over.new.trail c.spare.ensures.same c.go_back_over.ensures.stays
 
 pub returns-clause-keeps : goal.returns-clause-keeps
-returns-clause-keeps c = same_then c.args.number c.args.trail.now c.spare-spare.new.self c.go_back_over.new.trail c.spare-spare.ensures.same c.go_back_over.ensures.keeps
+returns-clause-keeps c = same_then c.args.number c.args.trail.now c.spare.new.self c.go_back_over.new.trail c.spare.ensures.same c.go_back_over.ensures.keeps
