@@ -76,7 +76,7 @@ without_both g h m = λ i q. at (g q) (h q) (m q) i
     at false true o = refl
     at false false o = refl
 
-number_alike : (a b : ℕ) → is_number a b ≡ (a == b)
+pub number_alike : (a b : ℕ) → is_number a b ≡ (a == b)
 number_alike a b = grind (arith, nat_tests)
 
 or_nothing : (b : Bool) → b ≡ (b || false)

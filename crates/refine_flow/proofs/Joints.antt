@@ -10,7 +10,7 @@ use Rattle.fact_trail.specs.declared.slot.Slot.{Slot}
 use Rattle.fact_trail.specs.declared.plans.Planned.{Planned}
 use Rattle.fact_trail.specs.declared.trail.Trail.{Trail}
 use Rattle.fact_trail.specs.Slots.{Map as Slots, at_slot}
-use Rattle.fact_trail.specs.Moments.{map_of}
+use Rattle.fact_trail.specs.Moments.{map_of, Extends}
 use Rattle.fact_trail.specs.Plans.{planned, Fits, Replaces}
 use Rattle.fact_trail.proofs.Planning.{planned_end, end_fits}
 use Rattle.fact_arms.specs.Differences.{type_of}
@@ -20,18 +20,21 @@ use Rattle.flow_facts.specs.Known.{Map, Known, no_facts, at_place, is_place, bot
 use Rattle.refine_flow.specs.declared.names.Names.{Names}
 use Rattle.refine_flow.specs.declared.facts.Facts.{Facts}
 use Rattle.refine_flow.specs.declared.whole.Row.{Row}
-use Rattle.refine_flow.specs.Standing.{slot_of, type_in, types_by, shown, known}
+use Rattle.refine_flow.specs.Standing.{slot_of, type_in, types_by, shown, known, KeepsMarks}
 use Rattle.refine_flow.specs.Whole.{told, met, AreTrue}
-use Rattle.refine_flow.specs.Planning.{left_of, IsJoint, IsBetween, JoinsRows}
+use Rattle.refine_flow.specs.Becoming.{left_of, IsJoint}
+use Rattle.refine_flow.specs.Planning.{IsBetween, JoinsRows}
 use Rattle.refine_flow.proofs.Places.{same_place}
 use Rattle.refine_flow.proofs.Types.{types_at}
 use Rattle.refine_flow.proofs.Listing.{met_end, met_all}
+use Rattle.refine_flow.proofs.MarkLemmas.{keeps_marks}
+use Rattle.refine_flow.proofs.Dropping.{same_names}
 use Rattle.refine_flow.proofs.Copying.{known_by}
 
 -- ---- one fact
 
 pub row_alike : (row : Row) (first second : FlowType) → row.ty ≡ first → first ≡ second → row.rough ≡ false → Some first ≡ both (Some first) (Some second)
-row_alike row first second own same smooth = ap Some (sym (sym (λ i. join_of (own (~ i) ∷ own (~ i) ∷ [])) ∙ row.settled smooth ∙ own) ∙ ap (λ (t : FlowType). join_of (first ∷ t ∷ [])) same)
+row_alike row first second own same smooth = ap Some (sym ((λ i. join_of (sym own i ∷ sym own i ∷ [])) ∙ row.settled smooth ∙ own) ∙ ap (λ (t : FlowType). join_of (first ∷ t ∷ [])) same)
 
 pub joined_same : (first second ty : FlowType) → ty ≡ join_of (first ∷ second ∷ []) → ty ≡ first → Some first ≡ both (Some first) (Some second)
 joined_same first second ty is same = ap Some (sym same ∙ is)
@@ -42,7 +45,7 @@ joined_so first second ty is = ap Some is
 pub joint_settled : (first second ty : FlowType) → ty ≡ join_of (first ∷ second ∷ []) → join_of (ty ∷ ty ∷ []) ≡ ty
 joint_settled first second ty is = (λ i. join_of (is i ∷ is i ∷ [])) ∙ settled (first ∷ second ∷ []) ∙ sym is
 
-pub left_as : (r : Result Cell (Unit {0})) (ty : FlowType) (o p : Option FlowType) → o ≡ p → IfOk r (λ cell. left_of ty cell ≡ both (Some ty) p) → IfOk r (λ cell. left_of ty cell ≡ both (Some ty) o)
+pub left_as : {E : Type 0} (r : Result Cell E) (ty : FlowType) (o p : Option FlowType) → o ≡ p → IfOk r (λ cell. left_of ty cell ≡ both (Some ty) p) → IfOk r (λ cell. left_of ty cell ≡ both (Some ty) o)
 left_as (Ok cell) ty o p same is = is ∙ ap (both (Some ty)) (sym same)
 left_as (Err x) ty o p same is = tt
 
@@ -197,3 +200,7 @@ stays_dead old new dead still = known_by new true still ∙ sym (known_by old tr
 -- facts that are taken over where there were none
 pub revived : (old mid set other : Facts) (rows : List Row) → old.dead ≡ true → other.dead ≡ false → shown mid ≡ no_facts → told rows no_facts ≡ shown other → shown set ≡ told rows (shown mid) → ◌≡◌ {A = Known} (Some (shown set)) (joined (known old) (known other))
 revived old mid set other rows dead live none tells took = ap Some (took ∙ ap (told rows) none ∙ tells) ∙ sym (known_by other false live) ∙ ap (λ k. joined k (known other)) (sym (known_by old true dead))
+
+-- changes that leave slots without facts so keep all marks
+pub extends_marks : (old new : Facts) → new.names ≡ old.names → new.marks ≡ old.marks → Extends old.trail new.trail → KeepsMarks old new
+extends_marks old new names marks extends = keeps_marks old new marks (same_names old new names) extends.longer extends.moments

@@ -3,3 +3,4 @@ pub mod Standing
 pub mod Whole
 pub mod Gathered
 pub mod Planning
+pub mod Becoming

@@ -1,9 +1,5 @@
 -- What facts become where they are joined with others, planned before it is made.
-use Rattle.std.specs.Prelude.{◌≡◌, ◌⊎◌, List, [], ◌∷◌, Option, Some, None}
-use Rattle.type_values.specs.declared.types.FlowType.{FlowType}
-use Rattle.type_terms.specs.Join.{join_of}
-use Rattle.flow_facts.specs.declared.test.Cell.{Cell}
-use Rattle.flow_facts.specs.declared.test.Cell.TheVariants.{Stays, Gone, Becomes}
+use Rattle.std.specs.Prelude.{◌≡◌, ◌⊎◌, List}
 use Rattle.flow_facts.specs.declared.place.Place.{Place}
 use Rattle.flow_facts.specs.Known.{Map, both}
 use Rattle.fact_trail.specs.declared.plans.Planned.{Planned}
@@ -13,17 +9,6 @@ use Rattle.refine_flow.specs.declared.names.Names.{Names}
 use Rattle.refine_flow.specs.declared.whole.Row.{Row}
 use Rattle.refine_flow.specs.Standing.{types_by}
 use Rattle.refine_flow.specs.Whole.{met}
-
--- what a fact of a type becomes
-abbrev pub left_of : FlowType → Cell → Option FlowType
-left_of t Stays = Some t
-left_of t Gone = None
-left_of t (Becomes u) = Some u
-
--- what it becomes is its own join with itself
-abbrev pub IsJoint : Cell → Type 0
-IsJoint (Becomes u) = join_of (u ∷ u ∷ []) ≡ u
-IsJoint cell = Unit {0}
 
 -- a map in which some places are joined with others
 abbrev pub IsBetween : Map → Map → Map → Type 0

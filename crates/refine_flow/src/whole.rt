@@ -8,7 +8,7 @@ ghost use Rattle.fact_trail.specs.Rows.{class_facts_of};
 ghost use Rattle.fact_trail.specs.Moments.{map_of};
 ghost use Rattle.type_terms.specs.Join.{join_of};
 ghost use Rattle.flow_facts.specs.Known.{no_facts, joined, both, variable_place, property_place};
-ghost use Rattle.refine_flow.specs.Planning.{left_of, IsJoint};
+ghost use Rattle.refine_flow.specs.Becoming.{left_of, IsJoint};
 
 use crate::facts::Facts;
 use fact_trail::{ClassFacts, Fact, Key, Planned, Slot};

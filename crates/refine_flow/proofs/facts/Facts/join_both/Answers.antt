@@ -3,9 +3,7 @@ use Rattle.refine_flow.specs.declared.whole.Row.{Row}
 use Rattle.refine_flow.specs.Standing.{shown}
 use Rattle.refine_flow.specs.Whole.{AreTrue}
 use Rattle.refine_flow.specs.Planning.{JoinsRows}
-use Rattle.refine_flow.proofs.Joints.{plan_fits, both_joined, same_known}
-use Rattle.refine_flow.proofs.Dropping.{same_names}
-use Rattle.refine_flow.proofs.MarkLemmas.{keeps_marks}
+use Rattle.refine_flow.proofs.Joints.{plan_fits, both_joined, same_known, extends_marks}
 use Rattle.refine_flow.proofs.facts.Facts.join_both.Goals as goal
 
 pub plan-requires : goal.plan-requires
@@ -23,7 +21,7 @@ pub returns-clause-err : goal.returns-clause-err
 returns-clause-err c = same_known c.make_planned.result c.args.self.now c.make_planned.new.self c.make_planned.ensures.err
 
 pub returns-clause-marks : goal.returns-clause-marks
-returns-clause-marks c = keeps_marks c.args.self.now _ refl (same_names c.args.self.now _ refl) c.make_planned.ensures.extends.longer c.make_planned.ensures.extends.moments
+returns-clause-marks c = extends_marks c.args.self.now _ refl refl c.make_planned.ensures.extends
 
 pub invariant_of-self : goal.invariant_of-self
 invariant_of-self c = record { tidy = λ s beyond. c.make_planned.ensures.extends.fresh s (c.args.self.now.tidy s beyond) }

@@ -14,8 +14,8 @@ returns-in-Gone c =
     joins_next c.plan_at.result c.args.self.now.names (shown c.args.others.now) (shown c.args.self.now) c.args.row.now None c.args.plan.now.items c.plan_at.new.plan.items c.requires
     (cell_left c.args.row.now.ty c.in_ok-cell.cell Gone c.in_ok-theirs.theirs (shown c.args.others.now c.args.row.now.place) c.in_ok-cell.ensures.left c.in-Gone.is c.in_ok-theirs.ensures) tt c.plan_at.ensures
 
-pub settled-requires : goal.settled-requires
-settled-requires c = joint_as c.in_ok-cell.cell (Becomes c.in-Becomes.ty) c.in-Becomes.is c.in_ok-cell.ensures.settled
+pub settled-fact-requires : goal.settled-fact-requires
+settled-fact-requires c = joint_as c.in_ok-cell.cell (Becomes c.in-Becomes.ty) c.in-Becomes.is c.in_ok-cell.ensures.settled
 
 pub returns-in-Becomes : goal.returns-in-Becomes
 returns-in-Becomes c =
