@@ -1,10 +1,9 @@
 -- Going back, or staying.
-use Rattle.std.proofs.Common.{◌≡◌, ◌≤◌, ◌+◌, ℕ, Option, None, drop, length, vec_len, vec_capacity, refl, sym, ap, ◌∙◌, arith}
+use Rattle.std.proofs.Common.{◌≡◌, ◌≤◌, ℕ, drop, length, vec_capacity, ap, ◌∙◌, arith}
 use Rattle.fact_trail.specs.declared.spare.Spare.{Spare}
 use Rattle.fact_trail.specs.declared.trail.Trail.{Trail}
-use Rattle.fact_trail.specs.declared.slot.Slot.{Slot}
 use Rattle.fact_trail.specs.Slots.{Map}
-use Rattle.fact_trail.specs.Moments.{map_of, map_at, undone, KeepsMoments, IsNew, IsSame}
+use Rattle.fact_trail.specs.Moments.{map_of, map_at, undone, IsSame}
 use Rattle.fact_trail.specs.Spares.{spare_map, CanTake, TakesOver}
 use Rattle.fact_trail.proofs.Changes.{none_now, new_same}
 use Rattle.fact_arms.specs.Differences.{GoesBack, KeepsUpTo}

@@ -1,7 +1,6 @@
 -- Copies of facts, and joining with others place by place.
-use Rattle.std.proofs.Common.{◌≡◌, ℕ, Bool, true, false, List, [], Option, Some, None, Result, Ok, Err, OnOk, refl, sym, ap, ◌∙◌, subst, if◌then◌else◌}
+use Rattle.std.proofs.Common.{◌≡◌, ℕ, Bool, true, false, List, [], Some, None, refl, sym, ap, ◌∙◌, subst, if◌then◌else◌}
 use Rattle.std.specs.Option.{is_some}
-use Rattle.type_values.specs.declared.types.FlowType.{FlowType}
 use Rattle.fact_trail.specs.declared.slot.Slot.TheVariants.{Variable, Property}
 use Rattle.fact_trail.specs.declared.slot.Key.{Key}
 use Rattle.fact_trail.specs.Moments.{map_of}
@@ -10,11 +9,11 @@ use Rattle.refine_flow.specs.declared.facts.Facts.{Facts}
 use Rattle.refine_flow.specs.declared.facts.Mark.{Mark}
 use Rattle.refine_flow.specs.declared.whole.Row.{Row}
 use Rattle.refine_flow.specs.Numbers.{name_of}
-use Rattle.refine_flow.specs.Whole.{told, met, is_listed, AreTrue, AddsTrue}
+use Rattle.refine_flow.specs.Whole.{told, is_listed, AreTrue, AddsTrue}
 use Rattle.refine_flow.specs.Standing.{shown, known, IsLast, KeepsMarksUpTo, SpendsMark}
 use Rattle.refine_flow.proofs.Growing.{some_same}
 use Rattle.refine_flow.proofs.MarkLemmas.{grows_twice, keeps_mark_twice}
-use Rattle.refine_flow.proofs.Listing.{told_all, unlisted_none, met_all}
+use Rattle.refine_flow.proofs.Listing.{told_all, unlisted_none}
 use Rattle.refine_flow.proofs.Turning.{last_of}
 
 -- ---- facts that are known to be live

@@ -14,15 +14,14 @@ use Rattle.type_values.specs.declared.types.FlowType.{FlowType}
 use Rattle.fact_trail.proofs.Changes.{none_now, drops_none, fresh_at_first}
 use Rattle.fact_trail.proofs.Same.{same_slot}
 use Rattle.flow_facts.specs.declared.place.Place.{Place}
-use Rattle.flow_facts.specs.Known.{Map, live, without, without_properties, is_property, at_place, is_place}
+use Rattle.flow_facts.specs.Known.{Map, live, without, without_properties, is_property, at_place}
 use Rattle.refine_flow.specs.declared.names.Names.{Names}
 use Rattle.refine_flow.specs.Numbers.{GrowsNames, IsBeyond}
 use Rattle.refine_flow.proofs.Types.{types_at, types_without, types_grown}
 use Rattle.refine_flow.specs.declared.facts.Facts.{Facts}
-use Rattle.refine_flow.specs.Standing.{slot_of, type_in, types_by, shown, known, KeepsMarks, Changes}
+use Rattle.refine_flow.specs.Standing.{slot_of, types_by, known, KeepsMarks, Changes}
 use Rattle.refine_flow.proofs.Gone.{without_both, properties_alike}
-use Rattle.refine_flow.proofs.Places.{same_place}
-use Rattle.refine_flow.proofs.MarkLemmas.{grows_itself, keeps_itself, keeps_marks, changed_twice, changed_as, known_changed, keeps_twice, nothing_changed}
+use Rattle.refine_flow.proofs.MarkLemmas.{grows_itself, keeps_marks, changed_twice, changed_as, known_changed, keeps_twice, nothing_changed}
 
 -- what the elements so far drop, where there are none
 pub none_dropped : {A : Type 0} (lost : A → Place → Bool) (xs : List A) (f : Facts) → Changes (without (λ q. list_any (λ x. lost x q) (take 0 xs))) f f

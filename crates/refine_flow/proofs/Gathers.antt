@@ -1,5 +1,5 @@
 -- What ways made of facts where they met, gathered behind them.
-use Rattle.std.proofs.Common.{◌≡◌, true, false, Some, None, Result, Ok, Err, IfOk, length, sym, ap, ◌∙◌, subst, if◌then◌else◌, arith}
+use Rattle.std.proofs.Common.{◌≡◌, true, false, Some, None, Result, Ok, Err, IfOk, sym, ap, ◌∙◌, subst, if◌then◌else◌, arith}
 use Rattle.fact_trail.specs.declared.trail.Trail.{Trail}
 use Rattle.fact_trail.specs.declared.slot.Slot.{Slot}
 use Rattle.fact_trail.specs.Slots.{Map as Slots}

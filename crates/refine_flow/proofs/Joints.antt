@@ -90,8 +90,7 @@ between_stays others m n p t has stays between = at (between p)
 pub joins_stays : (names : Names) (others m : Map) (row : Row) (plan : List Planned) → m row.place ≡ Some row.ty → both (Some row.ty) (others row.place) ≡ Some row.ty →
     (rows : List Row) → JoinsRows names others m rows plan → JoinsRows names others m (rows ++ row ∷ []) plan
 joins_stays names others m row plan has stays rows joins n between =
-    let was = joins n between in
-    (
+    let was = joins n between in (
       was.0 ∙ ap (met others rows) (placed (types_by names n) row.place (both (Some row.ty) (others row.place)) (between_stays others m (types_by names n) row.place row.ty has stays between)) ∙ sym (met_end others rows row (types_by names n)),
       was.1,
     )
@@ -127,11 +126,10 @@ replaces names others m n p s t (Some fact) here has is smooth between = (smooth
 -- a row whose fact becomes another one
 pub joins_more : (names : Names) (others m : Map) (row : Row) (fact : Option Fact) (old new : List Planned) → m row.place ≡ Some row.ty → type_of fact ≡ both (Some row.ty) (others row.place) → IsSmooth fact → PlansAt names row.place fact old new →
     (rows : List Row) → JoinsRows names others m rows old → JoinsRows names others m (rows ++ row ∷ []) new
-joins_more names others m row fact old new has is smooth plans rows joins n between =
-    (
-      ap (λ l. types_by names (planned l n)) plans.2 ∙ ap (types_by names) (planned_end old one n) ∙ was.0 ∙ ap (met others rows) made ∙ sym (met_end others rows row (types_by names n)),
-      subst (λ l. Fits l n) (sym plans.2) (end_fits old one n (replaces names others m n row.place plans.0 row.ty fact plans.1 has is smooth between) was.1),
-    )
+joins_more names others m row fact old new has is smooth plans rows joins n between = (
+  ap (λ l. types_by names (planned l n)) plans.2 ∙ ap (types_by names) (planned_end old one n) ∙ was.0 ∙ ap (met others rows) made ∙ sym (met_end others rows row (types_by names n)),
+  subst (λ l. Fits l n) (sym plans.2) (end_fits old one n (replaces names others m n row.place plans.0 row.ty fact plans.1 has is smooth between) was.1),
+)
   where
     one : Planned
     one = record { slot = plans.0; fact = fact }

@@ -5,8 +5,6 @@ use Rattle.std.specs.List.{list_any}
 use Rattle.std.specs.Option.{is_some, option_map}
 use Rattle.std.specs.Ordering.{nat_cmp}
 use Rattle.std.specs.BTreeMap.{is_at}
-use Rattle.type_values.specs.declared.types.FlowType.{FlowType}
-use Rattle.type_terms.specs.Join.{join_of}
 use Rattle.fact_trail.specs.declared.fact.Fact.{Fact}
 use Rattle.fact_trail.specs.declared.class_facts.ClassFacts.{ClassFacts}
 use Rattle.fact_trail.specs.declared.slot.Slot.TheVariants.{Variable, Property}
@@ -196,4 +194,3 @@ slot_numbered names k x is = ap (option_map (slot_named k.binding)) (names.numbe
 -- a place has its slot's type
 pub shown_at : (f : Facts) (q : Place) (s : Slot) (fact : Fact) → slot_of f.names q ≡ Some s → map_of f.trail s ≡ Some fact → shown f q ≡ Some (ty_of fact)
 shown_at f q s fact there is = ap (type_in (map_of f.trail)) there ∙ ap (option_map ty_of) is
-

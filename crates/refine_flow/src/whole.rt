@@ -210,12 +210,7 @@ impl Facts {
     }
 
     // Plans what a row's place is to have where its fact is joined with that of others.
-    fn plan_row(
-        &self,
-        row: &Row,
-        others: &Facts,
-        plan: &mut Vec<Planned>,
-    ) -> Result<(), NoMemory>
+    fn plan_row(&self, row: &Row, others: &Facts, plan: &mut Vec<Planned>) -> Result<(), NoMemory>
         requires { shown self.now row.now.place ≡ Some row.now.ty }
         ensures { OnOk result ((rows : List Row) → JoinsRows self.now.names (shown others.now) (shown self.now) rows plan.old.items → JoinsRows self.now.names (shown others.now) (shown self.now) (rows ++ row.now ∷ []) plan.new.items) }
     {
