@@ -59,11 +59,11 @@ def fault_of(root, modules, errors):
     return None
 
 
-def main():
+def run_cases(cases, fault_of):
+    """Tries each case, which is a name and what is given to `fault_of` behind a folder of its own, and returns the status of it all."""
     word = sys.argv[1] if len(sys.argv) > 1 else ""
     build()
-    cases = [*written(), *((name, [(b"a.js", source)], errors) for name, source, errors in FURTHER)]
-    names = [name for name, _, _ in cases]
+    names = [name for name, *_ in cases]
     wrong = {f"{it}: two cases have this name" for it in names if names.count(it) > 1}
     with tempfile.TemporaryDirectory(prefix="flowd-tests-") as room, ThreadPoolExecutor(os.cpu_count()) as pool:
         chosen = [it for it in enumerate(cases) if word in it[1][0]]
@@ -73,6 +73,11 @@ def main():
         print(f"FAILED: {it}")
     print(f"{len(chosen) - len(wrong)} passed, {len(wrong)} failed")
     return 1 if wrong or not chosen else 0
+
+
+def main():
+    cases = [*written(), *((name, [(b"a.js", source)], errors) for name, source, errors in FURTHER)]
+    return run_cases(cases, fault_of)
 
 
 if __name__ == "__main__":
