@@ -20,6 +20,7 @@ from scripts import BAD_LINE, LIMIT, LONGEST_LINE, RECHECK, STATUS, delete, done
 
 MOST_LINES = 1_048_576
 MOST_BYTES = 1_048_576  # of a source
+SECONDS = 600  # for a run, at the most
 DEEPEST = 127  # arrays and objects in one another, in a line
 
 
@@ -141,6 +142,11 @@ NO_PATHS = ["", ".", "..", "a", "js", "a.JS", "a.jsx", "a.js ", "a.js/", "a.js/.
 NO_PATHS += ["a\n.js", "a\t.js", "a\u001f.js", "a\r/b.js", longest("x", 1), longest("\u00e9", 1), longest("\U0001f600", 1), "a/" * 511 + "a.js", "x" * 1_000_000 + ".js"]
 
 
+def can_be(path):
+    """Whether a folder can have this path: a name has 255 bytes at most."""
+    return all(len(it.encode()) <= 255 for it in path.split("/"))
+
+
 def named(path):
     return json.dumps(path) if len(path) < 40 else f"{json.dumps(path[:8])} .. of {len(path.encode()):,} bytes"
 
@@ -173,7 +179,8 @@ TEXTS = [
     ("a character of two halves", 'const x: number = "\U0001f600";', ['1:19 incompatible-type "\U0001f600" number'.encode()]),
 ]
 SCRIPTS = [
-    *((f"the path {named(it)}", edit(it, b"") + RECHECK + touch(it) + RECHECK + edit(it, b"") + delete(it) + RECHECK, done(2, 1) + done(3, 0) + done(4, 0), CLEAN) for it in PATHS),
+    *((f"the path {named(it)}", edit(it, b"") + RECHECK + delete(it) + RECHECK + edit(it, b"") + delete(it) + RECHECK, done(2, 1) + done(3, 0) + done(4, 0), CLEAN) for it in PATHS),
+    *((f"a touch of the path {named(it)}", edit(it, b"") + RECHECK + touch(it) + RECHECK, done(2, 1) + done(3, 0), CLEAN) for it in PATHS if can_be(it)),
     *((f"no path in {name}: {named(it)}", do(it), BAD, BAD_LINE) for it in NO_PATHS for name, do in (("an edit", lambda it: edit(it, b"")), ("a delete", delete), ("a touch", touch))),
     *((name, of_text(text), told(*errors), ERRORS if errors else CLEAN) for name, text, errors in TEXTS),
     # Lengths.
@@ -229,18 +236,14 @@ FOLDERS = [
 ]
 
 
-def fault_of(root, *case):
-    """What is wrong with what is printed of a case, if anything is."""
-    what, printed, status = case
+def expect_printed(root, what, printed, status):
+    """What is printed of a folder, or of a script over an empty one."""
+    is_folder = isinstance(what, dict)
     os.makedirs(root)
-    for path, text in what.items() if isinstance(what, dict) else ():
+    for path, text in what.items() if is_folder else ():
         write(f"{root}/{path}", text)
-    before = b"" if isinstance(what, dict) else recheck(0)
-    try:
-        expect(run(root, stdin=None, input=STATUS if isinstance(what, dict) else what), status, before + printed)
-    except AssertionError as why:
-        return str(why) if len(str(why)) < 1000 else f"{str(why)[:700]} .. {str(why)[-300:]}"
-    return None
+    script, before = (STATUS, b"") if is_folder else (what, recheck(0))
+    expect(run(root, stdin=None, input=script, timeout=SECONDS), status, before + printed)
 
 
 def a_million_modules(root):
@@ -251,9 +254,9 @@ def a_million_modules(root):
                 write(f"{room}/{number}.js", b"")
             else:
                 os.link(f"{room}/{number // 50_000 * 50_000}.js", f"{room}/{number}.js")
-        expect(run(room, timeout=600), LIMIT, b"limit files %d\n" % MOST_ENTRIES)
+        expect(run(room, timeout=SECONDS), LIMIT, b"limit files %d\n" % MOST_ENTRIES)
         write(f"{room}/more", b"")
-        expect(run(room, timeout=600), FOLDER_FAULT, b"")
+        expect(run(room, timeout=SECONDS), FOLDER_FAULT, b"")
 
 
 def cases():
@@ -269,7 +272,7 @@ def main():
         real_folders.CASES = [a_million_modules]
         del sys.argv[1]
         return real_folders.main()
-    return run_cases(list(cases()), fault_of)
+    return run_cases(list(cases()), expect_printed)
 
 
 if __name__ == "__main__":

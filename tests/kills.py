@@ -238,13 +238,14 @@ def a_reader_that_goes_away(root):
 
 
 def broken_off(size):
-    """What the first bytes of the script print, and the status."""
+    """The status of the first bytes of the script, and what they print."""
     printed, errors, left = recheck(3), 0, SCRIPT[:size]
     for number, (line, answer, count) in enumerate(LINES, 1):
-        if left and left != line[: len(left)] or len(left) >= len(line) - 1 > 0:
-            printed, errors, left = printed + answer, count, left[len(line) :]
-        elif left.strip():
+        if not left:
+            break
+        if len(left) < len(line) - 1:
             return BAD_LINE, printed + b"bad line %d\n" % number
+        printed, errors, left = printed + answer, count, left[len(line) :]
     return ERRORS if errors else CLEAN, printed
 
 

@@ -12,6 +12,7 @@ follows below. The last line is 'N passed, M failed'.
 
 import os
 import re
+import subprocess
 import sys
 import tempfile
 from concurrent.futures import ThreadPoolExecutor
@@ -47,37 +48,41 @@ def written():
     return [case_of(it.removesuffix(b"\n")) for it in texts]
 
 
-def fault_of(root, modules, errors):
-    """What is wrong with what is printed of a program, if anything is."""
+def expect_program(root, modules, errors):
+    """What is printed of a program."""
     for path, text in modules:
         write(f"{root}/{path.decode()}", text)
     told = recheck(len(modules), len(errors)) + b"1 status: %d errors\n" % len(errors) + b"".join(b"  %s\n" % it for it in errors)
+    expect(run(root, stdin=None, input=STATUS), ERRORS if errors else CLEAN, told)
+
+
+def fault_of(test, root, case):
+    """What is wrong with a case, if anything is."""
     try:
-        expect(run(root, stdin=None, input=STATUS), ERRORS if errors else CLEAN, told)
-    except AssertionError as why:
-        return str(why)
+        test(root, *case[1:])
+    except (AssertionError, OSError, subprocess.SubprocessError) as why:
+        return f"{case[0]}: {why}"
     return None
 
 
-def run_cases(cases, fault_of):
-    """Tries each case, which is a name and what is given to `fault_of` behind a folder of its own, and returns the status of it all."""
+def run_cases(cases, test):
+    """Tries each case, which is a name and what the test takes behind a folder of its own, and returns the status of it all."""
     word = sys.argv[1] if len(sys.argv) > 1 else ""
     build()
     names = [name for name, *_ in cases]
-    wrong = {f"{it}: two cases have this name" for it in names if names.count(it) > 1}
-    with tempfile.TemporaryDirectory(prefix="flowd-tests-") as room, ThreadPoolExecutor(os.cpu_count()) as pool:
+    wrong = [f"{it}: two cases have this name" for it in sorted(set(names)) if names.count(it) > 1]
+    with tempfile.TemporaryDirectory(prefix="flowd-tests-") as room, ThreadPoolExecutor(len(os.sched_getaffinity(0))) as pool:
         chosen = [it for it in enumerate(cases) if word in it[1][0]]
-        faults = pool.map(lambda it: fault_of(f"{room}/{it[0]}", *it[1][1:]), chosen)
-        wrong |= {f"{case[0]}: {fault}" for (_, case), fault in zip(chosen, faults) if fault}
-    for it in sorted(wrong):
-        print(f"FAILED: {it}")
+        wrong += filter(None, pool.map(lambda it: fault_of(test, f"{room}/{it[0]}", it[1]), chosen))
+    for it in wrong:
+        print(f"FAILED: {it if len(it) < 2000 else f'{it[:1500]} .. {it[-400:]}'}")
     print(f"{len(chosen) - len(wrong)} passed, {len(wrong)} failed")
     return 1 if wrong or not chosen else 0
 
 
 def main():
     cases = [*written(), *((name, [(b"a.js", source)], errors) for name, source, errors in FURTHER)]
-    return run_cases(cases, fault_of)
+    return run_cases(cases, expect_program)
 
 
 if __name__ == "__main__":

@@ -389,7 +389,7 @@ class Model:
     """What is committed, what is edited, and what the folder has, each by paths. It asks fresh runs what is printed of a program."""
 
     def __init__(self, room, folder):
-        self.room, self.files, self.written = room, dict(folder), {}
+        self.room, self.files, self.written = room, dict(folder), None
         self.version, self.program, self.printed = 0, {}, []
         self.edits = {path: ("touch",) for path in folder}
 
@@ -419,9 +419,12 @@ class Model:
 
     def fresh(self):
         """The lines of the errors that a fresh run prints of the program."""
-        for path in {**self.written, **self.program}:
+        if self.program == self.written:
+            return self.printed
+        written = self.written or {}
+        for path in {**written, **self.program}:
             left = self.program.get(path)
-            if left != self.written.get(path):
+            if left != written.get(path):
                 put(self.room, path, left)
         self.written = self.program
         status, out, said = run(self.room, stdin=None, input=STATUS)
