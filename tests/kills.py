@@ -9,20 +9,23 @@ answered, and the part of a line that is left is one that is no command. SEED in
 line is 'N passed, M failed'.
 """
 
+import fcntl
 import os
 import random
 import re
+import select
 import subprocess
 import sys
+import termios
 import time
 
 sys.path.insert(0, os.path.dirname(os.path.abspath(__file__)))
 import real_folders
 from real_folders import CLEAN, ERRORS, FLOWD, SINK_FAULT, go_straight, recheck, run, write
-from scripts import BAD_LINE, END, RECHECK, STATUS, Talk, delete, done, edit, touch, with_errors
+from scripts import BAD_LINE, END, PATIENCE, RECHECK, STATUS, Talk, delete, done, edit, touch, with_errors
 
 KILLS = 120  # in a case
-PIPE = 65_536  # bytes that a pipe takes while nobody reads
+PIPE = 4096  # bytes that a narrow pipe takes while nobody reads
 RANDOM = random.Random(os.environ.get("SEED", "1"))
 CASES = real_folders.CASES = []
 
@@ -75,7 +78,7 @@ def killed(talk):
     """Kills the program, and returns what is left to be read."""
     talk.flowd.kill()
     left = talk.flowd.stdout.read()
-    talk.flowd.wait(60)
+    talk.flowd.wait(PATIENCE)
     talk.flowd.stdout.close()
     talk.flowd.stdin.close()
     return left
@@ -148,56 +151,51 @@ def killed_while_it_answers_line_by_line(root):
 
 
 def many_errors(root):
-    """A folder whose status is longer than a pipe, a script, and what it prints."""
-    whole = with_errors(root, 2000)
-    if len(whole) < PIPE + 10_000:
-        raise AssertionError(f"it is {len(whole)} bytes long")
+    """A folder whose status is longer than a narrow pipe, a script, and what it prints."""
+    whole = with_errors(root, 300)
     return STATUS + edit("a.js", b"") + RECHECK + STATUS, whole + done(2, 1) + b"2 status: 0 errors\n"
+
+
+def narrow(root):
+    """A talk whose answers have room for PIPE bytes while nobody reads."""
+    talk = Talk(root)
+    fcntl.fcntl(talk.flowd.stdout, fcntl.F_SETPIPE_SZ, PIPE)
+    return talk
+
+
+def waiting(pipe):
+    """How many bytes wait in a pipe."""
+    return int.from_bytes(fcntl.ioctl(pipe, termios.FIONREAD, bytes(4)), sys.byteorder)
 
 
 @case
 def killed_while_nobody_reads(root):
     """It waits for room in a line of errors."""
     script, whole = many_errors(root)
-    for _ in range(5):
-        talk = Talk(root)
+    for _ in range(3):
+        talk, until = narrow(root), time.monotonic() + PATIENCE
         talk.say(script)
-        until = time.monotonic() + 60
-        while not waits(talk.flowd.pid) and time.monotonic() < until:
+        while waiting(talk.flowd.stdout) < PIPE // 2 and time.monotonic() < until:
             time.sleep(0.01)
+        time.sleep(RANDOM.random() * 0.1)
         got = killed(talk)
         expect_front(got, whole)
         if len(got) < PIPE // 2:
             raise AssertionError(f"it was killed behind {len(got)} bytes")
 
 
-def waits(pid):
-    """Whether some thread of it waits for room in a pipe."""
-    try:
-        for thread in os.listdir(f"/proc/{pid}/task"):
-            with open(f"/proc/{pid}/task/{thread}/wchan", encoding="ascii") as where:
-                if "pipe_write" in where.read():
-                    return True
-    except OSError:
-        pass
-    return False
-
-
 @case
 def killed_while_it_prints_much(root):
     script, whole = many_errors(root)
-    write(f"{root}/script", script)
-    started = time.monotonic()
-    run(root, stdin=None, input=script)
-    takes = time.monotonic() - started
-    for _ in range(KILLS // 3):
-        talk = Talk(root)
+    for number in range(KILLS // 3):
+        talk, got, started = narrow(root), b"", time.monotonic()
         talk.say(script)
-        got, until = b"", time.monotonic() + RANDOM.random() * takes
-        os.set_blocking(talk.flowd.stdout.fileno(), False)
-        while time.monotonic() < until:
-            got += talk.flowd.stdout.read(RANDOM.randint(1, 9000)) or b""
-        os.set_blocking(talk.flowd.stdout.fileno(), True)
+        until = started + (RANDOM.random() * takes if number else PATIENCE)
+        while time.monotonic() < until and len(got) < len(whole):
+            if select.select([talk.flowd.stdout], [], [], max(0, until - time.monotonic()))[0]:
+                got += os.read(talk.flowd.stdout.fileno(), RANDOM.randint(1, 2000))
+        if number == 0:
+            takes = time.monotonic() - started
         expect_front(got + killed(talk), whole)
 
 
@@ -210,12 +208,12 @@ def killed_with_its_output_in_a_file(root):
         with open(f"{root}/script", "rb") as lines, open(f"{root}/out", "wb") as out:
             flowd = subprocess.Popen([FLOWD, f"{root}/d"], stdin=lines, stdout=out)
             if number == 0:
-                flowd.wait(60)
+                flowd.wait(PATIENCE)
                 takes = time.monotonic() - started
             else:
                 time.sleep(RANDOM.random() * takes)
             flowd.kill()
-            flowd.wait(60)
+            flowd.wait(PATIENCE)
         with open(f"{root}/out", "rb") as out:
             expect_front(out.read(), whole)
 
@@ -225,12 +223,14 @@ def a_reader_that_goes_away(root):
     """It has read some bytes. What is printed then is no one's, and the status says so, unless all was printed before."""
     script, whole = many_errors(root)
     for _ in range(KILLS // 6):
-        size = RANDOM.randint(0, len(whole) - PIPE - 4096)
-        talk = Talk(root)
+        size = RANDOM.randint(0, len(whole) - 2 * PIPE)
+        talk = narrow(root)
         talk.say(script)
-        got = talk.flowd.stdout.read(size)
+        got = b""
+        while len(got) < size:
+            got += os.read(talk.flowd.stdout.fileno(), size - len(got)) or b"?" * size
         talk.flowd.stdout.close()
-        status = talk.flowd.wait(60)
+        status = talk.flowd.wait(PATIENCE)
         talk.flowd.stdin.close()
         expect_front(got[: got.rfind(b"\n") + 1], whole)
         if not whole.startswith(got) or status != SINK_FAULT:

@@ -24,8 +24,8 @@ from scripts import NO_MEMORY, RECHECK, STATUS, done, edit
 
 AT_ONCE = 2  # runs
 EACH, SAMPLE = 3000, 300  # requests of the small run and of the example's that are refused, at the most
-SIZES = 60  # of the address space
-STACK = 1 << 20  # kilobytes that the thread that does all work asks for
+SIZES = 40  # of the address space
+STACK, AMPLE = 1 << 20, 60_000  # kilobytes that the thread that does all work asks for, and that are enough for the rest
 REFUSED = b"refused\n"
 NO_THREAD = b"flowd: no thread with a stack of 1 GiB could be started\n"
 CASES = real_folders.CASES = []
@@ -150,8 +150,8 @@ def nothing_is_refused(root):
 def an_address_space_that_is_small(root):
     """It grows from what no thread can be started in to what is ample."""
     for runs in (small(root), example(root)):
-        low, high, ends = STACK, STACK + 200_000, set()
-        for size in range(low, high, (high - low) // SIZES):
+        ends = set()
+        for size in range(STACK, STACK + AMPLE, AMPLE // SIZES):
             ends.add(runs.run(before=["sh", "-c", f'ulimit -v {size}; exec "$@"', "sh"])[0])
         if ends != {NO_MEMORY, runs.whole[0]}:
             raise AssertionError(f"it ended with {ends}")

@@ -21,6 +21,7 @@ from real_folders import BAD, CLEAN, ERRORS, FLOWD, GOOD, MOST_BYTES, SCRIPT_FAU
 
 BAD_LINE, LIMIT, NO_MEMORY = 65, 69, 70
 LONGEST_LINE = 4_194_304
+PATIENCE = 300  # seconds of waiting for an answer, at the most
 CLIENT = f"{TOP}/examples/client.py"
 CASES = real_folders.CASES = []
 
@@ -343,10 +344,10 @@ class Talk:
         self.flowd.stdin.flush()
 
     def expect(self, text):
-        got, until = b"", time.monotonic() + 60
+        got, until = b"", time.monotonic() + PATIENCE
         while len(got) < len(text):
             if not select.select([self.flowd.stdout], [], [], max(0, until - time.monotonic()))[0]:
-                raise AssertionError(f"it printed {got} in a minute, and not {text}")
+                raise AssertionError(f"it printed {got} in {PATIENCE} seconds, and not {text}")
             more = os.read(self.flowd.stdout.fileno(), 65_536)
             if not more:
                 break
@@ -359,7 +360,7 @@ class Talk:
         self.expect_end(status)
 
     def expect_end(self, status):
-        if (self.flowd.stdout.read(), self.flowd.wait(60)) != (b"", status):
+        if (self.flowd.stdout.read(), self.flowd.wait(PATIENCE)) != (b"", status):
             raise AssertionError(f"it ended with {self.flowd.returncode}, and not {status}")
 
 
