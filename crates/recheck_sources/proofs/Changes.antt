@@ -1,13 +1,10 @@
 -- Which modules an edit changes, by the flags of their parts.
-use Rattle.std.proofs.Common.{◌≡◌, ◌≢◌, ℕ, zero, suc, ◌<◌, Bool, true, false, not, List, [], ◌∷◌, map, length, slice_get, Option, Some, None, IsSome, refl, sym, ap, ◌∙◌, subst, inl, inr, arith, bytes_eq}
+use Rattle.std.proofs.Common.{◌≡◌, ◌≢◌, ℕ, ◌<◌, Bool, true, false, not, List, length, slice_get, Option, Some, None, IsSome, refl, sym, ap, ◌∙◌, subst, inl, inr, arith}
 use Rattle.std.specs.Cmp.Lexicographic.{bytes_decides}
 use Rattle.flow_base.specs.Program.{Bytes, text_at}
 use Rattle.heap_core.proofs.Lists.{get_there}
 use Rattle.check_values.specs.declared.root.RootRow.{RootRow}
-use Rattle.check_values.specs.declared.signatures.Deps.{Deps}
-use Rattle.check_values.specs.declared.signatures.LocalSig.{LocalSig}
 use Rattle.source_front.specs.declared.parse.Parse.{Parse}
-use Rattle.graph_search.specs.Cycles.{Has}
 use Rattle.graph_search.specs.Reach.{IsRising}
 use Rattle.merged_signatures.specs.Chains.{Known}
 use Rattle.affected_law.specs.Affected.{Differs, Parsed}
@@ -31,10 +28,13 @@ use Rattle.recheck_sources.proofs.Loops.{mapped_at, many_mapped}
 -- the numbers of a kind are the places of the paths of which it holds
 are_places : (IsOfKind : ℕ → Type 0) (Holds : Bytes → Type 0) (paths : List Bytes) (n : ℕ) (all : List ℕ) → n ≡ length paths → AreBelow IsOfKind n all
     → ((x : ℕ) → x < n → IsOfKind x → (path : Bytes) × (slice_get paths x ≡ Some path) × Holds path) → ((x : ℕ) (path : Bytes) → slice_get paths x ≡ Some path → Holds path → IsOfKind x) → IsRising all × ArePlaces Holds paths all
-are_places IsOfKind Holds paths n all many below sound complete = (below.rising, record {
-  sound = λ x has. (let s = below.sound x has in sound x s.0 s.1);
-  complete = λ x path at holds. below.complete x (let low = within_there paths x path at in omega (arith, low, many)) (complete x path at holds);
-})
+are_places IsOfKind Holds paths n all many below sound complete = (
+  below.rising,
+  record {
+    sound = λ x has. (let s = below.sound x has in sound x s.0 s.1);
+    complete = λ x path at holds. below.complete x (let low = within_there paths x path at in omega (arith, low, many)) (complete x path at holds);
+  },
+)
 
 module _ (was s : Sources) (old : AreSources was) (new : AreSources s) (from : List (Option ℕ)) (from_is : from ≡ numbers_from was.root s.root) (relisted : List Bool) (lists : TellsOthers was.lists.items from s.lists.items relisted) where
   -- the module that one was, at its path

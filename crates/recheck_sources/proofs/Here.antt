@@ -1,6 +1,5 @@
 -- What is known of the module of a number, and by its path.
-use Rattle.std.proofs.Common.{◌≡◌, ℕ, zero, suc, ◌<◌, ◌^◌, Bool, true, false, cond, List, [], ◌∷◌, map, length, slice_get, Option, Some, None, refl, sym, ap, ◌∙◌, subst, arith, bytes_eq}
-use Rattle.std.proofs.lemmas.List.{length-map}
+use Rattle.std.proofs.Common.{◌≡◌, ℕ, zero, suc, ◌<◌, ◌^◌, Bool, true, false, cond, List, [], ◌∷◌, map, length, slice_get, Some, None, refl, sym, ap, ◌∙◌, subst, arith, bytes_eq}
 use Rattle.flow_base.specs.Program.{Bytes, Program, IsRising, paths_of, text_at}
 use Rattle.heap_core.proofs.Lists.{get_there}
 use Rattle.check_values.specs.Rows.{row_at}
@@ -9,7 +8,7 @@ use Rattle.check_values.specs.declared.root.Root.{Root}
 use Rattle.check_values.specs.declared.signatures.Deps.{Deps}
 use Rattle.source_front.specs.Front.{IsParse}
 use Rattle.source_front.specs.declared.parse.Parse.{Parse}
-use Rattle.merged_signatures.specs.Chains.{Known, most}
+use Rattle.merged_signatures.specs.Chains.{Known}
 use Rattle.merged_signatures.specs.Programs.{IsSmallWithFewExports}
 use Rattle.export_counts.specs.Law as exports
 use Rattle.payloads.specs.State.{program_of}

@@ -1,5 +1,5 @@
 -- Lists that loops make, one element after the other.
-use Rattle.std.proofs.Common.{◌≡◌, ◌≢◌, ℕ, zero, suc, ◌+◌, ◌<◌, Bool, true, false, List, [], ◌∷◌, ◌++◌, map, length, take, get_or, slice_get, Option, Some, None, refl, sym, ap, ◌∙◌, subst, arith, ⊎_elim}
+use Rattle.std.proofs.Common.{◌≡◌, ℕ, zero, suc, ◌+◌, ◌<◌, Bool, true, false, List, [], ◌∷◌, ◌++◌, map, length, get_or, slice_get, Option, Some, None, refl, sym, ap, ◌∙◌, subst, arith, ⊎_elim}
 use Rattle.heap_core.proofs.Lists.{at_more, get_there, get_index}
 use Rattle.check_phases.proofs.Lists.{one_value, place_at, value_at, within_there}
 use Rattle.std.proofs.lemmas.List.{length-append}

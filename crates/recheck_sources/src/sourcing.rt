@@ -16,7 +16,7 @@ use crate::keeping::stand_still;
 use crate::listing::edited_lists;
 use crate::telling::{either_places, relisted_of, resigned_of};
 use check_phases::Sources;
-use check_values::{Deps, Root};
+use check_values::Root;
 use flow_values::{List, NoMemory, Shared};
 use source_front::Parse;
 use std::alloc::Global;

@@ -1,5 +1,5 @@
 //! Which parts of modules are new or differ.
-ghost use Rattle.std.specs.Prelude.{◌≡◌, ◌<◌, ◌+◌, ◌^◌, ◌↔◌, IfOk, OnOk, IsTrue, true, false, length, not};
+ghost use Rattle.std.specs.Prelude.{◌≡◌, ◌<◌, ◌+◌, ◌^◌, ◌↔◌, IfOk, OnOk, IsTrue, true, false, length};
 ghost use Rattle.recheck_plan.specs.Marks.{AreBelow};
 ghost use Rattle.recheck_sources.specs.Keeping.{TellsOther, signatures_of, IsOnEither};
 ghost use Rattle.recheck_sources.specs.Parts.{AreKeptBy, TellsOthers};
@@ -54,12 +54,7 @@ fn list_flag(
 }
 
 // Whether a local signature is new or another one: it is not where the module is not fresh.
-fn signature_flag(
-    was: &[Shared<Parse>],
-    number: Option<u32>,
-    parse: &Parse,
-    fresh: bool,
-) -> bool
+fn signature_flag(was: &[Shared<Parse>], number: Option<u32>, parse: &Parse, fresh: bool) -> bool
     requires { fresh ≡ false → TellsOther (signatures_of was.now) number parse.now.sig false }
     ensures { TellsOther (signatures_of was.now) number parse.now.sig result }
 {

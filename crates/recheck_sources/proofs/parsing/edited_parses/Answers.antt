@@ -1,12 +1,12 @@
-use Rattle.std.proofs.Common.{◌+◌, refl, sym, ap, subst, arith}
+use Rattle.std.proofs.Common.{◌+◌, sym, subst, arith}
 use Rattle.std.specs.Prelude.{IfSome}
 use Rattle.std.proofs.lemmas.Result.{err_from_is_err_and}
 use Rattle.check_values.specs.declared.root.RootRow.{RootRow}
 use Rattle.source_front.specs.Front.{IsParse}
 use Rattle.check_phases.proofs.Fronts.{more_parses, all_parses}
 use Rattle.recheck_sources.specs.Keeping.{IsInPlace}
-use Rattle.recheck_sources.proofs.Counted.{ons_more, ons_part, ons_within, ons_all}
-use Rattle.recheck_sources.proofs.Loops.{kept_at, each_none, each_more}
+use Rattle.recheck_sources.proofs.Counted.{ons_more, ons_part, ons_within}
+use Rattle.recheck_sources.proofs.Loops.{kept_at, each_more}
 use Rattle.recheck_sources.proofs.Serves.{low_fresh}
 use Rattle.recheck_sources.proofs.Steps.{made_next, parse_next, parses_kept, in_place}
 use Rattle.recheck_sources.proofs.parsing.edited_parses.Goals as goal

@@ -1,5 +1,4 @@
 use Rattle.std.proofs.Common.{ℕ, length, ap, ◌∙◌, subst}
-use Rattle.check_values.specs.Roots.{paths_of}
 use Rattle.check_values.specs.declared.root.Root.{Root}
 use Rattle.recheck_sources.specs.Keeping.{StandStill}
 use Rattle.recheck_sources.proofs.Serves.{paths_stay}

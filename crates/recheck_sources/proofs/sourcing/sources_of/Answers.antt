@@ -1,5 +1,3 @@
-use Rattle.std.proofs.Common.{ap, ◌∙◌}
-use Rattle.check_values.specs.Roots.{paths_of}
 use Rattle.recheck_sources.proofs.Here.{are_sources}
 use Rattle.recheck_sources.proofs.sourcing.sources_of.Goals as goal
 

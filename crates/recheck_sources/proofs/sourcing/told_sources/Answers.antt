@@ -1,4 +1,4 @@
-use Rattle.std.proofs.Common.{length, ap, ◌∙◌, arith}
+use Rattle.std.proofs.Common.{arith}
 use Rattle.recheck_sources.proofs.Told.{from_many, fresh_many, other_many, fresh_other, signed_other, changed_told, touched_told}
 use Rattle.recheck_sources.proofs.sourcing.told_sources.Goals as goal
 
