@@ -1,0 +1,9 @@
+pub mod Checks
+pub mod Fresh
+pub mod Leads
+pub mod Listed
+pub mod Moved
+pub mod Named
+pub mod Rests
+pub mod Touches
+pub mod Wholes

@@ -1,0 +1,16 @@
+//! Which modules of an edited program are to be checked: those that changed, and those that find one which leads by names to one whose
+//! merged signature moved.
+#![tactic(auto)]
+
+mod laws;
+mod listing;
+mod moving;
+mod naming;
+mod reaching;
+
+pub use laws::{
+    checked_are_of_checked, checks_are_of_sources, differs_are_touched, parsed_are_fresh,
+    rest_is_same, unmoved_are_changed,
+};
+pub use moving::{any_moved, moved_signatures};
+pub use reaching::checked_modules;
