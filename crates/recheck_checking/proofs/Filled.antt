@@ -56,10 +56,12 @@ each_checked sigs (m ∷ program) (p ∷ parses) (d ∷ lists) (e ∷ errors) ea
     )
 
 pub all_are_checked : AllAreChecked
-all_are_checked s sigs signed checked slots sources are to =
-    (all_filled s signed checked slots to, λ errors is. record {
-      checked = subst (λ (rows : Rows Sig). AreChecked (row_at rows) (program_in s) s.parses.items s.lists.items errors) are.rows
-          (each_checked (row_at signed.rows) (program_in s) s.parses.items s.lists.items errors
-          (λ x e at. to.right x e (ap (λ (l : List (Option Errs)). slice_get l x) (sym is) ∙ get_mapped Some errors x e at)));
-      many = sym (length-map errors Some) ∙ (ap length is ∙ to.many);
-    })
+all_are_checked s sigs signed checked slots sources are to = (
+  all_filled s signed checked slots to,
+  λ errors is. record {
+    checked = subst (λ (rows : Rows Sig). AreChecked (row_at rows) (program_in s) s.parses.items s.lists.items errors) are.rows
+        (each_checked (row_at signed.rows) (program_in s) s.parses.items s.lists.items errors
+        (λ x e at. to.right x e (ap (λ (l : List (Option Errs)). slice_get l x) (sym is) ∙ get_mapped Some errors x e at)));
+    many = sym (length-map errors Some) ∙ (ap length is ∙ to.many);
+  },
+)

@@ -10,4 +10,4 @@ use Rattle.recheck_checking.specs.Signing.{AreSigned}
 use Rattle.recheck_checking.specs.declared.signing.Signed.{Signed}
 
 pub all_signed : (s : Sources) (sigs : List Sig) (rows view : Rows Sig) (signed : Signed) → rows ≡ beside (program_in s) sigs → view ≡ rows → AreNumbers view signed.numbers → signed.rows ≡ rows → AreSigned s sigs signed
-all_signed s sigs rows view signed is seen numbered same = record { rows = same ∙ is; numbers = subst (λ (l : Rows Sig). AreNumbers l signed.numbers) (seen ∙ sym same) numbered }
+all_signed s sigs rows view signed is seen numbered same = record { rows = same ∙ is; numbered = subst (λ (l : Rows Sig). AreNumbers l signed.numbers) (seen ∙ sym same) numbered }

@@ -1,10 +1,10 @@
 //! The errors of the modules that are checked.
 ghost use Rattle.std.specs.Prelude.{◌≡◌, ◌-◌, ◌<◌, ◌≤◌, All, IfOk, OnOk, length};
 ghost use Rattle.analyst.specs.Work.{Works, checking, checks_of};
-ghost use Rattle.import_sayings.specs.Reached.{AreNumbers};
 ghost use Rattle.check_phases.specs.Checking.{IsJobOf, batch_after};
 ghost use Rattle.check_phases.specs.Sourced.{AreSources};
 ghost use Rattle.recheck_checking.specs.Checking.{IsCheckedBy, AreCheckedTo};
+ghost use Rattle.recheck_checking.specs.Signing.{IsNumbered};
 
 use crate::keeping::ErrorSlots;
 use crate::signing::{Signed, modules_of, signatures_for};
@@ -24,7 +24,7 @@ const BATCH: usize = 64;
 fn job_of(alloc: Global, sources: &Sources, signed: &Signed, x: usize) -> Result<CheckJob, NoMemory>
     requires sources { AreSources sources.now }
     requires within { x < length sources.now.root.modules }
-    requires numbered { AreNumbers signed.now.rows signed.now.numbers }
+    requires numbered { IsNumbered signed.now }
     ensures { IfOk result (IsJobOf sources.now signed.now.rows x) }
 {
     let modules = modules_of(sources);
@@ -52,7 +52,7 @@ fn errors_of<A: Analyst>(
 ) -> Result<Shared<Errs>, NoMemory>
     requires sources { AreSources sources.now }
     requires within { x < length sources.now.root.modules }
-    requires numbered { AreNumbers signed.now.rows signed.now.numbers }
+    requires numbered { IsNumbered signed.now }
     ensures errors { IfOk result (IsCheckedBy sources.now signed.now x) }
     ensures work { Works result checking (A.work analyst.old) (A.work analyst.new) }
 {
@@ -80,7 +80,7 @@ pub fn check_batch<A: Analyst>(
     slots: &mut ErrorSlots,
 ) -> Result<(), NoMemory>
     requires sources { AreSources sources.now }
-    requires numbered { AreNumbers signed.now.rows signed.now.numbers }
+    requires numbered { IsNumbered signed.now }
     requires within { All (λ x. x < length sources.now.root.modules) checked.now }
     requires begun { done ≤ length checked.now }
     requires checked { AreCheckedTo sources.now signed.now checked.now done slots.old.items }

@@ -4,10 +4,9 @@ ghost use Rattle.std.specs.List.{flat_map};
 ghost use Rattle.program_check.specs.Full.{beside};
 ghost use Rattle.check_values.specs.Rows.{row_at};
 ghost use Rattle.errors_by_reach.specs.Law.{Agree};
-ghost use Rattle.import_sayings.specs.Reached.{AreNumbers};
 ghost use Rattle.check_phases.specs.Checking.{picked};
 ghost use Rattle.check_phases.specs.Sourced.{program_in};
-ghost use Rattle.recheck_checking.specs.Signing.{AreSigned};
+ghost use Rattle.recheck_checking.specs.Signing.{IsNumbered, AreSigned};
 
 use check_phases::Sources;
 use check_values::{Deps, RootRow, Sig};
@@ -106,7 +105,7 @@ pub(crate) fn signatures_for(
     signed: &Signed,
     deps: &Deps,
 ) -> Result<List<(Path, Shared<Sig>)>, NoMemory>
-    requires { AreNumbers signed.now.rows signed.now.numbers }
+    requires { IsNumbered signed.now }
     ensures { IfOk result (λ some. Agree (row_at signed.now.rows) deps.now (row_at some)) }
 {
     let rows = signed.rows.as_slice();
