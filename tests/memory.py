@@ -24,7 +24,7 @@ from scripts import NO_MEMORY, RECHECK, STATUS, done, edit
 
 AT_ONCE = 2  # runs
 EACH, SAMPLE = 3000, 300  # requests of the small run and of the example's that are refused, at the most
-SIZES = 40  # of the address space
+SIZES = 25  # of the address space
 STACK, AMPLE = 1 << 20, 60_000  # kilobytes that the thread that does all work asks for, and that are enough for the rest
 REFUSED = b"refused\n"
 NO_THREAD = b"flowd: no thread with a stack of 1 GiB could be started\n"

@@ -49,7 +49,7 @@ def recheck(modules, errors=0):
 
 def run(*words, before=(), **how):
     """Runs ./flowd, and returns its status and all that it wrote."""
-    how = {"stdin": subprocess.DEVNULL, "stdout": subprocess.PIPE, "stderr": subprocess.PIPE, "timeout": 100, **how}
+    how = {"stdin": subprocess.DEVNULL, "stdout": subprocess.PIPE, "stderr": subprocess.PIPE, "timeout": 300, **how}
     ran = subprocess.run([*before, FLOWD, *words], **how)
     return ran.returncode, ran.stdout, ran.stderr
 
