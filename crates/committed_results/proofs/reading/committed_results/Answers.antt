@@ -1,5 +1,6 @@
 use Rattle.std.proofs.Common.{List, ap, ◌∙◌}
 use Rattle.check_values.specs.declared.root.Root.{Root}
+use Rattle.check_phases.specs.declared.phases.Made.{Made}
 use Rattle.payloads.specs.Entities.{parse_entity, deps_entity, signature_entity, errors_entity}
 use Rattle.result_parts.specs.Kinds.{is_parse, is_deps, is_sig, is_errs}
 use Rattle.committed_results.proofs.RightKinds.{parse_kinds, deps_kinds, sig_kinds, errs_kinds}
@@ -67,5 +68,10 @@ returns-clause-made g c =
 pub returns-clause-held : goal.returns-clause-held
 returns-clause-held g c =
     let state = (g.W.HeapWriter.meaning c.args.writer.now).committed in
-    has_state c.one_full.ensures c.each_full.ensures c.each_state_has_a_check.ensures c.each_module_has_a_tree.ensures c.few_exports.ensures.names c.few_exports-2.ensures state _ (g.met.W.HeapWriter.sound c.args.writer.now).fit (g.met.W.HeapWriter.numbered c.args.writer.now)
-    (all_read state _ c.as_slice-modules.result.now c.in_ok-root.ensures (c.as_slice-modules.ensures ∙ ap (λ (r : Root). r.modules) c.get.ensures) c.in_ok-parses.ensures c.in_ok-lists.ensures c.in_ok-signatures.ensures c.in_ok-errors.ensures)
+    let made : Made = record {
+      sources = record { root = c.in_ok-root.root; parses = c.in_ok-parses.parses; lists = c.in_ok-lists.lists };
+      signatures = c.in_ok-signatures.signatures;
+      errors = c.in_ok-errors.errors;
+    } in
+    has_state c.one_full.ensures c.each_full.ensures c.each_state_has_a_check.ensures c.each_module_has_a_tree.ensures c.few_exports.ensures.names c.few_exports-2.ensures state made (g.met.W.HeapWriter.sound c.args.writer.now).fit (g.met.W.HeapWriter.numbered c.args.writer.now)
+    (all_read state made c.as_slice-modules.result.now c.in_ok-root.ensures (c.as_slice-modules.ensures ∙ ap (λ (r : Root). r.modules) c.get.ensures) c.in_ok-parses.ensures c.in_ok-lists.ensures c.in_ok-signatures.ensures c.in_ok-errors.ensures)
