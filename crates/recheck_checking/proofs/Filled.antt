@@ -1,10 +1,9 @@
 -- Behind the last batch the errors of all modules are known.
-use Rattle.std.proofs.Common.{◌≡◌, ℕ, zero, suc, ◌<◌, Bool, true, false, List, [], ◌∷◌, map, length, slice_get, Option, Some, None, refl, sym, ap, ◌∙◌, subst, arith}
+use Rattle.std.proofs.Common.{◌≡◌, ℕ, suc, Bool, true, false, List, [], ◌∷◌, length, slice_get, Option, Some, None, refl, sym, ap, ◌∙◌, subst, arith}
 use Rattle.std.proofs.lemmas.List.{length-map}
 use Rattle.flow_base.specs.Program.{Bytes, Program}
 use Rattle.heap_core.specs.Meaning.{names}
 use Rattle.check_values.specs.Rows.{Rows, row_at}
-use Rattle.check_values.specs.declared.root.RootRow.{RootRow}
 use Rattle.check_values.specs.declared.faults.Errs.{Errs}
 use Rattle.check_values.specs.declared.signatures.Deps.{Deps}
 use Rattle.check_values.specs.declared.signatures.Sig.{Sig}
@@ -19,8 +18,7 @@ use Rattle.check_phases.proofs.Lists.{one_value, within_there}
 use Rattle.check_phases.proofs.Waves.{named_has, has_named}
 use Rattle.recheck_merging.proofs.Mapped.{get_mapped}
 use Rattle.recheck_checking.specs.Keeping.{IsFilled, AreFilled}
-use Rattle.recheck_checking.specs.Signing.{AreSigned}
-use Rattle.recheck_checking.specs.Checking.{IsCheckedBy, AreCheckedTo, AllAreChecked}
+use Rattle.recheck_checking.specs.Checking.{AreCheckedTo, AllAreChecked}
 use Rattle.recheck_checking.specs.declared.signing.Signed.{Signed}
 
 all_filled : (s : Sources) (signed : Signed) (checked : List ℕ) (slots : List (Option Errs)) → AreCheckedTo s signed checked (length checked) slots → AreFilled slots

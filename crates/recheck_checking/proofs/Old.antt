@@ -1,5 +1,5 @@
 -- What the modules of the edited program were.
-use Rattle.std.proofs.Common.{◌≡◌, ℕ, zero, suc, Bool, true, false, cond, List, [], ◌∷◌, map, slice_get, Option, Some, None, option_map, bytes_eq, refl, sym, ap, ◌∙◌, subst}
+use Rattle.std.proofs.Common.{◌≡◌, ℕ, zero, suc, Bool, true, false, cond, List, [], ◌∷◌, slice_get, Option, Some, None, option_map, bytes_eq, refl, ap, subst}
 use Rattle.std.specs.Cmp.Lexicographic.{bytes_decides}
 use Rattle.flow_base.specs.Program.{Bytes, text_at}
 use Rattle.check_values.specs.Roots.{paths_of_rows}
@@ -8,7 +8,6 @@ use Rattle.check_values.specs.declared.faults.Errs.{Errs}
 use Rattle.check_values.specs.declared.signatures.Deps.{Deps}
 use Rattle.check_values.specs.declared.signatures.Sig.{Sig}
 use Rattle.source_front.specs.declared.parse.Parse.{Parse}
-use Rattle.program_check.specs.Full.{Results}
 use Rattle.check_phases.specs.Phases.{results_by}
 use Rattle.check_phases.proofs.Lists.{one_value}
 use Rattle.edited_root.specs.From.{texts_in, number_in}

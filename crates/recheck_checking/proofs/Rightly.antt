@@ -1,5 +1,5 @@
 -- Old errors that are kept are right.
-use Rattle.std.proofs.Common.{◌≡◌, ◌≢◌, ℕ, zero, suc, ◌<◌, Bool, true, false, List, [], ◌∷◌, All, map, length, get_or, slice_get, Option, Some, None, is_some, refl, sym, ap, ◌∙◌, subst, arith}
+use Rattle.std.proofs.Common.{◌≡◌, ℕ, zero, suc, ◌<◌, true, false, List, [], ◌∷◌, length, get_or, slice_get, Option, Some, None, is_some, refl, sym, ap, ◌∙◌, subst, arith}
 use Rattle.flow_base.specs.Program.{Bytes, Program, paths_of, text_at}
 use Rattle.heap_core.proofs.Lists.{get_there}
 use Rattle.check_values.specs.Rows.{Rows, row_at}
@@ -19,14 +19,12 @@ use Rattle.errors_by_reach.specs.Law.{Source, HasErrors}
 use Rattle.check_job.specs.Jobs.{source_in}
 use Rattle.program_check.specs.Full as full
 use Rattle.program_check.specs.Full.{Results, beside, deps_in, AreResultsOf, AreResults, IsFull}
-use Rattle.affected_law.specs.Affected.{results_at, Parsed, Checked, by_text}
+use Rattle.affected_law.specs.Affected.{results_at, Checked, by_text}
 use Rattle.affected_law.specs.Law.{ErrorsStay}
-use Rattle.affected_sizes.specs.Paths.{HasPath}
-use Rattle.path_numbers.specs.Sets.{paths_at}
 use Rattle.path_numbers.proofs.Ways.{one_place, is_path_of}
 use Rattle.check_phases.specs.Phases.{AreMerged}
 use Rattle.check_phases.specs.Sourced.{program_in, paths_in, view_in, AreSources}
-use Rattle.check_phases.specs.Whole.{sigs_by, AreMade}
+use Rattle.check_phases.specs.Whole.{AreMade}
 use Rattle.check_phases.specs.declared.merging.Sources.{Sources}
 use Rattle.check_phases.specs.declared.phases.Made.{Made}
 use Rattle.check_phases.proofs.Jobs.{beside_at, zip_at}
@@ -35,7 +33,7 @@ use Rattle.check_phases.proofs.Merges.{beside_get, program_get}
 use Rattle.edited_root.specs.From.{number_in, numbers_from}
 use Rattle.recheck_merging.proofs.Imported.{IsHere, here, low_path, rising_program}
 use Rattle.recheck_merging.proofs.Mapped.{get_mapped, mapped_from, length_mapped, all_has}
-use Rattle.recheck_checking.specs.Keeping.{kept_in, AreKept, IsFilled}
+use Rattle.recheck_checking.specs.Keeping.{AreKept}
 use Rattle.recheck_checking.specs.Signing.{AreSigned}
 use Rattle.recheck_checking.specs.Checking.{IsCheckedBy, AreCheckedTo}
 use Rattle.recheck_checking.specs.Full.{results_of}

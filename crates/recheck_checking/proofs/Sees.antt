@@ -1,11 +1,9 @@
 -- A full check sees the modules of its program as their sources do.
-use Rattle.std.proofs.Common.{◌≡◌, ℕ, List, [], ◌∷◌, map, refl, sym, ap, ◌∙◌, subst}
+use Rattle.std.proofs.Common.{◌≡◌, List, [], ◌∷◌, map, refl, sym, ap, ◌∙◌, subst}
 use Rattle.std.proofs.lemmas.List.{length-map}
 use Rattle.flow_base.specs.Program.{Bytes, Program, paths_of}
 use Rattle.check_values.specs.Rows.{row_at}
-use Rattle.check_values.specs.declared.signatures.Deps.{Deps}
 use Rattle.check_values.specs.declared.signatures.Sig.{Sig}
-use Rattle.source_front.specs.Front.{IsParse}
 use Rattle.source_front.specs.Law.{seen, OneParse}
 use Rattle.source_front.specs.declared.parse.Parse.{Parse}
 use Rattle.source_front.specs.declared.parse.ParseTree.{ParseTree}
@@ -17,7 +15,7 @@ use Rattle.check_job.specs.Jobs.{source_in}
 use Rattle.program_check.specs.Full as full
 use Rattle.program_check.specs.Full.{Results, beside, known_of, module_in, AreResults, IsFull}
 use Rattle.check_phases.specs.Phases.{AreParsed, lists_in, knowns, AreMerged}
-use Rattle.check_phases.specs.Sourced.{program_in, paths_in, view_in, AreSources}
+use Rattle.check_phases.specs.Sourced.{program_in, view_in, AreSources}
 use Rattle.check_phases.specs.Whole.{sigs_by}
 use Rattle.check_phases.specs.declared.merging.Sources.{Sources}
 use Rattle.check_phases.proofs.Lists.{one_value, same_paths}
