@@ -1,0 +1,4 @@
+pub mod Works
+pub mod States
+pub mod Along
+pub mod CheckedBy

@@ -1,0 +1,171 @@
+//! The merged signatures of the modules that a module reaches, read one by one along names.
+ghost use Rattle.std.specs.Prelude.{◌≡◌, ◌<◌, ◌++◌, IfOk, OnOk, length, option_to_list};
+ghost use Rattle.std.specs.List.{AllByRecursion, flat_map};
+ghost use Rattle.flow_base.specs.Program.{IsRising};
+ghost use Rattle.check_values.specs.Rows.{row_at};
+ghost use Rattle.check_values.specs.Roots.{paths_of_rows};
+ghost use Rattle.errors_by_reach.specs.Law.{Agree};
+ghost use Rattle.heap_answers.specs.States.{HasPlace, sigs_by};
+ghost use Rattle.request_core.specs.Along.{IsMet, AreMet, Knows, Grows, IsClosed, AreNamedAt};
+
+use crate::rows::{place_in, signature_in};
+use check_values::{DepRow, Deps, RootRow, Sig};
+use flow_base::Path;
+use flow_values::{List, NoMemory, Shared};
+use heap_core::HeapReader;
+use named_modules::add_named;
+use payloads::{Payload, signature_entity};
+use std::alloc::Global;
+use std::collections::BTreeSet;
+
+// The merged signature of the module at a path, if there is one.
+fn signature_at<R: HeapReader<Payload>>(
+    reader: &mut R,
+    modules: &[RootRow],
+    path: &Path,
+) -> Result<Option<Shared<Sig>>, NoMemory>
+    requires rising { IsRising (paths_of_rows modules.now) }
+    requires placed { AllByRecursion (HasPlace (R.state reader.old)) modules.now }
+    ensures sig { IfOk result (λ sig. sig ≡ sigs_by (R.state reader.old) modules.now path.now) }
+    ensures same { (R.at reader.new ≡ R.at reader.old) × (R.state reader.new ≡ R.state reader.old) }
+    ensures part { R.part reader.new ≡ R.part reader.old }
+{
+    let Some(at) = place_in(modules, path) else {
+        return Ok(None);
+    };
+    let module = &modules[at];
+    let payload = reader.read(signature_entity(module.row))?;
+    let sig = signature_in(&payload)?;
+    Ok(sig)
+}
+
+// Looks at a path: adds the signature of its module, where it is one that was not looked at yet.
+fn look_at<R: HeapReader<Payload>>(
+    reader: &mut R,
+    modules: &[RootRow],
+    path: &Path,
+    seen: &mut BTreeSet<Path>,
+    rows: &mut List<(Path, Shared<Sig>)>,
+) -> Result<(), NoMemory>
+    requires rising { IsRising (paths_of_rows modules.now) }
+    requires placed { AllByRecursion (HasPlace (R.state reader.old)) modules.now }
+    requires known { Knows (sigs_by (R.state reader.old) modules.now) seen.old rows.old }
+    ensures grows { OnOk result (Grows (sigs_by (R.state reader.old) modules.now) modules.now seen.old rows.old seen.new rows.new) }
+    ensures met { OnOk result (IsMet (sigs_by (R.state reader.old) modules.now) rows.new path.now) }
+    ensures same { (R.at reader.new ≡ R.at reader.old) × (R.state reader.new ≡ R.state reader.old) }
+    ensures part { R.part reader.new ≡ R.part reader.old }
+{
+    if !seen.insert(path.share()?)? {
+        return Ok(());
+    }
+    match signature_at(reader, modules, path)? {
+        Some(sig) => rows.push((path.share()?, sig)),
+        None => Ok(()),
+    }
+}
+
+// Looks at paths.
+fn look_at_all<R: HeapReader<Payload>>(
+    reader: &mut R,
+    modules: &[RootRow],
+    paths: &[Path],
+    seen: &mut BTreeSet<Path>,
+    rows: &mut List<(Path, Shared<Sig>)>,
+) -> Result<(), NoMemory>
+    requires rising { IsRising (paths_of_rows modules.now) }
+    requires placed { AllByRecursion (HasPlace (R.state reader.old)) modules.now }
+    requires known { Knows (sigs_by (R.state reader.old) modules.now) seen.old rows.old }
+    ensures grows { OnOk result (Grows (sigs_by (R.state reader.old) modules.now) modules.now seen.old rows.old seen.new rows.new) }
+    ensures met { OnOk result (AreMet (sigs_by (R.state reader.old) modules.now) rows.new paths.now) }
+    ensures same { (R.at reader.new ≡ R.at reader.old) × (R.state reader.new ≡ R.state reader.old) }
+    ensures part { R.part reader.new ≡ R.part reader.old }
+{
+    for i in 0..paths.len() {
+        look_at(reader, modules, &paths[i], seen, rows)?;
+    }
+    Ok(())
+}
+
+// The modules that the signature at a place names.
+fn named_at(alloc: Global, rows: &[(Path, Shared<Sig>)], at: usize) -> Result<List<Path>, NoMemory>
+    requires { at < length rows.now }
+    ensures { IfOk result (AreNamedAt rows.now at) }
+{
+    let row = &rows[at];
+    let mut named = List::new(alloc);
+    add_named(row.1.get(), &mut named)?;
+    Ok(named)
+}
+
+// Looks at the modules that signatures name, and at those that theirs do.
+fn follow<R: HeapReader<Payload>>(
+    alloc: Global,
+    reader: &mut R,
+    modules: &[RootRow],
+    seen: &mut BTreeSet<Path>,
+    rows: &mut List<(Path, Shared<Sig>)>,
+) -> Result<(), NoMemory>
+    requires rising { IsRising (paths_of_rows modules.now) }
+    requires placed { AllByRecursion (HasPlace (R.state reader.old)) modules.now }
+    requires known { Knows (sigs_by (R.state reader.old) modules.now) seen.old rows.old }
+    ensures grows { OnOk result (Grows (sigs_by (R.state reader.old) modules.now) modules.now seen.old rows.old seen.new rows.new) }
+    ensures closed { OnOk result (IsClosed (sigs_by (R.state reader.old) modules.now) rows.new) }
+    ensures same { (R.at reader.new ≡ R.at reader.old) × (R.state reader.new ≡ R.state reader.old) }
+    ensures part { R.part reader.new ≡ R.part reader.old }
+{
+    let mut at = 0;
+    while at < rows.len() {
+        let named = named_at(alloc, rows.as_slice(), at)?;
+        look_at_all(reader, modules, named.as_slice(), seen, rows)?;
+        at += 1;
+    }
+    Ok(())
+}
+
+// Adds the module that a specifier finds, if it finds one.
+fn add_found(row: &DepRow, out: &mut List<Path>) -> Result<(), NoMemory>
+    ensures { OnOk result (out.new ≡ out.old ++ option_to_list row.now.found) }
+{
+    match &row.found {
+        Some(found) => out.push(found.share()?),
+        None => Ok(()),
+    }
+}
+
+// The modules that specifiers find.
+#[tactic(auto, using(named_rows::proofs::Lists::flat_more))]
+fn found_paths(alloc: Global, rows: &[DepRow]) -> Result<List<Path>, NoMemory>
+    ensures { IfOk result (λ paths. paths ≡ flat_map (λ row. option_to_list row.found) rows.now) }
+{
+    let mut paths = List::new(alloc);
+    for i in 0..rows.len() {
+        add_found(&rows[i], &mut paths)?;
+    }
+    Ok(paths)
+}
+
+/// The merged signatures of the modules that a module with a dependency list reaches: those that its specifiers find, and with each of
+/// them those that its signature names. No other signature is read.
+///
+/// # Errors
+///
+/// `NoMemory` where memory is refused.
+pub(crate) fn reached_signatures<R: HeapReader<Payload>>(
+    alloc: Global,
+    reader: &mut R,
+    modules: &[RootRow],
+    deps: &Deps,
+) -> Result<List<(Path, Shared<Sig>)>, NoMemory>
+    requires rising { IsRising (paths_of_rows modules.now) }
+    requires placed { AllByRecursion (HasPlace (R.state reader.old)) modules.now }
+    ensures agree { IfOk result (λ rows. Agree (sigs_by (R.state reader.old) modules.now) deps.now (row_at rows)) }
+    ensures same { (R.at reader.new ≡ R.at reader.old) × (R.state reader.new ≡ R.state reader.old) }
+    ensures part { R.part reader.new ≡ R.part reader.old }
+{
+    let starts = found_paths(alloc, deps.rows.as_slice())?;
+    let mut seen = BTreeSet::new(alloc);
+    let mut rows = List::new(alloc);
+    look_at_all(reader, modules, starts.as_slice(), &mut seen, &mut rows)?;
+    follow(alloc, reader, modules, &mut seen, &mut rows)?;
+    Ok(rows)
+}
