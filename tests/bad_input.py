@@ -26,7 +26,7 @@ DEEPEST = 127  # arrays and objects in one another, in a line
 
 # Lines over an empty folder. Of each: its name, the line, and what it prints.
 
-BAD, DONE = b"bad line 1\n", done(2, 0)
+BAD, DONE = b"bad line 1\n", done(2, 0, 0)
 
 
 def deep(levels, opens=b"[", closes=b"]"):
@@ -156,7 +156,7 @@ def named(path):
 
 def told(*errors):
     """What an edit of one module prints at its recheck and when its status is asked."""
-    return done(2, 1, len(errors)) + b"2 status: %d errors\n" % len(errors) + b"".join(b"  a.js:%s\n" % it for it in errors)
+    return done(2, 1, 1, len(errors)) + b"2 status: %d errors\n" % len(errors) + b"".join(b"  a.js:%s\n" % it for it in errors)
 
 
 def of_text(text):
@@ -179,8 +179,8 @@ TEXTS = [
     ("a character of two halves", 'const x: number = "\U0001f600";', ['1:19 incompatible-type "\U0001f600" number'.encode()]),
 ]
 SCRIPTS = [
-    *((f"the path {named(it)}", edit(it, b"") + RECHECK + delete(it) + RECHECK + edit(it, b"") + delete(it) + RECHECK, done(2, 1) + done(3, 0) + done(4, 0), CLEAN) for it in PATHS),
-    *((f"a touch of the path {named(it)}", edit(it, b"") + RECHECK + touch(it) + RECHECK, done(2, 1) + done(3, 0), CLEAN) for it in PATHS if can_be(it)),
+    *((f"the path {named(it)}", edit(it, b"") + RECHECK + delete(it) + RECHECK + edit(it, b"") + delete(it) + RECHECK, done(2, 1, 1) + done(3, 0, 0) + done(4, 0, 0), CLEAN) for it in PATHS),
+    *((f"a touch of the path {named(it)}", edit(it, b"") + RECHECK + touch(it) + RECHECK, done(2, 1, 1) + done(3, 0, 0), CLEAN) for it in PATHS if can_be(it)),
     *((f"no path in {name}: {named(it)}", do(it), BAD, BAD_LINE) for it in NO_PATHS for name, do in (("an edit", lambda it: edit(it, b"")), ("a delete", delete), ("a touch", touch))),
     *((name, of_text(text), told(*errors), ERRORS if errors else CLEAN) for name, text, errors in TEXTS),
     # Lengths.

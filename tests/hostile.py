@@ -78,7 +78,7 @@ def expect(root, errors, **sources):
     expect_told(root, sources, STATUS, status, recheck(count, len(errors)) + b"1" + told)
     os.makedirs(f"{root}/edits/d")
     script = b"".join(edit(f"{name}.js", source.encode()) for name, source in sources.items()) + RECHECK + STATUS
-    expect_run(f"{root}/edits", 0, script, status, recheck(0) + done(2, count, len(errors)) + b"2" + told)
+    expect_run(f"{root}/edits", 0, script, status, recheck(0) + done(2, count, count, len(errors)) + b"2" + told)
 
 
 def filled(part, before="", after="", size=MOST):

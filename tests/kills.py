@@ -42,17 +42,17 @@ ERROR = b"  c.js:2:25 incompatible-type 1 T\n"
 LINES = [
     (STATUS, b"1 status: 0 errors\n", 0),
     (edit("a.js", b"export type T = string;"), b"", 0),
-    (RECHECK, done(2, 3, 1), 1),
+    (RECHECK, done(2, 1, 3, 1), 1),
     (STATUS, b"2 status: 1 errors\n" + ERROR, 1),
     (b"\n", b"", 1),
     (delete("c.js"), b"", 1),
     (STATUS, b"2 status: 1 errors\n" + ERROR, 1),
-    (RECHECK, done(3, 2), 0),
+    (RECHECK, done(3, 0, 0), 0),
     (touch("c.js"), b"", 0),
-    (RECHECK, done(4, 3, 1), 1),
+    (RECHECK, done(4, 1, 1, 1), 1),
     (STATUS, b"4 status: 1 errors\n" + ERROR, 1),
     (touch("a.js"), b"", 1),
-    (RECHECK, done(5, 3), 0),
+    (RECHECK, done(5, 1, 3), 0),
     (STATUS, b"5 status: 0 errors\n", 0),
 ]
 SCRIPT = b"".join(line for line, _, _ in LINES)
@@ -153,7 +153,7 @@ def killed_while_it_answers_line_by_line(root):
 def many_errors(root):
     """A folder whose status is longer than a narrow pipe, a script, and what it prints."""
     whole = with_errors(root, 300)
-    return STATUS + edit("a.js", b"") + RECHECK + STATUS, whole + done(2, 1) + b"2 status: 0 errors\n"
+    return STATUS + edit("a.js", b"") + RECHECK + STATUS, whole + done(2, 1, 1) + b"2 status: 0 errors\n"
 
 
 def narrow(root):
@@ -269,7 +269,7 @@ def a_writer_that_goes_away_at_the_end(root):
     talk = Talk(root)
     talk.say(STATUS + RECHECK + END)
     talk.flowd.stdin.close()
-    talk.expect(recheck(3) + b"1 status: 0 errors\n" + done(2, 3))
+    talk.expect(recheck(3) + b"1 status: 0 errors\n" + done(2, 0, 0))
     talk.expect_end(CLEAN)
 
 

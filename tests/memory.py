@@ -116,7 +116,7 @@ class Runs:
 def small(root):
     """Row by row: three modules, an edit that is felt in two of them, a recheck and a status."""
     script = edit("a.js", b"export type T = string;") + RECHECK + STATUS
-    return Runs(library(root), three(f"{root}/d"), script, ERRORS, recheck(3) + done(2, 3, 1) + b"2 status: 1 errors\n" + ERROR)
+    return Runs(library(root), three(f"{root}/d"), script, ERRORS, recheck(3) + done(2, 1, 3, 1) + b"2 status: 1 errors\n" + ERROR)
 
 
 def example(root):

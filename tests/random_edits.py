@@ -5,7 +5,7 @@
 
 A script edits, deletes and touches modules, which import one another, while files of the folder come, change and go; and
 rechecks. What is printed behind a recheck must be what a fresh run prints of a folder with the same sources; behind one that is
-refused it must be what was printed before. The scripts are made from the seed: N of them, or the Kth alone. Of one that fails
+refused or cancelled it must be what was printed before. The scripts are made from the seed: N of them, or the Kth alone. Of one that fails
 the shortest form that was found is shown. The last line is 'N passed, M failed'.
 """
 
@@ -347,6 +347,8 @@ class Maker:
                 steps += self.edits(texts)
             if self.chance(0.1):
                 steps.append(("status",))
+            if self.chance(0.3):
+                steps += [("stop", str(self.random.randint(1, 12))), ("status",)]
             steps += [("recheck",), ("status",)]
         if self.chance(0.2):
             steps.append(("end",))
@@ -397,25 +399,34 @@ class Model:
         """What an edit leaves at a path: a text, or nothing."""
         return self.files.get(path) if word == "touch" else text
 
-    def recheck(self):
-        """The line that a recheck prints.
+    def recheck(self, told, stop=0):
+        """Takes the line that a recheck prints, which may be told to stop at a poll.
 
-        One that is refused leaves all as it was. So will one that is cancelled, once a recheck can be told to stop: a step with
-        its number, and a line of its own here.
+        One that is refused or cancelled leaves all as it was. How many polls there are isn't known here: where it was not
+        cancelled it must be done, with as many modules read as are new or have other bytes, and at least as many checked.
         """
         left = {path: self.left_by(path, *self.edits[path]) for path in sorted(self.edits, key=str.encode)}
         for path, text in left.items():
             if text is TOO_LARGE:
-                return f"recheck cannot read {path}, still {self.version}"
+                return self.expect(told, re.escape(f"recheck cannot read {path}, still {self.version}"))
+        if stop and told == f"recheck cancelled at poll {stop}, still {self.version}":
+            return None
+        old = self.program
         self.version, self.edits = self.version + 1, {}
         self.program = {path: text for path, text in {**self.program, **left}.items() if text is not None}
         self.printed = self.fresh()
-        return self.done()
+        parsed = sum(old.get(path) != text for path, text in self.program.items())
+        checked = self.expect(told, f"recheck {self.version}: {parsed} parsed, (?P<checked>\\d+) checked, {len(self.printed)} errors")["checked"]
+        if not parsed <= int(checked) <= len(self.program):
+            raise Wrong(f"it printed {told!r} of {len(self.program)} modules")
+        return None
 
-    def done(self):
-        """The line of a recheck that is done. It reads and checks all modules."""
-        count = len(self.program)
-        return f"recheck {self.version}: {count} parsed, {count} checked, {len(self.printed)} errors"
+    def expect(self, told, pattern):
+        """A line must be of this form."""
+        found = re.fullmatch(pattern, told)
+        if not found:
+            raise Wrong(f"it printed {told!r}, and nothing of the form {pattern!r}")
+        return found
 
     def fresh(self):
         """The lines of the errors that a fresh run prints of the program."""
@@ -505,7 +516,10 @@ def take(step, server, model, root):
         model.files[path] = left
     elif word == "recheck":
         server.say(RECHECK)
-        server.expect([model.recheck()])
+        model.recheck(server.line())
+    elif word == "stop":
+        server.say(line(do="recheck", stop=int(path)))
+        model.recheck(server.line(), int(path))
     elif word == "status":
         server.say(STATUS)
         server.expect(model.status())
@@ -526,7 +540,7 @@ def fault_of(case):
             put(f"{room}/folder", path, left)
         model, server, at = Model(f"{room}/fresh", folder), Server(f"{room}/folder"), "the load"
         try:
-            server.expect([model.recheck()])
+            model.recheck(server.line())
             for number, step in enumerate(steps, 1):
                 at = f"step {number}, {step[0]}"
                 take(step, server, model, f"{room}/folder")

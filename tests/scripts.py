@@ -50,8 +50,16 @@ def touch(path):
     return line(do="touch", path=path)
 
 
-def done(version, modules, errors=0):
-    return b"recheck %d: %d parsed, %d checked, %d errors\n" % (version, modules, modules, errors)
+def stop_at(poll):
+    return line(do="recheck", stop=poll)
+
+
+def done(version, parsed, checked, errors=0):
+    return b"recheck %d: %d parsed, %d checked, %d errors\n" % (version, parsed, checked, errors)
+
+
+def cancelled(poll, version):
+    return b"recheck cancelled at poll %d, still %d\n" % (poll, version)
 
 
 def expect_script(root, script, status, text):
@@ -68,7 +76,7 @@ def the_errors_of_a_module_are_told(root):
 @case
 def an_edit_is_checked_and_told(root):
     script = edit("a.js", GOOD) + STATUS + RECHECK + STATUS
-    expect_script(root, script, CLEAN, recheck(0) + b"1 status: 0 errors\n" + done(2, 1) + b"2 status: 0 errors\n")
+    expect_script(root, script, CLEAN, recheck(0) + b"1 status: 0 errors\n" + done(2, 1, 1) + b"2 status: 0 errors\n")
 
 
 @case
@@ -77,7 +85,7 @@ def errors_stand_in_the_order_of_paths(root):
     write(f"{root}/a/c.js", GOOD + b'const s: string = "\xc3\xa9"; const y: boolean = 1;\n')
     script = edit("a.js", b"\xc3\xa9") + RECHECK + STATUS + END + b"never read"
     told = [b"  a.js:1:2 parse\n", b"  a/c.js:2:43 incompatible-type 1 boolean\n", b'  b.js:1:17 incompatible-type "s" number\n']
-    expect_script(root, script, ERRORS, recheck(2, 2) + done(2, 3, 3) + b"2 status: 3 errors\n" + b"".join(told))
+    expect_script(root, script, ERRORS, recheck(2, 2) + done(2, 1, 1, 3) + b"2 status: 3 errors\n" + b"".join(told))
 
 
 # Folders, and the errors that their status tells.
@@ -172,7 +180,60 @@ def an_edit_of_a_type_is_felt_in_other_modules(root):
     write(f"{root}/c.js", b"import type {U} from './b';\nexport const u: U = {t: 1};")
     script = edit("a.js", b"export type T = string;") + RECHECK + STATUS
     told = b"2 status: 1 errors\n  c.js:2:25 incompatible-type 1 T\n"
-    expect_script(root, script, ERRORS, recheck(3) + done(2, 3, 1) + told)
+    expect_script(root, script, ERRORS, recheck(3) + done(2, 1, 3, 1) + told)
+
+
+@case
+def an_edit_of_a_body_is_not_felt_in_other_modules(root):
+    write(f"{root}/a.js", b"export function f(n: number): number { return n; }")
+    for number in range(10):
+        write(f"{root}/b{number}.js", b"import {f} from './a';\nexport const r: number = f(1);")
+    script = edit("a.js", b"export function f(n: number): number { return n + 1; }") + RECHECK
+    expect_script(root, script, CLEAN, recheck(11) + done(2, 1, 1))
+
+
+@case
+def a_recheck_that_changes_nothing(root):
+    """Nothing waits, or the text is the same, or the path is none, or the folder holds what is there."""
+    write(f"{root}/a.js")
+    script = RECHECK + edit("a.js", GOOD) + RECHECK + delete("b.js") + RECHECK + touch("a.js") + touch("c.js") + RECHECK
+    expect_script(root, script, CLEAN, recheck(1) + b"".join(done(version, 0, 0) for version in range(2, 6)))
+
+
+# The polls of a recheck: one behind reading, one behind the sources, one behind the dependency lists, one behind each wave of what is
+# merged, one behind each batch of 64 that are checked, and one before the commit.
+
+
+@case
+def a_recheck_is_cancelled_at_a_poll(root):
+    """A module alone is one wave and one batch: six polls. The edit waits for the next recheck."""
+    put = edit("a.js", b"export const n: number = 1;")
+    for poll in range(1, 7):
+        script = put + stop_at(poll) + STATUS + RECHECK
+        told = cancelled(poll, 1) + b"1 status: 0 errors\n" + done(2, 1, 1)
+        expect_script(root, script, CLEAN, recheck(0) + told)
+    for poll in (7, 8, 2**32 + 1, 2**64 - 1):
+        expect_script(root, put + stop_at(poll), CLEAN, recheck(0) + done(2, 1, 1))
+    expect_script(root, stop_at(4) + stop_at(5), CLEAN, recheck(0) + cancelled(4, 1) + done(2, 0, 0))
+
+
+@case
+def a_recheck_has_a_poll_for_each_wave(root):
+    """Three modules, each of which imports the one before, are three waves: with one batch these are eight polls."""
+    write(f"{root}/a.js", b"export type T = number;")
+    write(f"{root}/b.js", b"import type {T} from './a';\nexport type U = {t: T};")
+    write(f"{root}/c.js", b"import type {U} from './b';\nexport const u: U = {t: 1};")
+    put = edit("a.js", b"export type T = string;")
+    expect_script(root, put + stop_at(8) + STATUS, CLEAN, recheck(3) + cancelled(8, 1) + b"1 status: 0 errors\n")
+    expect_script(root, put + stop_at(9), ERRORS, recheck(3) + done(2, 1, 3, 1))
+
+
+@case
+def a_recheck_has_a_poll_for_each_batch(root):
+    """65 modules that know nothing of one another are one wave and two batches: seven polls."""
+    puts = b"".join(edit(f"m{number}.js", GOOD) for number in range(65))
+    expect_script(root, puts + stop_at(7), CLEAN, recheck(0) + cancelled(7, 1))
+    expect_script(root, puts + stop_at(8), CLEAN, recheck(0) + done(2, 65, 65))
 
 
 @case
@@ -181,7 +242,7 @@ def a_new_module_is_found_before_a_folder(root):
     write(f"{root}/m.js", b"import {k} from './x';\nexport const j: number = k;")
     script = edit("x.js", b'export const k: string = "s";') + RECHECK + STATUS
     told = b"2 status: 1 errors\n  m.js:2:26 incompatible-type string number\n"
-    expect_script(root, script, ERRORS, recheck(2) + done(2, 3, 1) + told)
+    expect_script(root, script, ERRORS, recheck(2) + done(2, 1, 2, 1) + told)
 
 
 @case
@@ -191,7 +252,7 @@ def a_module_that_is_deleted_is_found_no_more(root):
     write(f"{root}/b.js", b"import {x} from './a';\nexport const y: number = x;")
     script = delete("a.js") + delete("z.js") + RECHECK + STATUS + edit("a.js", GOOD) + RECHECK
     told = b'2 status: 1 errors\n  b.js:1:17 cannot-resolve-module "./a"\n'
-    expect_script(root, script, CLEAN, recheck(2) + done(2, 1, 1) + told + done(3, 2))
+    expect_script(root, script, CLEAN, recheck(2) + done(2, 0, 1, 1) + told + done(3, 1, 2))
 
 
 @case
@@ -199,20 +260,20 @@ def a_module_that_is_touched_is_read_again(root):
     """A path that the folder lacks is no module then."""
     write(f"{root}/a.js")
     script = edit("a.js", BAD) + edit("b.js", GOOD) + RECHECK + touch("a.js") + touch("b.js") + RECHECK
-    expect_script(root, script, CLEAN, recheck(1) + done(2, 2, 1) + done(3, 1))
+    expect_script(root, script, CLEAN, recheck(1) + done(2, 2, 2, 1) + done(3, 1, 1))
 
 
 @case
 def of_a_path_the_last_edit_counts(root):
     script = edit("a.js", BAD) + delete("a.js") + RECHECK + delete("b.js") + edit("b.js", GOOD) + touch("c.js") + edit("c.js", GOOD) + RECHECK
-    expect_script(root, script, CLEAN, recheck(0) + done(2, 0) + done(3, 2))
+    expect_script(root, script, CLEAN, recheck(0) + done(2, 0, 0) + done(3, 2, 2))
 
 
 @case
 def a_line_of_an_error_is_counted(root):
     script = edit("a.js", GOOD + b'export const y: string = true;\n') + RECHECK + STATUS
     told = b"2 status: 1 errors\n  a.js:2:26 incompatible-type true string\n"
-    expect_script(root, script, ERRORS, recheck(0) + done(2, 1, 1) + told)
+    expect_script(root, script, ERRORS, recheck(0) + done(2, 1, 1, 1) + told)
 
 
 @case
@@ -243,7 +304,7 @@ def fields_that_a_command_does_not_name(root):
     """They are ignored; of one that is repeated the last counts."""
     script = b'{"why":[1],"text":"","do":"edit","path":"a.js","stop":0}\n{"do":"rechek","why":1,"do":"recheck"}\n'
     script += b'{"ask":{"what":"status","stop":{}},"do":"ask","path":1}\n{"do":"end","asks":[]}\n\xff\n'
-    expect_script(root, script, CLEAN, recheck(0) + done(2, 1) + b"2 status: 0 errors\n")
+    expect_script(root, script, CLEAN, recheck(0) + done(2, 1, 1) + b"2 status: 0 errors\n")
 
 
 @case
@@ -251,6 +312,15 @@ def lines_that_are_no_command(root):
     """Each is told by its number, also where it is the last one and has no end."""
     lines = (
         b'{"do":"recheck","stop":0}',
+        b'{"do":"recheck","stop":-1}',
+        b'{"do":"recheck","stop":-0}',
+        b'{"do":"recheck","stop":1.0}',
+        b'{"do":"recheck","stop":1e0}',
+        b'{"do":"recheck","stop":18446744073709551616}',
+        b'{"do":"recheck","stop":"1"}',
+        b'{"do":"recheck","stop":null}',
+        b'{"do":"recheck","stop":[1]}',
+        b'{"do":"recheck","stop":1,"stop":0}',
         b'{"do":"recheck","asks":[]}',
         b'{"do":"edit","path":"a/../b.js","text":""}',
         b'{"do":"edit","path":"a.js","text":1}',
@@ -273,29 +343,29 @@ def lines_that_are_no_command(root):
     )
     for bad in lines:
         for end in (b"", b"\n" + RECHECK):
-            expect_script(root, RECHECK + b"\n" + bad + end, BAD_LINE, recheck(0) + done(2, 0) + b"bad line 3\n")
+            expect_script(root, RECHECK + b"\n" + bad + end, BAD_LINE, recheck(0) + done(2, 0, 0) + b"bad line 3\n")
 
 
 @case
 def blank_lines_are_skipped_and_counted(root):
-    expect_script(root, b"\n \t\r\n" + RECHECK + b"no line\n" + RECHECK, BAD_LINE, recheck(0) + done(2, 0) + b"bad line 4\n")
+    expect_script(root, b"\n \t\r\n" + RECHECK + b"no line\n" + RECHECK, BAD_LINE, recheck(0) + done(2, 0, 0) + b"bad line 4\n")
 
 
 @case
 def a_bad_line_ends_the_script(root):
     script = edit("a.js", GOOD) + RECHECK + b'{"do":"rechek"}\n' + RECHECK
-    expect_script(root, script, BAD_LINE, recheck(0) + done(2, 1) + b"bad line 3\n")
+    expect_script(root, script, BAD_LINE, recheck(0) + done(2, 1, 1) + b"bad line 3\n")
 
 
 @case
 def a_last_line_needs_no_end(root):
-    expect_script(root, RECHECK + b'{"do":"recheck"}', CLEAN, recheck(0) + done(2, 0) + done(3, 0))
+    expect_script(root, RECHECK + b'{"do":"recheck"}', CLEAN, recheck(0) + done(2, 0, 0) + done(3, 0, 0))
 
 
 @case
 def the_longest_line(root):
     fill = b" " * (LONGEST_LINE - len(RECHECK) + 1)
-    expect_script(root, fill + RECHECK, CLEAN, recheck(0) + done(2, 0))
+    expect_script(root, fill + RECHECK, CLEAN, recheck(0) + done(2, 0, 0))
     expect_script(root, b" " + fill + RECHECK, LIMIT, recheck(0) + b"limit line 4194305\n")
 
 
@@ -311,9 +381,9 @@ def the_most_files(root):
     for number in range(1024):
         write(f"{root}/d{number % 37}/m{number}.js", b"")
     script = edit("z.js", b"") + edit("d0/m0.js", GOOD) + RECHECK
-    expect_script(root, script, CLEAN, recheck(1024) + b"too many modules 1025\n" + done(2, 1024))
+    expect_script(root, script, CLEAN, recheck(1024) + b"too many modules 1025\n" + done(2, 1, 1))
     script = touch("z.js") + delete("d0/m0.js") + touch("z.js") + edit("y.js", b"") + RECHECK
-    expect_script(root, script, CLEAN, recheck(1024) + b"too many modules 1025\n" * 2 + done(2, 1023))
+    expect_script(root, script, CLEAN, recheck(1024) + b"too many modules 1025\n" * 2 + done(2, 0, 0))
     write(f"{root}/z.js")
     expect_script(root, RECHECK, LIMIT, b"limit files 1025\n")
 
@@ -329,7 +399,23 @@ def a_read_fault_stays_for_the_next_recheck(root):
     talk.expect(fault)
     os.truncate(f"{root}/b.js", 0)
     talk.say(RECHECK)
-    talk.expect(done(1, 2))
+    talk.expect(done(1, 2, 2))
+    talk.end(CLEAN)
+
+
+@case
+def a_touched_path_that_cannot_be_read_waits(root):
+    """What is read then is what was there, so that nothing is parsed. Where a path can't be read nobody is asked whether to stop."""
+    write(f"{root}/a.js", b"")
+    talk = Talk(root)
+    talk.expect(recheck(1))
+    os.truncate(f"{root}/a.js", MOST_BYTES + 1)
+    for ask in (RECHECK, stop_at(1)):
+        talk.say(touch("a.js") + ask)
+        talk.expect(b"recheck cannot read a.js, still 1\n")
+    os.truncate(f"{root}/a.js", 0)
+    talk.say(RECHECK)
+    talk.expect(done(2, 0, 0))
     talk.end(CLEAN)
 
 
@@ -371,7 +457,7 @@ def an_editor_writes_a_line_and_reads_the_answer(root):
     for version in range(2, 40):
         talk.say(edit("a.js", BAD if version % 2 else GOOD))
         talk.say(RECHECK)
-        talk.expect(done(version, 1, version % 2))
+        talk.expect(done(version, 1, 1, version % 2))
         talk.say(STATUS)
         shown = b'  a.js:1:26 incompatible-type "a" number\n' if version % 2 else b""
         talk.expect(b"%d status: %d errors\n" % (version, version % 2) + shown)
@@ -384,7 +470,7 @@ def the_example_of_a_client_prints_what_changed(root):
     saved = f"{root}/saved.txt"
     write(saved, GOOD)
     ran = subprocess.run([CLIENT, FLOWD, root, "a.js", saved], stdout=subprocess.PIPE, timeout=60)
-    text = done(1, 1, 1) + done(2, 1) + b'- a.js:1:26 incompatible-type "a" number\n'
+    text = done(1, 1, 1, 1) + done(2, 1, 1) + b'- a.js:1:26 incompatible-type "a" number\n'
     if (ran.returncode, ran.stdout) != (CLEAN, text):
         raise AssertionError(f"it printed {ran.stdout} and ended with {ran.returncode}")
 
@@ -414,7 +500,7 @@ def a_script_one_byte_at_a_time(root):
     talk.expect(recheck(0))
     for byte in edit("a.js", GOOD) + RECHECK:
         talk.say(bytes([byte]))
-    talk.expect(done(2, 1))
+    talk.expect(done(2, 1, 1))
     talk.end(CLEAN)
 
 
@@ -425,7 +511,7 @@ def after_the_end_nothing_is_read(root):
         talk = Talk(root)
         talk.expect(recheck(0))
         talk.say(script)
-        talk.expect(done(2, 0) if RECHECK in script else b"")
+        talk.expect(done(2, 0, 0) if RECHECK in script else b"")
         talk.expect_end(CLEAN)
         talk.flowd.stdin.close()
 
@@ -437,7 +523,7 @@ def a_whole_line_is_answered_before_more_is_read(root):
     talk.expect(recheck(0))
     for version, (before, after) in enumerate([(b"", b""), (b"", b" "), (b" ", b""), (b"\n\n", b"\t")], 2):
         talk.say(before + RECHECK + after)
-        talk.expect(done(version, 0))
+        talk.expect(done(version, 0, 0))
     talk.end(CLEAN)
 
 
@@ -446,7 +532,7 @@ def a_script_from_a_file(root):
     write(f"{root}/d/a.js")
     write(f"{root}/script", edit("b.js", GOOD) + RECHECK)
     with open(f"{root}/script", "rb") as script:
-        expect(run(f"{root}/d", stdin=script), CLEAN, recheck(1) + done(2, 2))
+        expect(run(f"{root}/d", stdin=script), CLEAN, recheck(1) + done(2, 1, 1))
 
 
 @case

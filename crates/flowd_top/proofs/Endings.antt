@@ -8,7 +8,7 @@ use Rattle.flow_base.specs.Program.{Bytes, Program, IsRising, paths_of}
 use Rattle.flow_base.specs.Outside.{WhereTold}
 use Rattle.flow_base.specs.Seen.{FolderSeen, SourceSeen, SinkSeen, Outside, outside, folder_seen}
 use Rattle.flow_base.specs.declared.outside.LastFault.{LastFault}
-use Rattle.full_law.specs.Law.{EachFull}
+use Rattle.affected_sizes.specs.Law.{EachHasSizes}
 use Rattle.script_print.specs.Printed.{files_line}
 use Rattle.script_reader.specs.Lines.{lines_left}
 use Rattle.script_run.specs.declared.ending.WalkEnd.{WalkEnd}
@@ -35,7 +35,7 @@ same_folder : (a b : FolderSeen) → a.told ≡ b.told → a.faults ≡ b.faults
 same_folder a b told faults last_fault = same_fields a.told b.told a.faults b.faults a.last_fault b.last_fault told faults last_fault
 
 -- nothing was done
-pub nothing_run : EachFull → (most : ℕ) (listed : List Bytes) (before : Outside) → RunLeaves most listed before before status.NoMemory
+pub nothing_run : EachHasSizes → (most : ℕ) (listed : List Bytes) (before : Outside) → RunLeaves most listed before before status.NoMemory
 nothing_run each most listed before =
     inr (inr (inr refl, front_of_load most listed (walk_state (start listed) before.folder before.out) before.script each before refl (omega arith) (unsaid_load refl)))
 

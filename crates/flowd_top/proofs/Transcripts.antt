@@ -4,7 +4,7 @@ use Rattle.std.proofs.Common.{◌≡◌, ℕ, ◌<◌, ◌≤◌, Bool, true, fa
 use Rattle.std.specs.Prelude.{IsTrue}
 use Rattle.std.proofs.lemmas.Bool.{cases_lt, false≢true}
 use Rattle.flow_base.specs.Program.{Bytes, Program, paths_of}
-use Rattle.full_law.specs.Law.{EachFull}
+use Rattle.affected_sizes.specs.Law.{EachHasSizes, HaveOneSize}
 use Rattle.program_check.specs.Law.{OneFull}
 use Rattle.script_print.specs.Printed.{files_line}
 use Rattle.script_run.specs.Checked.{HasErrorCount}
@@ -21,7 +21,7 @@ use Rattle.flowd_top.specs.declared.status.Status.TheVariants as status
 
 -- ---- a front
 
-pub goes_on_to : EachFull → (most : ℕ) (words : List Bytes) (told : Option Program) (script : Option (List Bytes)) (listed : List Bytes) (faults : ℕ) (printed : Bytes) → AreOfCommand words → MayList told listed
+pub goes_on_to : EachHasSizes → (most : ℕ) (words : List Bytes) (told : Option Program) (script : Option (List Bytes)) (listed : List Bytes) (faults : ℕ) (printed : Bytes) → AreOfCommand words → MayList told listed
     → length listed ≤ most → IsRunSoFar most told listed script faults printed → GoesOnTo most words told script faults printed
 goes_on_to each most words told script listed faults printed command lists few run =
     let on = goes_on each most told listed script faults printed run in
@@ -43,7 +43,7 @@ command_or_not (word ∷ []) = by (is_root word) where
   by false = inr (λ is. false≢true is)
 command_or_not (word ∷ next ∷ more) = inr (λ is. is)
 
-pub some_transcript : EachFull → (most : ℕ) (words : List Bytes) (folder : Program) (script : List Bytes) → MayList (Some folder) (paths_of folder)
+pub some_transcript : EachHasSizes → (most : ℕ) (words : List Bytes) (folder : Program) (script : List Bytes) → MayList (Some folder) (paths_of folder)
     → (printed : Bytes) × (how : Status) × IsTranscript most words (Some folder) (Some script) 0 printed how
 some_transcript each most words folder script lists = elim (command_or_not words) [
   | inr other ↦ (usage_line, status.Usage, no_command other)
@@ -57,7 +57,7 @@ some_transcript each most words folder script lists = elim (command_or_not words
   ]
 ]
 
-module _ (one : OneFull) (most : ℕ) (words : List Bytes) (folder : Program) (script : List Bytes) where
+module _ (one : OneFull) (sized : HaveOneSize) (most : ℕ) (words : List Bytes) (folder : Program) (script : List Bytes) where
   -- two listings of a folder that tells its program are one
   one_listing : (a b : List Bytes) → MayList (Some folder) a → MayList (Some folder) b → a ≡ b
   one_listing a b lists also = lists.same ∙ sym also.same
@@ -73,7 +73,7 @@ module _ (one : OneFull) (most : ℕ) (words : List Bytes) (folder : Program) (s
   both_run : (a b : List Bytes) (p q : Bytes) (h k : WalkEnd) (x y : Program) (v w m n : ℕ) → a ≡ b → IsQuietRun most folder a script p h x v → IsQuietRun most folder b script q k y w
       → HasErrorCount x m → HasErrorCount y n → (p ≡ q) × (status_after h m ≡ status_after k n)
   both_run a b p q h k x y v w m n same run other first second =
-      let is = same_run one most folder a script p q h k x y v w run (subst (λ l. IsQuietRun most folder l script q k y w) (sym same) other) in
+      let is = same_run one sized most folder a script p q h k x y v w run (subst (λ l. IsQuietRun most folder l script q k y w) (sym same) other) in
       (is.0, status_at h k x y m n is.1 is.2 first second)
 
   quiet : (a : List Bytes) (f : ℕ) (p : Bytes) (h : WalkEnd) (x : Program) (v : ℕ) → f ≡ 0 → IsRun most (Some folder) a (Some script) f p h x v → IsQuietRun most folder a script p h x v

@@ -12,7 +12,7 @@ pub fn a_front_goes_on()
     ensures { (most : ℕ) (words : List Bytes) (told : Option Program) (script : Option (List Bytes)) (listed : List Bytes) (faults : ℕ) (printed : Bytes) →
         AreOfCommand words → MayList told listed → length listed ≤ most → IsRunSoFar most told listed script faults printed → GoesOnTo most words told script faults printed }
 {
-    full_law::each_full();
+    affected_sizes::each_edit_has_sizes();
 }
 
 /// Where the folder and the script tell their content, and the folder may list its paths, there is a
@@ -23,6 +23,7 @@ pub fn one_transcript()
     ensures one { (most : ℕ) (words : List Bytes) (folder : Program) (script : List Bytes) (p q : Bytes) (h k : Status) →
         IsTranscript most words (Some folder) (Some script) 0 p h → IsTranscript most words (Some folder) (Some script) 0 q k → (p ≡ q) × (h ≡ k) }
 {
-    full_law::each_full();
+    affected_sizes::each_edit_has_sizes();
+    affected_sizes::one_size_each();
     program_check::one_full();
 }

@@ -11,9 +11,9 @@ ghost use Rattle.flowd_top.specs.Run.{Leaves, RunLeaves, WritesLast, status_afte
 
 use crate::words::usage;
 use crate::{Status, root_word};
+use affected_sizes::each_edit_has_sizes;
 use analyst::Analyst;
 use flow_base::{Folder, FolderFault, List, Path, Sink, SinkFault, Source, Turnstile};
-use full_law::each_full;
 use script_print::files_line;
 use script_run::{Ended, RunFault, WalkEnd, empty_heap, run, write_all};
 use std::alloc::Global;
@@ -24,7 +24,7 @@ const MOST_MODULES: u32 = 1024;
 /// All that the program does: it loads the modules of the folder, and then takes the lines of the
 /// script, edits, rechecks and questions, one after the other. The words are those of the command
 /// without the program's own name. What a line prints is written before the next one is read. The analyst
-/// reads, merges and checks. No turn is taken.
+/// reads, merges and checks. At each poll of a recheck the turnstile is passed.
 ///
 /// The status says how the run ended. Only want of memory may come without a cause.
 #[tactic(auto, using(crate::proofs::Endings::nothing_left))]
@@ -34,7 +34,7 @@ pub fn flowd<F: Folder, S: Source, K: Sink, T: Turnstile + Sync, A: Analyst + Dr
     folder: &mut F,
     script: &mut S,
     out: &mut K,
-    _turns: &T,
+    turns: &T,
     analyst: A,
 ) -> Status
     // What was printed is a whole transcript with this status; after a fault of the script all of one up to the last
@@ -69,11 +69,12 @@ pub fn flowd<F: Folder, S: Source, K: Sink, T: Turnstile + Sync, A: Analyst + Dr
         Err(FolderFault::Failed) => return Status::FolderFault,
         Err(FolderFault::NoMemory) => return Status::NoMemory,
     };
-    see_normal(listed.as_slice());
+    let paths = listed.as_slice();
+    see_normal(paths);
     if listed.len() > MOST_MODULES as usize {
         return refuse_files(alloc, &listed, out);
     }
-    run_over(alloc, listed.as_slice(), analyst, folder, script, out)
+    run_over(alloc, paths, analyst, folder, script, out, turns)
 }
 
 // Each path is a normal one.
@@ -89,13 +90,14 @@ fn see_normal(paths: &[Path])
 
 // The run over these listed paths.
 #[tactic(auto, using(crate::proofs::Endings::nothing_run))]
-fn run_over<F: Folder, S: Source, K: Sink, A: Analyst + Drop>(
+fn run_over<F: Folder, S: Source, K: Sink, T: Turnstile, A: Analyst + Drop>(
     alloc: Global,
     listed: &[Path],
     analyst: A,
     folder: &mut F,
     script: &mut S,
     out: &mut K,
+    turns: &T,
 ) -> Status
     requires rising { IsRising listed.now }
     requires few { length listed.now ≤ MOST_MODULES }
@@ -106,7 +108,7 @@ fn run_over<F: Folder, S: Source, K: Sink, A: Analyst + Drop>(
     ensures told { (F.seen folder.new).told ≡ (F.seen folder.old).told }
     ensures folder_later { (F.seen folder.old).faults ≤ (F.seen folder.new).faults }
 {
-    each_full();
+    each_edit_has_sizes();
     let Ok(heap) = empty_heap(alloc, MOST_MODULES) else {
         return Status::NoMemory;
     };
@@ -119,6 +121,7 @@ fn run_over<F: Folder, S: Source, K: Sink, A: Analyst + Drop>(
         folder,
         script,
         out,
+        turns,
     ) {
         Ok(ended) => status_of(ended),
         Err(RunFault::ScriptFault) => Status::ScriptFault,

@@ -16,9 +16,10 @@ use Rattle.flow_values.specs.PathForm.{cut, IsNamed, HasPathForm}
 use Rattle.flow_values.proofs.Parts.{is_normal, has_form}
 use Rattle.script_line.specs.declared.line.Line.{Line}
 use Rattle.script_line.specs.declared.line.Line.TheVariants.{Blank, Edit, Delete, Touch, Recheck, Ask, End}
+use Rattle.script_line.specs.declared.line.Ask as the_ask
 use Rattle.script_line.specs.declared.line.Ask.TheVariants.{Status}
-use Rattle.script_line.specs.Says.{is_blank, text_at, IsJson, Commands, IsBlankLine, Says}
-use Rattle.script_line.proofs.Commanding.{do_word, has_word, apart}
+use Rattle.script_line.specs.Says.{is_blank, text_at, HasText, Lacks, stop_in, Asks, IsJson, Commands, IsBlankLine, Says}
+use Rattle.script_line.proofs.Commanding.{do_word, has_word, line_by, is_by_word}
 
 -- ---- facts that hold or don't
 
@@ -33,6 +34,12 @@ both (inr never) q = inr (λ pq. never pq.0)
 alike : {P Q : Type 0} → (P → Q) → (Q → P) → OrNot P → OrNot Q
 alike to from (inl p) = inl (to p)
 alike to from (inr never) = inr (λ q. never (from q))
+
+all_three : {P Q R : Type 0} → OrNot P → OrNot Q → OrNot R → OrNot (P × Q × R)
+all_three p q r = alike (λ all. (all.0, all.1.0, all.1.1)) (λ all. (all.0, (all.1, all.2))) (both p (both q r))
+
+all_four : {P Q R S : Type 0} → OrNot P → OrNot Q → OrNot R → OrNot S → OrNot (P × Q × R × S)
+all_four p q r s = alike (λ all. (all.0, all.1.0, all.1.1.0, all.1.1.1)) (λ all. (all.0, (all.1, (all.2, all.3)))) (both p (both q (both r s)))
 
 opposite : {P : Type 0} → OrNot P → OrNot (P → ⊥)
 opposite (inl p) = inr (λ never. never p)
@@ -88,151 +95,71 @@ normal_or_not bytes = alike (is_normal bytes) (has_form bytes) (form_or_not byte
 
 -- ---- commands
 
--- the object is a command, or it is none
-abbrev CommandOrNone : Data → Type 0
-CommandOrNone value = ((l : Line) × Commands value l) ⊎ ((l : Line) → Commands value l → ⊥)
+-- what stands in a place that may be empty
+stands_or_not : {X : Type 0} → ((a b : X) → OrNot (a ≡ b)) → (o : Option X) (x : X) → OrNot (o ≡ Some x)
+stands_or_not same None x = inr (λ is. none-some x is)
+stands_or_not same (Some y) x = alike (ap Some) (same_Some y x) (same y x)
 
--- a command of a word that is not the object's
-other_word : (value : Data) (word : Bytes) (l : Line) → text_at (codes "do") value ≡ Some word → bytes_eq word (do_word l) ≡ false → Commands value l → ⊥
-other_word value word l at differ is = apart word (do_word l) differ (same_Some word (do_word l) (sym at ∙ has_word value l is))
+number_or_not : (a b : ℕ) → OrNot (a ≡ b)
+number_or_not a b = elim (cases_lt a b) [
+  | inl below ↦ inr (λ is. omega (arith, is))
+  | inr not_below ↦ elim (cases_lt b a) [
+    | inl above ↦ inr (λ is. omega (arith, is))
+    | inr not_above ↦ inl (omega arith)
+  ]
+]
 
-only_edit : (value : Data) → text_at (codes "do") value ≡ Some (codes "edit") → ((p t : Bytes) → Commands value (Edit p t) → ⊥) → (l : Line) → Commands value l → ⊥
-only_edit value at never Blank is = is
-only_edit value at never (Edit p t) is = never p t is
-only_edit value at never (Delete p) is = other_word value (codes "edit") (Delete p) at refl is
-only_edit value at never (Touch p) is = other_word value (codes "edit") (Touch p) at refl is
-only_edit value at never Recheck is = other_word value (codes "edit") Recheck at refl is
-only_edit value at never (Ask a) is = other_word value (codes "edit") (Ask a) at refl is
-only_edit value at never End is = other_word value (codes "edit") End at refl is
+has_text_or_not : (key text : Bytes) (value : Data) → OrNot (HasText key text value)
+has_text_or_not key text value = stands_or_not bytes_or_not (text_at key value) text
 
-only_recheck : (value : Data) → text_at (codes "do") value ≡ Some (codes "recheck") → (Commands value Recheck → ⊥) → (l : Line) → Commands value l → ⊥
-only_recheck value at never Blank is = is
-only_recheck value at never (Edit p t) is = other_word value (codes "recheck") (Edit p t) at refl is
-only_recheck value at never (Delete p) is = other_word value (codes "recheck") (Delete p) at refl is
-only_recheck value at never (Touch p) is = other_word value (codes "recheck") (Touch p) at refl is
-only_recheck value at never Recheck is = never is
-only_recheck value at never (Ask a) is = other_word value (codes "recheck") (Ask a) at refl is
-only_recheck value at never End is = other_word value (codes "recheck") End at refl is
+lacks_or_not : (key : Bytes) (value : Data) → OrNot (Lacks key value)
+lacks_or_not key value = by (get key value) refl where
+  by : (o : Option Data) → get key value ≡ o → OrNot (Lacks key value)
+  by None is = inl is
+  by (Some d) is = inr (λ lacks. none-some d (sym lacks ∙ is))
 
-only_ask : (value : Data) → text_at (codes "do") value ≡ Some (codes "ask") → (Commands value (Ask Status) → ⊥) → (l : Line) → Commands value l → ⊥
-only_ask value at never Blank is = is
-only_ask value at never (Edit p t) is = other_word value (codes "ask") (Edit p t) at refl is
-only_ask value at never (Delete p) is = other_word value (codes "ask") (Delete p) at refl is
-only_ask value at never (Touch p) is = other_word value (codes "ask") (Touch p) at refl is
-only_ask value at never Recheck is = other_word value (codes "ask") Recheck at refl is
-only_ask value at never (Ask Status) is = never is
-only_ask value at never End is = other_word value (codes "ask") End at refl is
+asks_or_not : (value : Data) (asked : the_ask.Ask) → OrNot ((inner : Data) × (get (codes "ask") value ≡ Some inner) × Asks inner asked)
+asks_or_not value Status = by (get (codes "ask") value) refl where
+  by : (o : Option Data) → get (codes "ask") value ≡ o → OrNot ((inner : Data) × (get (codes "ask") value ≡ Some inner) × Asks inner Status)
+  by None is = inr (λ asks. none-some asks.0 (sym is ∙ asks.1))
+  by (Some inner) is =
+      alike (λ asks. (inner, is, asks)) (λ asks. subst (λ d. Asks d Status) (same_Some asks.0 inner (sym asks.1 ∙ is)) asks.2) (has_text_or_not (codes "what") (codes "status") inner)
 
-only_delete : (value : Data) → text_at (codes "do") value ≡ Some (codes "delete") → ((p : Bytes) → Commands value (Delete p) → ⊥) → (l : Line) → Commands value l → ⊥
-only_delete value at never Blank is = is
-only_delete value at never (Edit p t) is = other_word value (codes "delete") (Edit p t) at refl is
-only_delete value at never (Delete p) is = never p is
-only_delete value at never (Touch p) is = other_word value (codes "delete") (Touch p) at refl is
-only_delete value at never Recheck is = other_word value (codes "delete") Recheck at refl is
-only_delete value at never (Ask a) is = other_word value (codes "delete") (Ask a) at refl is
-only_delete value at never End is = other_word value (codes "delete") End at refl is
+-- the object is this command, or it isn't
+command_or_not : (value : Data) (l : Line) → OrNot (Commands value l)
+command_or_not value Blank = inr (λ is. is)
+command_or_not value (Edit path text) =
+    all_four (has_text_or_not (codes "do") (codes "edit") value) (has_text_or_not (codes "path") path value) (normal_or_not path) (has_text_or_not (codes "text") text value)
+command_or_not value (Delete path) = all_three (has_text_or_not (codes "do") (codes "delete") value) (has_text_or_not (codes "path") path value) (normal_or_not path)
+command_or_not value (Touch path) = all_three (has_text_or_not (codes "do") (codes "touch") value) (has_text_or_not (codes "path") path value) (normal_or_not path)
+command_or_not value (Recheck stop) = all_three (has_text_or_not (codes "do") (codes "recheck") value) (stands_or_not number_or_not (stop_in value) stop) (lacks_or_not (codes "asks") value)
+command_or_not value (Ask asked) = both (has_text_or_not (codes "do") (codes "ask") value) (asks_or_not value asked)
+command_or_not value End = has_text_or_not (codes "do") (codes "end") value
 
-only_touch : (value : Data) → text_at (codes "do") value ≡ Some (codes "touch") → ((p : Bytes) → Commands value (Touch p) → ⊥) → (l : Line) → Commands value l → ⊥
-only_touch value at never Blank is = is
-only_touch value at never (Edit p t) is = other_word value (codes "touch") (Edit p t) at refl is
-only_touch value at never (Touch p) is = never p is
-only_touch value at never (Delete p) is = other_word value (codes "touch") (Delete p) at refl is
-only_touch value at never Recheck is = other_word value (codes "touch") Recheck at refl is
-only_touch value at never (Ask a) is = other_word value (codes "touch") (Ask a) at refl is
-only_touch value at never End is = other_word value (codes "touch") End at refl is
+-- the object is a command, or it is none: it can only be the one by its word
+command_or_none : (value : Data) → ((l : Line) × Commands value l) ⊎ ((l : Line) → Commands value l → ⊥)
+command_or_none value = of_word (text_at (codes "do") value) refl where
+  -- a command of the object is the one by its word
+  is_by : (word : Bytes) (l : Line) → text_at (codes "do") value ≡ Some word → Commands value l → line_by word value ≡ Some l
+  is_by word l at is = ap (λ w. line_by w value) (same_Some word (do_word l) (sym at ∙ has_word value l is)) ∙ is_by_word value l is
 
-no_word : (value : Data) → ((l : Line) → text_at (codes "do") value ≡ Some (do_word l) → ⊥) → CommandOrNone value
-no_word value never = inr (λ l is. never l (has_word value l is))
-
-edit_or_none : (value : Data) → text_at (codes "do") value ≡ Some (codes "edit") → CommandOrNone value
-edit_or_none value at = by (text_at (codes "path") value) (text_at (codes "text") value) refl refl where
-  by : (path text : Option Bytes) → text_at (codes "path") value ≡ path → text_at (codes "text") value ≡ text → CommandOrNone value
-  by None text lacks there = inr (only_edit value at (λ p t is. none-some _ (sym lacks ∙ is.1)))
-  by (Some p) None there lacks = inr (only_edit value at (λ q t is. none-some _ (sym lacks ∙ is.3)))
-  by (Some p) (Some t) path text = elim (normal_or_not p) [
-    | inl normal ↦ inl (Edit p t, (at, path, normal, text))
-    | inr never ↦ inr (only_edit value at (λ q u is. never (subst IsNormalPath (same_Some q p (sym is.1 ∙ path)) is.2)))
+  of_line : (word : Bytes) → text_at (codes "do") value ≡ Some word → (o : Option Line) → line_by word value ≡ o → ((l : Line) × Commands value l) ⊎ ((l : Line) → Commands value l → ⊥)
+  of_line word at None none = inr (λ l is. none-some l (sym none ∙ is_by word l at is))
+  of_line word at (Some line) some = elim (command_or_not value line) [
+    | inl is ↦ inl (line, is)
+    | inr never ↦ inr (λ l is. never (subst (Commands value) (same_Some l line (sym (is_by word l at is) ∙ some)) is))
   ]
 
-delete_or_none : (value : Data) → text_at (codes "do") value ≡ Some (codes "delete") → CommandOrNone value
-delete_or_none value at = by (text_at (codes "path") value) refl where
-  by : (path : Option Bytes) → text_at (codes "path") value ≡ path → CommandOrNone value
-  by None lacks = inr (only_delete value at (λ p is. none-some _ (sym lacks ∙ is.1)))
-  by (Some p) path = elim (normal_or_not p) [
-    | inl normal ↦ inl (Delete p, (at, path, normal))
-    | inr never ↦ inr (only_delete value at (λ q is. never (subst IsNormalPath (same_Some q p (sym is.1 ∙ path)) is.2)))
-  ]
-
-touch_or_none : (value : Data) → text_at (codes "do") value ≡ Some (codes "touch") → CommandOrNone value
-touch_or_none value at = by (text_at (codes "path") value) refl where
-  by : (path : Option Bytes) → text_at (codes "path") value ≡ path → CommandOrNone value
-  by None lacks = inr (only_touch value at (λ p is. none-some _ (sym lacks ∙ is.1)))
-  by (Some p) path = elim (normal_or_not p) [
-    | inl normal ↦ inl (Touch p, (at, path, normal))
-    | inr never ↦ inr (only_touch value at (λ q is. never (subst IsNormalPath (same_Some q p (sym is.1 ∙ path)) is.2)))
-  ]
-
-recheck_or_none : (value : Data) → text_at (codes "do") value ≡ Some (codes "recheck") → CommandOrNone value
-recheck_or_none value at = by (get (codes "stop") value) (get (codes "asks") value) refl refl where
-  by : (stop asks : Option Data) → get (codes "stop") value ≡ stop → get (codes "asks") value ≡ asks → CommandOrNone value
-  by None None stop asks = inl (Recheck, (at, stop, asks))
-  by None (Some a) stop asks = inr (only_recheck value at (λ is. none-some _ (sym is.2 ∙ asks)))
-  by (Some s) asks there more = inr (only_recheck value at (λ is. none-some _ (sym is.1 ∙ there)))
-
-ask_or_none : (value : Data) → text_at (codes "do") value ≡ Some (codes "ask") → CommandOrNone value
-ask_or_none value at = by (get (codes "ask") value) refl where
-  what : (inner : Data) (text : Option Bytes) → get (codes "ask") value ≡ Some inner → text_at (codes "what") inner ≡ text → CommandOrNone value
-  what inner None there lacks =
-      inr (only_ask value at (λ is. none-some _ (sym lacks ∙ subst (λ d. text_at (codes "what") d ≡ Some (codes "status")) (same_Some is.1.0 inner (sym is.1.1 ∙ there)) is.1.2)))
-  what inner (Some text) there is = elim (bytes_or_not text (codes "status")) [
-    | inl status ↦ inl (Ask Status, (at, (inner, there, is ∙ ap Some status)))
-    | inr never ↦ inr (only_ask value at (λ asks. never (same_Some text (codes "status") (sym is ∙ subst (λ d. text_at (codes "what") d ≡ Some (codes "status")) (same_Some asks.1.0 inner (sym asks.1.1 ∙ there)) asks.1.2))))
-  ]
-
-  by : (inner : Option Data) → get (codes "ask") value ≡ inner → CommandOrNone value
-  by None lacks = inr (only_ask value at (λ is. none-some _ (sym lacks ∙ is.1.1)))
-  by (Some inner) there = what inner (text_at (codes "what") inner) there refl
-
-command_or_none : (value : Data) → CommandOrNone value
-command_or_none value = by (text_at (codes "do") value) refl where
-  none_such : (word : Bytes) → text_at (codes "do") value ≡ Some word → (word ≡ codes "edit" → ⊥) → (word ≡ codes "delete" → ⊥) → (word ≡ codes "touch" → ⊥) → (word ≡ codes "recheck" → ⊥) → (word ≡ codes "ask" → ⊥) → (word ≡ codes "end" → ⊥)
-      → (l : Line) → Commands value l → ⊥
-  none_such word at edit delete touch recheck ask end Blank is = is
-  none_such word at edit delete touch recheck ask end (Edit p t) is = edit (same_Some word (codes "edit") (sym at ∙ is.0))
-  none_such word at edit delete touch recheck ask end (Delete p) is = delete (same_Some word (codes "delete") (sym at ∙ is.0))
-  none_such word at edit delete touch recheck ask end (Touch p) is = touch (same_Some word (codes "touch") (sym at ∙ is.0))
-  none_such word at edit delete touch recheck ask end Recheck is = recheck (same_Some word (codes "recheck") (sym at ∙ is.0))
-  none_such word at edit delete touch recheck ask end (Ask a) is = ask (same_Some word (codes "ask") (sym at ∙ is.0))
-  none_such word at edit delete touch recheck ask end End is = end (same_Some word (codes "end") (sym at ∙ is))
-
-  by : (word : Option Bytes) → text_at (codes "do") value ≡ word → CommandOrNone value
-  by None lacks = no_word value (λ l is. none-some _ (sym lacks ∙ is))
-  by (Some word) at = elim (bytes_or_not word (codes "edit")) [
-    | inl edit ↦ edit_or_none value (at ∙ ap Some edit)
-    | inr not_edit ↦ elim (bytes_or_not word (codes "delete")) [
-      | inl delete ↦ delete_or_none value (at ∙ ap Some delete)
-      | inr not_delete ↦ elim (bytes_or_not word (codes "touch")) [
-        | inl touch ↦ touch_or_none value (at ∙ ap Some touch)
-        | inr not_touch ↦ elim (bytes_or_not word (codes "recheck")) [
-          | inl recheck ↦ recheck_or_none value (at ∙ ap Some recheck)
-          | inr not_recheck ↦ elim (bytes_or_not word (codes "ask")) [
-            | inl ask ↦ ask_or_none value (at ∙ ap Some ask)
-            | inr not_ask ↦ elim (bytes_or_not word (codes "end")) [
-              | inl end ↦ inl (End, at ∙ ap Some end)
-              | inr not_end ↦ inr (none_such word at not_edit not_delete not_touch not_recheck not_ask not_end)
-            ]
-          ]
-        ]
-      ]
-    ]
-  ]
+  of_word : (o : Option Bytes) → text_at (codes "do") value ≡ o → ((l : Line) × Commands value l) ⊎ ((l : Line) → Commands value l → ⊥)
+  of_word None lacks = inr (λ l is. none-some (do_word l) (sym lacks ∙ has_word value l is))
+  of_word (Some word) at = of_line word at (line_by word value) refl
 
 -- ---- lines
 
 -- the bytes are a command's JSON text, or they are none's
 json_or_none : (bytes : Bytes) → ((l : Line) × ((value : Data) × IsJson bytes value × Commands value l)) ⊎ ((l : Line) → ((value : Data) × IsJson bytes value × Commands value l) → ⊥)
 json_or_none bytes = by (utf8_or_not bytes) (read bytes) refl where
-  of_value : (value : Data) → IsUtf8 bytes → read bytes ≡ Some value → CommandOrNone value
+  of_value : (value : Data) → IsUtf8 bytes → read bytes ≡ Some value → ((l : Line) × Commands value l) ⊎ ((l : Line) → Commands value l → ⊥)
       → ((l : Line) × ((value : Data) × IsJson bytes value × Commands value l)) ⊎ ((l : Line) → ((value : Data) × IsJson bytes value × Commands value l) → ⊥)
   of_value value text is (inl command) = inl (command.0, (value, (text, is), command.1))
   of_value value text is (inr none) = inr (λ l also. none l (subst (λ v. Commands v l) (same_Some also.0 value (sym also.1.1 ∙ is)) also.2))

@@ -1,8 +1,8 @@
 -- What the bytes of a script's line say.
-use Rattle.std.specs.Prelude.{◌≡◌, ◌⊎◌, ◌==◌, ◌||◌, ℕ, Bool, All, IsTrue, IsUtf8, Option, Some, None, option_and_then, codes}
+use Rattle.std.specs.Prelude.{◌≡◌, ◌⊎◌, ◌==◌, ◌||◌, ℕ, zero, suc, Bool, All, IsTrue, IsUtf8, Option, Some, None, option_and_then, codes}
 use Rattle.serde_json.specs.Data.{Data}
 use Rattle.serde_json.specs.Read.{read}
-use Rattle.serde_json.specs.Find.{get, as_str}
+use Rattle.serde_json.specs.Find.{get, as_str, as_number, as_u64}
 use Rattle.flow_values.specs.Path.{Bytes, IsNormalPath}
 use Rattle.script_line.specs.declared.line.Line.{Line}
 use Rattle.script_line.specs.declared.line.Line.TheVariants.{Blank, Edit, Delete, Touch, Recheck, Ask, End}
@@ -29,6 +29,20 @@ HasText key text value = text_at key value ≡ Some text
 abbrev pub Lacks : Bytes → Data → Type 0
 Lacks key value = get key value ≡ None
 
+-- the number of a poll, counted from 1
+abbrev pub poll_of : ℕ → Option ℕ
+poll_of zero = None
+poll_of (suc k) = Some (suc k)
+
+-- the poll at which a recheck is to stop, by what stands at the key `stop`: a whole number from 1 to 2^64 - 1, or 0 for none where nothing
+-- stands there
+abbrev pub stop_by : Option Data → Option ℕ
+stop_by None = Some 0
+stop_by (Some value) = option_and_then poll_of (option_and_then as_u64 (as_number value))
+
+abbrev pub stop_in : Data → Option ℕ
+stop_in value = stop_by (get (codes "stop") value)
+
 -- the object is a question
 abbrev pub Asks : Data → the_ask.Ask → Type 0
 Asks value Status = HasText (codes "what") (codes "status") value
@@ -40,7 +54,7 @@ Commands value (Edit path text) =
     HasText (codes "do") (codes "edit") value × HasText (codes "path") path value × IsNormalPath path × HasText (codes "text") text value
 Commands value (Delete path) = HasText (codes "do") (codes "delete") value × HasText (codes "path") path value × IsNormalPath path
 Commands value (Touch path) = HasText (codes "do") (codes "touch") value × HasText (codes "path") path value × IsNormalPath path
-Commands value Recheck = HasText (codes "do") (codes "recheck") value × Lacks (codes "stop") value × Lacks (codes "asks") value
+Commands value (Recheck stop) = HasText (codes "do") (codes "recheck") value × (stop_in value ≡ Some stop) × Lacks (codes "asks") value
 Commands value (Ask ask) = HasText (codes "do") (codes "ask") value × ((inner : Data) × (get (codes "ask") value ≡ Some inner) × Asks inner ask)
 Commands value End = HasText (codes "do") (codes "end") value
 

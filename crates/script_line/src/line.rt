@@ -20,8 +20,9 @@ pub enum Line {
     Delete { path: Path },
     /// The next recheck reads the path from the folder.
     Touch { path: Path },
-    /// The pending edits are checked and committed.
-    Recheck,
+    /// The pending edits are checked and committed. At the poll `stop`, counted from 1, the recheck
+    /// is cancelled; 0 stands for none.
+    Recheck { stop: u64 },
     /// A question of the committed version.
     Ask(Ask),
     /// The script ends here.

@@ -1,9 +1,9 @@
 ghost use Rattle.std.specs.Prelude.{◌≡◌, ◌↔◌, ℕ, List, Some, None, IfOk, IfSome, IfNone, IsTrue, IsErrOf, IsSome, All, codes, option_and_then};
 ghost use Rattle.std.specs.Option.{option_map};
 ghost use Rattle.serde_json.specs.Data.{Data};
-ghost use Rattle.serde_json.specs.Find.{get, as_str};
+ghost use Rattle.serde_json.specs.Find.{get, as_str, as_number, as_u64};
 ghost use Rattle.serde_json.specs.View.{view};
-ghost use Rattle.script_line.specs.Says.{is_blank, IsJson, text_at, HasText, Lacks, Asks, Commands, IsBlankLine, Says};
+ghost use Rattle.script_line.specs.Says.{is_blank, IsJson, text_at, HasText, Lacks, poll_of, stop_in, Asks, Commands, IsBlankLine, Says};
 ghost use Rattle.flow_values.specs.Path.{IsNormalPath};
 ghost use Rattle.script_line.specs.declared.line.Line.{Line};
 ghost use Rattle.script_line.specs.declared.line.Ask as the_ask;
@@ -72,13 +72,35 @@ fn touch_of(alloc: Global, value: &Value) -> Result<Option<Line>, NoMemory>
     Ok(Some(Line::Touch { path }))
 }
 
+// The number of a poll, counted from 1.
+fn poll_of(value: &Value) -> Option<u64>
+    ensures { result ≡ option_and_then poll_of (option_and_then as_u64 (as_number (view value.now))) }
+{
+    match value.as_u64() {
+        Some(0) => None,
+        poll => poll,
+    }
+}
+
+// The poll at which a recheck is to stop, 0 where the object says none, and nothing where what it says
+// is no poll.
+fn stop_in(value: &Value) -> Option<u64>
+    ensures { result ≡ stop_in (view value.now) }
+{
+    match value.get("stop") {
+        None => Some(0),
+        Some(stop) => poll_of(stop),
+    }
+}
+
 fn recheck_of(value: &Value) -> Option<Line>
     requires { HasText (codes "do") (codes "recheck") (view value.now) }
     ensures found { IfSome result (Commands (view value.now)) }
     ensures none { IfNone result ((l : Line) → Commands (view value.now) l → ⊥) }
 {
-    if value.get("stop").is_none() && value.get("asks").is_none() {
-        Some(Line::Recheck)
+    let stop = stop_in(value)?;
+    if value.get("asks").is_none() {
+        Some(Line::Recheck { stop })
     } else {
         None
     }

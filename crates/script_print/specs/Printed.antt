@@ -9,6 +9,10 @@ abbrev pub done_line : ℕ → ℕ → ℕ → ℕ → Bytes
 done_line version parsed checked errors =
     codes "recheck " ++ (decimal version ++ (codes ": " ++ (decimal parsed ++ (codes " parsed, " ++ (decimal checked ++ (codes " checked, " ++ (decimal errors ++ codes " errors\n")))))))
 
+-- a recheck that was cancelled at a poll
+abbrev pub cancelled_line : ℕ → ℕ → Bytes
+cancelled_line poll version = codes "recheck cancelled at poll " ++ (decimal poll ++ (codes ", still " ++ (decimal version ++ end_of_line)))
+
 -- a recheck that could not read a path
 abbrev pub fault_line : Bytes → ℕ → Bytes
 fault_line path version = codes "recheck cannot read " ++ (path ++ (codes ", still " ++ (decimal version ++ end_of_line)))

@@ -1,5 +1,5 @@
 ghost use Rattle.std.specs.Prelude.{◌≡◌, string_bytes, IfOk};
-ghost use Rattle.script_print.specs.Printed.{done_line, fault_line, refused_line, bad_line, files_line, long_line, many_lines};
+ghost use Rattle.script_print.specs.Printed.{done_line, cancelled_line, fault_line, refused_line, bad_line, files_line, long_line, many_lines};
 
 use flow_base::{NoMemory, Path};
 use std::alloc::Global;
@@ -22,6 +22,17 @@ pub fn done_line(
     Ok(format!(in alloc;
         "recheck {version}: {parsed} parsed, {checked} checked, {errors} errors\n"
     )?)
+}
+
+/// The line of a recheck that was cancelled at a poll, counted from 1, at the version that stays.
+///
+/// # Errors
+///
+/// `NoMemory` where memory is refused.
+pub fn cancelled_line(alloc: Global, poll: u32, version: u32) -> Result<String, NoMemory>
+    ensures { IfOk result (λ text. string_bytes text ≡ cancelled_line poll version) }
+{
+    Ok(format!(in alloc; "recheck cancelled at poll {poll}, still {version}\n")?)
 }
 
 /// The line of a recheck that could not read a path, at the version that stays.

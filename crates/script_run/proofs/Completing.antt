@@ -5,6 +5,7 @@ use Rattle.std.proofs.lemmas.List.{take-append-le}
 use Rattle.flow_base.specs.Program.{Bytes, Program}
 use Rattle.flow_base.specs.Outside.{WhereTold, appended, HoldsFront}
 use Rattle.full_law.specs.Law.{EachFull}
+use Rattle.affected_sizes.specs.Law.{EachHasSizes}
 use Rattle.pending_edits.specs.Pending.{MayBecome, edited}
 use Rattle.program_check.specs.Status.{error_count, status_answer}
 use Rattle.pending_edits.specs.declared.edit.Edit.TheVariants.{Put, Touch}
@@ -14,9 +15,10 @@ use Rattle.script_line.specs.declared.line.Ask.TheVariants as ask
 use Rattle.script_line.specs.Says.{Says}
 use Rattle.script_line.proofs.Deciding.{says_or_not}
 use Rattle.script_reader.specs.Lines.{LINE_LIMIT}
+use Rattle.script_run.specs.Checked.{HasErrorCount}
 use Rattle.script_run.specs.declared.ending.WalkEnd.{WalkEnd}
 use Rattle.script_run.specs.declared.ending.WalkEnd.TheVariants as ending
-use Rattle.script_run.specs.Transcript.{Standing, MOST_LINES, start, with_edit, modules_counted, Rechecks, done, Turns, blank, edits, refuses, touches, refuses_touch, deletes, rechecks, answers, Walked, loads, goes, Ends, no_line, end_line, bad, long, many, last_line, IsRun, IsRunSoFar, GoesOn}
+use Rattle.script_run.specs.Transcript.{Standing, MOST_LINES, start, with_edit, modules_counted, ComesTo, Rechecks, done, cancelled, Turns, blank, edits, refuses, touches, refuses_touch, deletes, rechecks, answers, Walked, loads, goes, Ends, no_line, end_line, bad, long, many, last_line, IsRun, IsRunSoFar, GoesOn}
 
 -- ---- lists
 
@@ -29,13 +31,26 @@ some_program : (told : Option Program) (s : Standing) → (program : Program) ×
 some_program None s = (edited [] s.program s.waiting, ([], tt, refl))
 some_program (Some folder) s = (edited folder s.program s.waiting, (folder, refl, refl))
 
-quiet_recheck : EachFull → (told : Option Program) (s : Standing) → (t : Standing) × (printed : Bytes) × Rechecks told s t 0 printed
-quiet_recheck each told s =
-    let may = some_program told s in
-    let full = each may.0 in
-    (_, _, done s may.0 (error_count full.0) may.1 ∣ (full.0, full.1, refl) ∣₁)
+-- where each edit has sizes, each program has a full check
+each_full : EachHasSizes → EachFull
+each_full each program = let sizes = (each [] program).3 in (sizes.after, sizes.full_after)
 
-module _ (each : EachFull) (most : ℕ) (told : Option Program) where
+quiet_recheck : EachHasSizes → (told : Option Program) (stop : ℕ) (s : Standing) → (t : Standing) × (printed : Bytes) × Rechecks told stop s t 0 printed
+quiet_recheck each told stop s =
+    let may = some_program told s in
+    let sizes = each s.program may.0 in
+    let comes : ComesTo told s may.0 sizes.0 sizes.1 sizes.2 = record { may = may.1; sizes = sizes.3 } in
+    let full = each_full each may.0 in
+    let errors : HasErrorCount may.0 (error_count full.0) = ∣ (full.0, full.1, refl) ∣₁ in
+    elim (cases_lt 0 stop) [
+      | inr none ↦ (_, _, done s may.0 sizes.0 sizes.1 sizes.2 (error_count full.0) comes (inl (omega arith)) errors)
+      | inl some ↦ elim (cases_lt sizes.2 stop) [
+        | inl later ↦ (_, _, done s may.0 sizes.0 sizes.1 sizes.2 (error_count full.0) comes (inr later) errors)
+        | inr within ↦ (_, _, cancelled s may.0 sizes.0 sizes.1 sizes.2 comes some (omega arith))
+      ]
+    ]
+
+module _ (each : EachHasSizes) (most : ℕ) (told : Option Program) where
   quiet_edit : (s : Standing) (path text : Bytes) → (t : Standing) × (printed : Bytes) × Turns most told (line.Edit path text) s t 0 printed
   quiet_edit s path text = elim (cases_lt most (modules_counted (with_edit s path (Put text)))) [
     | inl over ↦ (_, _, refuses s path text over)
@@ -53,8 +68,8 @@ module _ (each : EachFull) (most : ℕ) (told : Option Program) where
   quiet_turn (line.Edit path text) goes_on s = quiet_edit s path text
   quiet_turn (line.Delete path) goes_on s = (_, _, deletes s path)
   quiet_turn (line.Touch path) goes_on s = quiet_touch s path
-  quiet_turn line.Recheck goes_on s = let recheck = quiet_recheck each told s in (_, _, rechecks s recheck.0 0 recheck.1 recheck.2)
-  quiet_turn (line.Ask ask.Status) goes_on s = let full = each s.program in (_, _, answers s (status_answer s.version s.program full.0) ∣ (full.0, full.1, refl) ∣₁)
+  quiet_turn (line.Recheck stop) goes_on s = let recheck = quiet_recheck each told stop s in (_, _, rechecks s recheck.0 stop 0 recheck.1 recheck.2)
+  quiet_turn (line.Ask ask.Status) goes_on s = let full = each_full each s.program in (_, _, answers s (status_answer s.version s.program full.0) ∣ (full.0, full.1, refl) ∣₁)
   quiet_turn line.End goes_on s = absurd (goes_on refl)
 
   end_or_not : (said : Line) → (said ≡ line.End) ⊎ (said ≡ line.End → ⊥)
@@ -62,7 +77,7 @@ module _ (each : EachFull) (most : ℕ) (told : Option Program) where
   end_or_not (line.Edit path text) = inr (λ is. absurd (cc (is)))
   end_or_not (line.Delete path) = inr (λ is. absurd (cc (is)))
   end_or_not (line.Touch path) = inr (λ is. absurd (cc (is)))
-  end_or_not line.Recheck = inr (λ is. absurd (cc (is)))
+  end_or_not (line.Recheck stop) = inr (λ is. absurd (cc (is)))
   end_or_not (line.Ask a) = inr (λ is. absurd (cc (is)))
   end_or_not line.End = inl refl
 
@@ -152,6 +167,6 @@ module _ (each : EachFull) (most : ℕ) (told : Option Program) where
     -- a load without a read fault goes on so, whatever the script is
     pub some_run : (script : Option (List Bytes)) → (faults : ℕ) × (faults ≡ 0) × (printed : Bytes) × GoesOn most told listed script faults printed
     some_run script =
-        let load = quiet_recheck each told (start listed) in
+        let load = quiet_recheck each told 0 (start listed) in
         let lines = some_lines script in
         (0, refl, load.1, of_lines script lines.0 0 load.1 lines.1 (walks_on lines.0 [] load.0 0 load.1 (loads load.0 0 load.1 load.2)))

@@ -6,7 +6,8 @@ use Rattle.std.proofs.lemmas.List.{same_from_push}
 use Rattle.std.proofs.lemmas.Option.{none-some, same_Some, slice_get_past}
 use Rattle.std.proofs.Math.Seq.{take_at, drop_at}
 use Rattle.flow_base.specs.Program.{Bytes, Program}
-use Rattle.full_law.specs.Law.{EachFull}
+use Rattle.affected_sizes.specs.Law.{EachHasSizes, HaveOneSize}
+use Rattle.affected_sizes.specs.Sizes.{AreSizes}
 use Rattle.check_values.specs.Rows.{Rows}
 use Rattle.pending_edits.specs.Pending.{MayBecome, edited}
 use Rattle.pending_edits.specs.declared.edit.Edit.{Edit}
@@ -19,7 +20,7 @@ use Rattle.script_print.specs.Printed.{done_line}
 use Rattle.script_reader.specs.Lines.{LINE_LIMIT}
 use Rattle.script_run.specs.Checked.{HasErrorCount}
 use Rattle.script_run.specs.declared.ending.WalkEnd.{WalkEnd}
-use Rattle.script_run.specs.Transcript.{Standing, MOST_LINES, Rechecks, done, cannot_read, Turns, blank, edits, refuses, touches, refuses_touch, deletes, rechecks, answers, Walked, loads, goes, Ends, no_line, end_line, bad, long, many, last_line, IsRun, IsQuietRun}
+use Rattle.script_run.specs.Transcript.{Standing, MOST_LINES, GoesThrough, ComesTo, Rechecks, done, cancelled, cannot_read, Turns, blank, edits, refuses, touches, refuses_touch, deletes, rechecks, answers, Walked, loads, goes, Ends, no_line, end_line, bad, long, many, last_line, IsRun, IsQuietRun}
 use Rattle.script_run.proofs.Checks.{one_count, one_answer}
 use Rattle.script_run.proofs.Completing.{some_run}
 
@@ -43,23 +44,47 @@ at_seam (x ∷ xs) y ys = at_seam xs y ys
 same_program : (folder p q before : Program) (rows : Rows Edit) → MayBecome (Some folder) before rows p → MayBecome (Some folder) before rows q → p ≡ q
 same_program folder p q before rows may also = may.2 ∙ (ap (λ f. edited f before rows) (may.1 ∙ sym also.1) ∙ sym also.2)
 
-done_at : (s : Standing) (p q : Program) (m n : ℕ) → p ≡ q → m ≡ n →
-    Same (record { program = p; version = s.version + 1; waiting = [] }) (record { program = q; version = s.version + 1; waiting = [] })
-    (done_line (s.version + 1) (length p) (length p) m) (done_line (s.version + 1) (length q) (length q) n)
-done_at s p q m n same count = (
+same_done : (s : Standing) (a b : Program) (parsed parsed' checked checked' m n : ℕ) → a ≡ b → parsed ≡ parsed' → checked ≡ checked' → m ≡ n →
+    Same (record { program = a; version = s.version + 1; waiting = [] }) (record { program = b; version = s.version + 1; waiting = [] })
+    (done_line (s.version + 1) parsed checked m) (done_line (s.version + 1) parsed' checked' n)
+same_done s a b parsed parsed' checked checked' m n same parses checks count = (
   ap (λ (r : Program). let t : Standing = record { program = r; version = s.version + 1; waiting = [] } in t) same,
-  (λ i. done_line (s.version + 1) (length (same i)) (length (same i)) (count i)),
+  (λ i. done_line (s.version + 1) (parses i) (checks i) (count i)),
 )
 
-module _ (one : OneFull) (folder : Program) where
-  same_done : (s : Standing) (a b : Program) (m n : ℕ) → a ≡ b → HasErrorCount a m → HasErrorCount b n →
-      Same (record { program = a; version = s.version + 1; waiting = [] }) (record { program = b; version = s.version + 1; waiting = [] })
-      (done_line (s.version + 1) (length a) (length a) m) (done_line (s.version + 1) (length b) (length b) n)
-  same_done s a b m n same first second = done_at s a b m n same (one_count one a m n first (subst (λ p. HasErrorCount p n) (sym same) second))
+-- a recheck that goes through all polls is not cancelled at one
+not_both : (stop polls polls' : ℕ) → polls ≡ polls' → GoesThrough stop polls → 1 ≤ stop → stop ≤ polls' → ⊥
+not_both stop polls polls' same (inl none) some within = omega (arith, none)
+not_both stop polls polls' same (inr later) some within = omega (arith, same)
 
-  same_recheck : {s t u : Standing} {f g : ℕ} {p q : Bytes} → Rechecks (Some folder) s t f p → Rechecks (Some folder) s u g q → f ≡ 0 → g ≡ 0 → Same t u p q
-  same_recheck (done s a m may counts) (done s' b n also counts') quiet still = same_done s a b m n (same_program folder a b s.program s.waiting may also) counts counts'
-  same_recheck (done s a m may counts) (cannot_read s' path touched) quiet still = absurd (omega arith)
+module _ (one : OneFull) (sized : HaveOneSize) (folder : Program) where
+  module _ (s : Standing) (a b : Program) (parsed parsed' checked checked' polls polls' : ℕ) (comes : ComesTo (Some folder) s a parsed checked polls) (also : ComesTo (Some folder) s b parsed' checked' polls') where
+    one_program : a ≡ b
+    one_program = same_program folder a b s.program s.waiting comes.may also.may
+
+    one_size : (parsed ≡ parsed') × (checked ≡ checked') × (polls ≡ polls')
+    one_size =
+        sized s.program b parsed checked polls parsed' checked' polls' (subst (λ p. AreSizes s.program p parsed checked polls) one_program comes.sizes) also.sizes
+
+    one_done : (m n : ℕ) → HasErrorCount a m → HasErrorCount b n →
+        Same (record { program = a; version = s.version + 1; waiting = [] }) (record { program = b; version = s.version + 1; waiting = [] })
+        (done_line (s.version + 1) parsed checked m) (done_line (s.version + 1) parsed' checked' n)
+    one_done m n first second =
+        same_done s a b parsed parsed' checked checked' m n one_program one_size.0 one_size.1 (one_count one a m n first (subst (λ p. HasErrorCount p n) (sym one_program) second))
+
+    never_both : (stop : ℕ) → GoesThrough stop polls → 1 ≤ stop → stop ≤ polls' → ⊥
+    never_both stop through some within = not_both stop polls polls' one_size.2 through some within
+
+  same_recheck : {stop : ℕ} {s t u : Standing} {f g : ℕ} {p q : Bytes} → Rechecks (Some folder) stop s t f p → Rechecks (Some folder) stop s u g q → f ≡ 0 → g ≡ 0 → Same t u p q
+  same_recheck (done s a parsed checked polls m comes through counts) (done s' b parsed' checked' polls' n also through' counts') quiet still =
+      one_done s a b parsed parsed' checked checked' polls polls' comes also m n counts counts'
+  same_recheck {stop = stop} (done s a parsed checked polls m comes through counts) (cancelled s' b parsed' checked' polls' also some within) quiet still =
+      absurd (never_both s a b parsed parsed' checked checked' polls polls' comes also stop through some within)
+  same_recheck (done s a parsed checked polls m comes through counts) (cannot_read s' path touched) quiet still = absurd (omega arith)
+  same_recheck {stop = stop} (cancelled s a parsed checked polls comes some within) (done s' b parsed' checked' polls' n also through counts) quiet still =
+      absurd (never_both s b a parsed' parsed checked' checked polls' polls also comes stop through some within)
+  same_recheck (cancelled s a parsed checked polls comes some within) (cancelled s' b parsed' checked' polls' also some' within') quiet still = (refl, refl)
+  same_recheck (cancelled s a parsed checked polls comes some within) (cannot_read s' path touched) quiet still = absurd (omega arith)
   same_recheck (cannot_read s path touched) other quiet still = absurd (omega arith)
 
   module _ (most : ℕ) where
@@ -74,7 +99,7 @@ module _ (one : OneFull) (folder : Program) where
     same_turn (refuses_touch s path over) (touches s' path' few) quiet still = absurd (omega arith)
     same_turn (refuses_touch s path over) (refuses_touch s' path' over') quiet still = (refl, refl)
     same_turn (deletes s path) (deletes s' path') quiet still = (refl, refl)
-    same_turn (rechecks s t f p recheck) (rechecks s' u g q other) quiet still = same_recheck recheck other quiet still
+    same_turn (rechecks s t stop f p recheck) (rechecks s' u stop' g q other) quiet still = same_recheck recheck other quiet still
     same_turn (answers s p answer) (answers s' q answer') quiet still = (refl, one_answer one s.program s.version p q answer answer')
 
     turn_at : (said said' : Line) (s s' t u : Standing) (f g : ℕ) (p q : Bytes) → said' ≡ said → s' ≡ s → Turns most (Some folder) said s t f p → Turns most (Some folder) said' s' u g q → f ≡ 0 → g ≡ 0 → Same t u p q
@@ -114,7 +139,7 @@ turn_goes_on (refuses s path text over) is = absurd (cc (is))
 turn_goes_on (touches s path few) is = absurd (cc (is))
 turn_goes_on (refuses_touch s path over) is = absurd (cc (is))
 turn_goes_on (deletes s path) is = absurd (cc (is))
-turn_goes_on (rechecks s t f p recheck) is = absurd (cc (is))
+turn_goes_on (rechecks s t stop f p recheck) is = absurd (cc (is))
 turn_goes_on (answers s p answer) is = absurd (cc (is))
 
 passes_at : (n k : ℕ) (bytes b : Bytes) → k ≡ n → bytes ≡ b → Passes n bytes → Passes k b
@@ -168,13 +193,13 @@ same_end n rest how how' (many b r past) (many b' r' past') = refl
 
 -- ---- runs
 
-pub some_quiet_run : EachFull → (most : ℕ) (folder : Program) (listed lines : List Bytes) → (printed : Bytes) × (how : WalkEnd) × (program : Program) × (version : ℕ) × IsQuietRun most folder listed lines printed how program version
+pub some_quiet_run : EachHasSizes → (most : ℕ) (folder : Program) (listed lines : List Bytes) → (printed : Bytes) × (how : WalkEnd) × (program : Program) × (version : ℕ) × IsQuietRun most folder listed lines printed how program version
 some_quiet_run each most folder listed lines =
     let run = some_run each most (Some folder) listed (Some lines) in
     let on = run.3 in
     (run.2 ++ on.more, on.how, on.program, on.version, subst (λ f. IsRun most (Some folder) listed (Some lines) f (run.2 ++ on.more) on.how on.program on.version) run.1 on.run)
 
-module _ (one : OneFull) (most : ℕ) (folder : Program) (listed lines : List Bytes) where
+module _ (one : OneFull) (sized : HaveOneSize) (most : ℕ) (folder : Program) (listed lines : List Bytes) where
   as_long : (p q : Bytes) (h k : WalkEnd) (a b : Program) (v w : ℕ) → (run : IsQuietRun most folder listed lines p h a v) → (other : IsQuietRun most folder listed lines q k b w) → length run.taken ≡ length other.taken
   as_long p q h k a b v w run other = elim (cases_lt (length run.taken) (length other.taken)) [
     | inl shorter ↦ absurd (no_earlier run.taken run.rest other.taken other.rest h (sym run.lines ∙ other.lines) shorter run.ends other.walk)
@@ -191,7 +216,7 @@ module _ (one : OneFull) (most : ℕ) (folder : Program) (listed lines : List By
       sym (take_at run.taken run.rest (length run.taken) refl) ∙ ap (take (length run.taken)) (sym run.lines ∙ other.lines) ∙ take_at other.taken other.rest (length run.taken) (sym as_far) in
       let rest : run.rest ≡ other.rest =
       sym (drop_at run.taken run.rest (length run.taken) refl) ∙ ap (drop (length run.taken)) (sym run.lines ∙ other.lines) ∙ drop_at other.taken other.rest (length run.taken) (sym as_far) in
-      let walk = same_walk one folder most listed run.walk other.walk taken refl refl in
+      let walk = same_walk one sized folder most listed run.walk other.walk taken refl refl in
       let how : h ≡ k = same_end (length run.taken) run.rest h k run.ends (subst (λ r. Ends (length run.taken) r k) (sym rest) (subst (λ n. Ends n other.rest k) (sym as_far) other.ends)) in (
         run.prints ∙ printed run.before other.before (length run.taken) (length other.taken) h k walk.1 as_far how ∙ sym other.prints,
         how,

@@ -1,37 +1,37 @@
 -- The edits that wait for the next recheck.
-use Rattle.std.proofs.Common.{◌≡◌, ℕ, zero, suc, ◌+◌, ◌-◌, ◌^◌, ◌<◌, ◌≤◌, cond, List, [], ◌∷◌, ◌++◌, length, take, get_or, refl, sym, ap, ◌∙◌, subst, arith}
-use Rattle.std.specs.Prelude.{Result, Ok, Err}
-use Rattle.std.specs.Map.{values_of}
+use Rattle.std.proofs.Common.{◌≡◌, ℕ, zero, suc, ◌+◌, ◌*◌, ◌^◌, ◌<◌, ◌≤◌, Bool, cond, List, [], ◌∷◌, ◌++◌, length, take, get_or, refl, sym, ap, ◌∙◌, subst, arith}
+use Rattle.std.specs.Prelude.{Result, Ok, Err, OnOk, OnErr}
+use Rattle.std.specs.Map.{keys_of, values_of}
 use Rattle.std.specs.Ordering.{nat_cmp, match_ordering, ordering_reverse}
 use Rattle.std.specs.Cmp.Lexicographic.{slice_cmp, nat_list_cmp_total}
 use Rattle.std.specs.declared.cmp.Ordering.{Ordering}
-use Rattle.std.specs.declared.cmp.Ordering.TheVariants.{Less, Greater}
-use Rattle.std.proofs.lemmas.List.{take_more, length-take-le}
+use Rattle.std.specs.declared.cmp.Ordering.TheVariants.{Less, Equal, Greater}
+use Rattle.std.proofs.lemmas.List.{take_more, length-take-le, length-map}
 use Rattle.std.proofs.lemmas.List.Sums.{sum_by-cons}
 use Rattle.flow_base.specs.Program as base
 use Rattle.flow_base.specs.Program.{Bytes, IsRising}
 use Rattle.flow_base.proofs.Rising.{IsBelowAll, below_all, rising_rest}
 use Rattle.heap_core.specs.Meaning.{Meaning, IsSound}
-use Rattle.check_values.specs.Rows.{Rows}
+use Rattle.check_values.specs.Rows.{Rows, is_among}
 use Rattle.check_values.specs.Roots.{paths_of, paths_of_rows}
 use Rattle.check_values.specs.declared.root.RootRow.{RootRow}
 use Rattle.check_values.specs.declared.root.Root.{Root}
-use Rattle.payloads.specs.State.{fits}
+use Rattle.payloads.specs.State.{IsRoot, fits}
 use Rattle.payloads.specs.declared.payload.Payload.{Payload}
 use Rattle.payloads.specs.declared.payload.Payload.TheVariants as payload
 use Rattle.pending_edits.specs.Pending as pending
 use Rattle.pending_edits.specs.Pending.{Pending}
-use Rattle.pending_edits.specs.Counting.{counted, keeps, kept_in, StandsOn, LimitsModules}
+use Rattle.pending_edits.specs.Counting.{counted, keeps, kept_in, edits_of, StandsOn, LimitsModules}
 use Rattle.pending_edits.specs.declared.edit.Edit.{Edit}
-use Rattle.pending_edits.specs.declared.edit.Edit.TheVariants.{Touch}
+use Rattle.pending_edits.specs.declared.edit.Edit.TheVariants.{Touch, Delete}
 use Rattle.pending_edits.specs.declared.edit.EditFault.{EditFault}
 use Rattle.pending_edits.specs.declared.edit.EditFault.TheVariants.{TooManyModules, NoMemory}
-use Rattle.program_recheck.specs.Recheck.{Commits, HasRoom, RecheckState, Rechecked}
-use Rattle.program_recheck.proofs.Finish.{few_modules, root_fits}
-use Rattle.program_recheck.specs.declared.outcome.Outcome.{Outcome}
-use Rattle.program_recheck.specs.declared.outcome.Outcome.TheVariants as outcome
+use Rattle.edited_root.proofs.Rooted.{few_modules}
+use Rattle.recheck_run.specs.Recheck.{Commits, HasRoom, RecheckState, Rechecked}
+use Rattle.recheck_run.specs.declared.outcome.Outcome.{Outcome}
+use Rattle.recheck_run.specs.declared.outcome.Outcome.TheVariants as outcome
 use Rattle.script_run.specs.Transcript.{to_touch}
-use Rattle.script_run.specs.Session.{modules_in, program_in, program_with, held, StandOnCommitted, IsReady, IsEmptyHeap, Limits}
+use Rattle.script_run.specs.Session.{modules_in, program_in, program_with, held, StandOnCommitted, AreFew, CountsNoMore, StandsStill, IsReady, IsEmptyHeap, Limits}
 use Rattle.script_run.proofs.Sessions.{first_modules}
 
 -- ---- paths to be read, put one behind the other
@@ -79,6 +79,59 @@ few_touched listed i path old most rising within is so_far few =
     let size : length (take (i + 1) listed) ≡ i + 1 = length-take-le (i + 1) listed (omega arith) in
     omega (arith, kept, size)
 
+-- all of them are to be read
+pub few_all : (listed : List Bytes) (edits : Rows Edit) (most : ℕ) → edits ≡ to_touch listed → length listed ≤ most → counted [] edits ≤ most
+few_all listed edits most is few =
+    let kept : kept_in edits ≡ length listed = ap kept_in is ∙ kept_all listed in
+    omega (arith, kept, few)
+
+-- ---- a path that is deleted is counted no more
+
+one : Bool → ℕ
+one b = cond b 1 0
+
+kept_first : (e : Edit) (edits : Rows Edit) (path : Bytes) → kept_in ((path, e) ∷ edits) ≡ one (keeps e) + kept_in edits
+unfolding one
+kept_first e edits path = sum_by-cons (λ (x : Edit). cond (keeps x) 1 0) e (values_of edits)
+
+edits_first : (paths : List Bytes) (path : Bytes) (e : Edit) (edits : Rows Edit) → edits_of paths ((path, e) ∷ edits) ≡ one (is_among paths path) + edits_of paths edits
+unfolding one
+edits_first paths path e edits = sum_by-cons (λ (x : Bytes). cond (is_among paths x) 1 0) path (keys_of edits)
+
+module _ (paths : List Bytes) (path : Bytes) where
+  -- with the deletion of a path no more are kept, and as many edits are of these paths
+  abbrev Fewer : Rows Edit → Rows Edit → Type 0
+  Fewer new old = (kept_in new ≤ kept_in old) × (edits_of paths old ≤ edits_of paths new)
+
+  deleted_first : (edits : Rows Edit) → Fewer ((path, Delete) ∷ edits) edits
+  unfolding one
+  deleted_first edits = (omega (arith, kept_first Delete edits path), omega (arith, edits_first paths path Delete edits))
+
+  deleted_there : (edits : Rows Edit) (key : Bytes) (e : Edit) → Fewer ((key, Delete) ∷ edits) ((key, e) ∷ edits)
+  unfolding one
+  deleted_there edits key e =
+      (omega (arith, kept_first Delete edits key, kept_first e edits key), omega (arith, edits_first paths key Delete edits, edits_first paths key e edits))
+
+  deleted_behind : (edits new : Rows Edit) (key : Bytes) (e : Edit) → Fewer new edits → Fewer ((key, e) ∷ new) ((key, e) ∷ edits)
+  deleted_behind edits new key e fewer =
+      (omega (arith, fewer.0, kept_first e new key, kept_first e edits key), omega (arith, fewer.1, edits_first paths key e new, edits_first paths key e edits))
+
+  fewer_of : (edits : Rows Edit) → Fewer (pending.with_edit edits path Delete) edits
+  fewer_of [] = deleted_first []
+  fewer_of (e ∷ edits) = by (slice_cmp nat_cmp path e.0) (fewer_of edits) where
+    by : (o : Ordering) → Fewer (pending.with_edit edits path Delete) edits
+        → Fewer (match_ordering o ((path, Delete) ∷ e ∷ edits) ((e.0, Delete) ∷ edits) (e ∷ pending.with_edit edits path Delete)) (e ∷ edits)
+    by Less later = deleted_first (e ∷ edits)
+    by Equal later = deleted_there edits e.0 e.1
+    by Greater later = deleted_behind edits (pending.with_edit edits path Delete) e.0 e.1 later
+
+  fewer_counted : (edits : Rows Edit) → counted paths (pending.with_edit edits path Delete) ≤ counted paths edits
+  fewer_counted edits = let fewer = fewer_of edits in omega (arith, fewer.0, fewer.1)
+
+pub counts_no_more : {T E : Type 0} (r : Result T E) (before now : Pending) (path : Bytes) → OnOk r (now.edits ≡ pending.with_edit before.edits path Delete) → OnErr r (now.edits ≡ before.edits) → CountsNoMore before now
+counts_no_more (Ok x) before now path ok err paths = subst (λ es. counted paths es ≤ counted paths before.edits) (sym ok) (fewer_counted paths path before.edits)
+counts_no_more (Err e) before now path ok err paths = let same : counted paths now.edits ≡ counted paths before.edits = ap (counted paths) err in omega (arith, same)
+
 -- ---- the paths of the program that is committed
 
 paths_with : (ms : List RootRow) → base.paths_of (program_with ms) ≡ paths_of_rows ms
@@ -92,6 +145,10 @@ committed_paths : (m : Meaning Payload) (root : Root) → Commits m root → bas
 committed_paths m root is = paths_with (modules_in m.committed) ∙ ap paths_of_rows (committed_rows m root is)
 
 -- ---- the root that is committed
+
+-- it fits
+root_fits : (most : ℕ) (m : Meaning Payload) (root : Root) → IsSound fits m → HasRoom m most → Commits m root → IsRoot (4 * most + 1) root
+root_fits most m root sound room at = subst (λ (n : ℕ). IsRoot n root) room.entities (sound.fit (payload.Root root) at 0 (payload.Root root) at).0
 
 pub root_rising : (m : Meaning Payload) (root : Root) (most : ℕ) → IsSound fits m → HasRoom m most → Commits m root → IsRising (paths_of root)
 root_rising m root most sound room is = subst IsRising (paths_with root.modules) (root_fits most m root sound room is).rising
@@ -110,21 +167,77 @@ stands_there m root waiting is stands = subst (λ ms. StandsOn (paths_of_rows ms
 pub stand_still : (m : Meaning Payload) (root : Root) (waiting : Pending) → Commits m root → StandsOn (paths_of root) waiting → StandOnCommitted m waiting
 stand_still m root waiting is stands = subst (λ ms. StandsOn (paths_of_rows ms) waiting) (sym (committed_rows m root is)) stands
 
+-- ---- how many are counted
+
+-- the number of modules that are counted, by the root
+few_at : (m : Meaning Payload) (root : Root) (edits edits' : Rows Edit) (n k : ℕ) → Commits m root → edits' ≡ edits → k ≡ n → counted (paths_of root) edits ≤ n
+    → counted (paths_of_rows (modules_in m.committed)) edits' ≤ k
+few_at m root edits edits' n k is same as_many few =
+    let rows = committed_rows m root is in
+    let count : counted (paths_of_rows (modules_in m.committed)) edits' ≡ counted (paths_of root) edits = λ i. counted (paths_of_rows (rows i)) (same i) in
+    omega (arith, count, as_many, few)
+
+pub few_there : (m : Meaning Payload) (waiting : Pending) → AreFew m waiting → (root : Root) → Commits m root → counted (paths_of root) waiting.edits ≤ waiting.capacity
+few_there m waiting few root is =
+    let rows = committed_rows m root is in
+    let count : counted (paths_of_rows (modules_in m.committed)) waiting.edits ≡ counted (paths_of root) waiting.edits = λ i. counted (paths_of_rows (rows i)) waiting.edits in
+    omega (arith, count, few)
+
+-- after an edit
+pub few_edited : {T : Type 0} (m : Meaning Payload) (root : Root) (before after : Pending) (path : Bytes) (edit : Edit) (r : Result T EditFault) → Commits m root
+    → OnOk r (after.edits ≡ pending.with_edit before.edits path edit) → OnErr r (after.edits ≡ before.edits) → after.capacity ≡ before.capacity
+    → LimitsModules before.capacity (counted (paths_of root) (pending.with_edit before.edits path edit)) r → AreFew m before → AreFew m after
+few_edited m root before after path edit (Ok x) is ok err size few stood =
+    few_at m root (pending.with_edit before.edits path edit) after.edits before.capacity after.capacity is ok size few
+few_edited m root before after path edit (Err e) is ok err size few stood =
+    few_at m root before.edits after.edits before.capacity after.capacity is err size (few_there m before stood root is)
+
+-- after a deletion
+pub ready_deleted : (m : Meaning Payload) (before now : Pending) → IsReady (held m before) → CountsNoMore before now → StandsStill before now → now.capacity ≡ before.capacity → IsReady (held m now)
+ready_deleted m before now ready no_more stands size = record {
+  closed = ready.closed;
+  room = subst (HasRoom m) (sym size) ready.room;
+  few = (let less = no_more (paths_of_rows (modules_in m.committed)) in let few = ready.few in omega (arith, less, size, few));
+  stands = stands (paths_of_rows (modules_in m.committed)) ready.stands;
+}
+
+-- where no edit waits
+counted_none : (root : Root) → counted (paths_of root) [] ≡ length root.modules
+counted_none root = let many = length-map root.modules (λ (row : RootRow). row.path) in omega (arith, many)
+
 -- a session over a heap without a module
-pub ready_empty : (m : Meaning Payload) (modules : ℕ) (waiting : Pending) → IsEmptyHeap m modules → waiting.capacity ≡ modules → StandsOn [] waiting → IsReady (held m waiting)
-ready_empty m modules waiting empty capacity stands = record {
+pub ready_empty : (m : Meaning Payload) (modules : ℕ) (waiting : Pending) → IsEmptyHeap m modules → waiting.capacity ≡ modules → counted [] waiting.edits ≤ modules → StandsOn [] waiting → IsReady (held m waiting)
+ready_empty m modules waiting empty capacity few stands = record {
   closed = empty.closed;
   room = subst (HasRoom m) (sym capacity) empty.room;
+  few = few_at m (record { modules = [] }) waiting.edits waiting.edits modules waiting.capacity empty.commits refl capacity few;
   stands = stand_still m (record { modules = [] }) waiting empty.commits stands;
 }
 
--- the edits stand on what is committed after a recheck
-pub stand_after : (before now : RecheckState) (o : Outcome) → Rechecked before now o → StandOnCommitted before.heap before.edits → StandOnCommitted now.heap now.edits
-stand_after before now (outcome.Done v p c e) recheck stand = recheck.stands (paths_of_rows (modules_in now.heap.committed))
-stand_after before now (outcome.ReadFault path) recheck stand =
-    subst (λ m. StandOnCommitted m now.edits) (sym recheck.0.0) (subst (λ w. StandOnCommitted before.heap w) (sym recheck.0.1) stand)
-stand_after before now outcome.NoMemory recheck stand =
-    subst (λ m. StandOnCommitted m now.edits) (sym recheck.0.0) (subst (λ w. StandOnCommitted before.heap w) (sym recheck.0.1) stand)
+-- ---- after a recheck
+
+module _ (before now : RecheckState) where
+  same_stand : (now.heap ≡ before.heap) × (now.edits ≡ before.edits) → StandOnCommitted before.heap before.edits → StandOnCommitted now.heap now.edits
+  same_stand same stand = subst (λ m. StandOnCommitted m now.edits) (sym same.0) (subst (λ w. StandOnCommitted before.heap w) (sym same.1) stand)
+
+  same_few : (now.heap ≡ before.heap) × (now.edits ≡ before.edits) → AreFew before.heap before.edits → AreFew now.heap now.edits
+  same_few same few = subst (λ m. AreFew m now.edits) (sym same.0) (subst (λ w. AreFew before.heap w) (sym same.1) few)
+
+  -- the edits stand on what is committed
+  pub stand_after : (o : Outcome) → Rechecked before now o → StandOnCommitted before.heap before.edits → StandOnCommitted now.heap now.edits
+  stand_after (outcome.Done v p c e) recheck stand = recheck.stands (paths_of_rows (modules_in now.heap.committed))
+  stand_after (outcome.Cancelled poll) recheck stand = same_stand recheck.same stand
+  stand_after (outcome.ReadFault path) recheck stand = same_stand recheck.0 stand
+  stand_after outcome.NoMemory recheck stand = same_stand recheck.same stand
+
+  -- no more modules are counted than there may be
+  pub few_after : (o : Outcome) → Rechecked before now o → now.edits.capacity ≡ before.edits.capacity → AreFew before.heap before.edits → AreFew now.heap now.edits
+  few_after (outcome.Done v p c e) recheck size few =
+      few_at now.heap recheck.new [] now.edits.edits before.edits.capacity now.edits.capacity recheck.is recheck.rest size
+      (let count = counted_none recheck.new in let most = recheck.few in omega (arith, count, most))
+  few_after (outcome.Cancelled poll) recheck size few = same_few recheck.same few
+  few_after (outcome.ReadFault path) recheck size few = same_few recheck.0 few
+  few_after outcome.NoMemory recheck size few = same_few recheck.same few
 
 -- ---- an edit
 

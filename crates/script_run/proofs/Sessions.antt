@@ -1,14 +1,15 @@
 -- A heap of modules and the edits that wait, as the walk sees them.
-use Rattle.std.proofs.Common.{◌≡◌, ℕ, zero, suc, ◌+◌, ◌^◌, ◌<◌, List, [], ◌∷◌, ◌++◌, length, Some, None, refl, sym, ap, ◌∙◌, subst, arith, inl, inr}
+use Rattle.std.proofs.Common.{◌≡◌, ◌⊎◌, ℕ, zero, suc, ◌+◌, ◌^◌, ◌<◌, ◌≤◌, List, [], ◌∷◌, ◌++◌, length, Some, None, refl, sym, ap, ◌∙◌, subst, arith, inl, inr}
 use Rattle.std.specs.Prelude.{slice_get, Result, Ok, Err, IfOk, OnOk, OnErr}
 use Rattle.std.specs.Coded.{coded_list}
 use Rattle.std.specs.List.{AllByRecursion, flat_map}
 use denote.Struct.Props.{≡_prop}
 use mathlib.Core.Logic.{∥∥₁_elim, ∥∥₁_map}
+use Rattle.std.proofs.lemmas.Bool.Decides.{leb_tells}
 use Rattle.std.proofs.lemmas.Option.{same_Some}
 use Rattle.flow_base.specs.Program.{Bytes, Program}
-use Rattle.flow_base.specs.Program as program
 use Rattle.flow_base.specs.Causes.{raised, RoseBy}
+use Rattle.flow_base.specs.Outside.{WhereTold}
 use Rattle.flow_base.specs.Seen.{FolderSeen}
 use Rattle.heap_core.proofs.Lists.{get_there}
 use Rattle.heap_core.specs.Meaning.{Meaning, AllFit}
@@ -30,16 +31,22 @@ use Rattle.pending_edits.specs.declared.edit.Edit.{Edit}
 use Rattle.pending_edits.specs.declared.edit.Edit.TheVariants.{Put, Touch, Delete}
 use Rattle.pending_edits.specs.declared.edit.EditFault.{EditFault}
 use Rattle.pending_edits.specs.declared.edit.EditFault.TheVariants.{TooManyModules, NoMemory}
-use Rattle.program_recheck.specs.Recheck.{Commits, RecheckState, Rechecked, CountsReads}
-use Rattle.program_recheck.specs.declared.outcome.Outcome.{Outcome}
-use Rattle.program_recheck.specs.declared.outcome.Outcome.TheVariants as outcome
-use Rattle.script_print.specs.Printed.{done_line, fault_line, refused_line}
+use Rattle.stops.specs.Asked.{StopSeen, yes_answers_by}
+use Rattle.analyst.specs.Work.{Work}
+use Rattle.recheck_run.specs.Extent.{Extent, Affects, polls}
+use Rattle.recheck_run.specs.Recheck.{Commits, RecheckState, Rechecked, CountsReads}
+use Rattle.recheck_run.specs.Recheck as recheck_run
+use Rattle.recheck_run.specs.declared.outcome.Outcome.{Outcome}
+use Rattle.recheck_run.specs.declared.outcome.Outcome.TheVariants as outcome
+use Rattle.affected_sizes.specs.Polls.{AreBatches}
+use Rattle.affected_sizes.specs.Sizes.{AreSizes}
+use Rattle.script_print.specs.Printed.{done_line, cancelled_line, fault_line, refused_line}
 use Rattle.script_line.specs.declared.line.Line.{Line}
 use Rattle.script_line.specs.declared.line.Line.TheVariants as line
 use Rattle.script_line.specs.declared.line.Ask.TheVariants as ask
 use Rattle.script_run.specs.Checked.{HasErrorCount, IsStatusAnswer}
-use Rattle.script_run.specs.Transcript.{Standing, start, to_touch, with_edit, modules_counted, Rechecks, done, cannot_read, Turns, blank, edits, refuses, touches, refuses_touch, deletes, rechecks, answers}
-use Rattle.script_run.specs.Session.{modules_of, modules_in, program_in, program_with, Held, held, standing_of, standing_in, IsEmptyHeap, faults_of, faults_in, faults_at, count_in, lines_in, HasPlace, HasRechecked, HasTurned, HasEdited, HasDeleted, Limits, Prints, PrintsEdit}
+use Rattle.script_run.specs.Transcript.{Standing, start, to_touch, with_edit, modules_counted, GoesThrough, ComesTo, Rechecks, done, cancelled, cannot_read, Turns, blank, edits, refuses, touches, refuses_touch, deletes, rechecks, answers}
+use Rattle.script_run.specs.Session.{modules_of, modules_in, program_in, program_with, Held, held, standing_of, standing_in, IsEmptyHeap, faults_of, faults_in, faults_at, count_in, lines_in, HasPlace, recheck_state, StopsAt, HasEnded, HasRechecked, HasTurned, HasEdited, HasDeleted, Limits, Prints, PrintsEdit}
 use Rattle.script_run.proofs.Checks.{same_errors, each_module}
 
 -- ---- counts
@@ -184,23 +191,95 @@ same_standing : (p q : Program) (v w : ℕ) (r t : Rows Edit) → p ≡ q → v 
     (let a : Standing = record { program = p; version = v; waiting = r } in a) ≡ (let b : Standing = record { program = q; version = w; waiting = t } in b)
 same_standing p q v w r t ps vs rs = cc
 
-rechecks_done : (s s' : Standing) (program : Program) (errors : ℕ) (line : Bytes) (before now : FolderSeen) → MayBecome before.told s.program s.waiting program → HasErrorCount program errors →
-    (let t : Standing = record { program = program; version = s.version + 1; waiting = [] } in t) ≡ s' →
-    done_line (s.version + 1) (length program) (length program) errors ≡ line → before.faults < 2 ^ 64 → now.faults ≡ before.faults → HasRechecked s s' line before now
-rechecks_done s s' program errors line before now may counts is prints bounded same = record {
-  faults = 0;
-  rechecks = subst (λ t. Rechecks before.told s t 0 line) is
-      (subst (λ l. Rechecks before.told s (record { program = program; version = s.version + 1; waiting = [] }) 0 l) prints (done s program errors may counts));
-  counted = rose_none before.faults now.faults bounded same;
+module _ (stop : ℕ) (s s' : Standing) (line : Bytes) (before now : FolderSeen) where
+  rechecks_done : (program : Program) (parsed checked polls errors : ℕ) → ComesTo before.told s program parsed checked polls → GoesThrough stop polls → HasErrorCount program errors →
+      (let t : Standing = record { program = program; version = s.version + 1; waiting = [] } in t) ≡ s' →
+      done_line (s.version + 1) parsed checked errors ≡ line → before.faults < 2 ^ 64 → now.faults ≡ before.faults → HasRechecked stop s s' line before now
+  rechecks_done program parsed checked polls errors comes through counts is prints bounded same = record {
+    faults = 0;
+    rechecks = subst (λ t. Rechecks before.told stop s t 0 line) is
+        (subst (λ l. Rechecks before.told stop s (record { program = program; version = s.version + 1; waiting = [] }) 0 l) prints (done s program parsed checked polls errors comes through counts));
+    counted = rose_none before.faults now.faults bounded same;
+  }
+
+  rechecks_cancelled : (program : Program) (parsed checked polls : ℕ) → ComesTo before.told s program parsed checked polls → 1 ≤ stop → stop ≤ polls → s ≡ s' → cancelled_line stop s'.version ≡ line
+      → before.faults < 2 ^ 64 → now.faults ≡ before.faults → HasRechecked stop s s' line before now
+  rechecks_cancelled program parsed checked polls comes some within is prints bounded same = record {
+    faults = 0;
+    rechecks = subst (λ t. Rechecks before.told stop s t 0 line) is
+        (subst (λ l. Rechecks before.told stop s s 0 l) (ap (λ (t : Standing). cancelled_line stop t.version) is ∙ prints) (cancelled s program parsed checked polls comes some within));
+    counted = rose_none before.faults now.faults bounded same;
+  }
+
+  rechecks_not : (path : Bytes) → IsTouched s.waiting path → s ≡ s' → fault_line path s'.version ≡ line → now.faults ≡ raised before.faults → HasRechecked stop s s' line before now
+  rechecks_not path touched is prints rose = record {
+    faults = 1;
+    rechecks = subst (λ t. Rechecks before.told stop s t 1 line) is (subst (λ l. Rechecks before.told stop s s 1 l) (ap (λ (t : Standing). fault_line path t.version) is ∙ prints) (cannot_read s path touched));
+    counted = rose;
+  }
+
+-- ---- what an edit affects
+
+-- how much an edit affects are its sizes
+sizes_by : (old new : Program) (n : Extent) → Affects old new n → AreSizes old new n.parsed n.checked (polls n)
+sizes_by old new n affects = record {
+  before = affects.before;
+  after = affects.after;
+  full_before = affects.full_before;
+  full_after = affects.full_after;
+  parsed_paths = affects.parsed_paths;
+  checked_paths = affects.checked_paths;
+  are_parsed = affects.are_parsed;
+  are_checked = affects.are_checked;
+  are_polls = record {
+    merged = affects.merged_paths;
+    waves = affects.waves;
+    checked = affects.checked_paths;
+    batches = n.batches;
+    are_merged = affects.are_merged;
+    are_waves = affects.are_waves;
+    are_checked = affects.are_checked;
+    are_batches = subst (λ k. AreBatches k n.batches) affects.checked_size affects.are_batches;
+    total = ap (λ k. 4 + k + n.batches) affects.waves_size;
+  };
+  parsed_size = affects.parsed_size;
+  checked_size = affects.checked_size;
 }
 
-rechecks_not : (s s' : Standing) (path : Bytes) (line : Bytes) (before now : FolderSeen) → IsTouched s.waiting path → s ≡ s' → fault_line path s'.version ≡ line → now.faults ≡ raised before.faults
-    → HasRechecked s s' line before now
-rechecks_not s s' path line before now touched is prints rose = record {
-  faults = 1;
-  rechecks = subst (λ t. Rechecks before.told s t 1 line) is (subst (λ l. Rechecks before.told s s 1 l) (ap (λ (t : Standing). fault_line path t.version) is ∙ prints) (cannot_read s path touched));
-  counted = rose;
-}
+-- ---- the poll at which a recheck stops
+
+-- its question was asked, or not yet
+abbrev Said : ℕ → ℕ → Type 0
+Said stop asked = ((1 ≤ stop) × (stop ≤ asked) × (yes_answers_by stop asked ≡ 1)) ⊎ (((stop ≡ 0) ⊎ (asked < stop)) × (yes_answers_by stop asked ≡ 0))
+
+said_or_not : (stop asked : ℕ) → Said stop asked
+said_or_not stop asked = elim (leb_tells 1 stop) [
+  | inr none ↦ rw none.0 (inr (inl (omega (arith, none.1)), refl))
+  | inl some ↦ elim (leb_tells stop asked) [
+    | inl there ↦ rw (some.0, there.0) (inl (some.1, there.1, refl))
+    | inr later ↦ rw (some.0, later.0) (inr (inr (omega (arith, later.1)), refl))
+  ]
+]
+
+not_said : (stop asked : ℕ) → yes_answers_by stop asked ≡ yes_answers_by stop 0 → (stop ≡ 0) ⊎ (asked < stop)
+not_said stop asked same = by (said_or_not stop asked) (said_or_not stop 0) where
+  by : Said stop asked → Said stop 0 → (stop ≡ 0) ⊎ (asked < stop)
+  by (inr never) first = never.0
+  by (inl now) (inl first) = absurd (omega (arith, now.0, first.1))
+  by (inl now) (inr first) = absurd (omega (arith, now.2, first.1, same))
+
+-- all questions were asked, and none was answered yes
+goes_through : (stop polls : ℕ) (before now : StopSeen) → stop < 2 ^ 64 → StopsAt stop before now → RoseBy polls before.questions now.questions → now.yes_answers ≡ before.yes_answers → GoesThrough stop polls
+goes_through stop polls before now fits stops asked no_yes = elim (not_said stop now.questions (sym stops.yes ∙ (no_yes ∙ stops.no_yes))) [
+  | inl none ↦ inl none
+  | inr later ↦ inr (omega (arith, later, asked, stops.unasked, fits))
+]
+
+-- the last question is its own
+stops_there : (stop poll : ℕ) (before now : StopSeen) → poll < 2 ^ 64 → StopsAt stop before now → RoseBy poll before.questions now.questions → WhereTold before.told (λ question. now.questions ≡ question) → stop ≡ poll
+stops_there stop poll before now fits stops asked at =
+    let there : now.questions ≡ stop = subst (λ told. WhereTold told (λ question. now.questions ≡ question)) stops.told at in
+    omega (arith, there, asked, stops.unasked, fits)
 
 -- the program of a heap, by its root
 committed_program : (m : Meaning Payload) (root : Root) → Commits m root → program_in m.committed ≡ program_of root
@@ -212,33 +291,56 @@ begins_empty m modules waiting listed empty is =
     same_standing (program_in m.committed) [] m.version 0 waiting.edits (to_touch listed) (committed_program m (record { modules = [] }) empty.commits) empty.version is
 
 -- a recheck of the heap is one of the walk
-heap_rechecked : (before now : RecheckState) (o : Outcome) (version : ℕ) (line : Bytes) → Rechecked before now o → CountsReads before.folder now.folder o → before.folder.faults < 2 ^ 64 → version ≡ now.heap.version
-    → Prints o version line → HasRechecked (standing_of before.heap before.edits) (standing_of now.heap now.edits) line before.folder now.folder
-heap_rechecked before now (outcome.Done v parsed checked errors) version line recheck reads bounded is prints =
-    let new = program_of recheck.new in
-    let many : length recheck.results ≡ length new = each_module new recheck.results recheck.full in
-    rechecks_done (standing_of before.heap before.edits) (standing_of now.heap now.edits) new errors line before.folder now.folder
-    (subst (λ p. MayBecome before.folder.told p before.edits.edits new) (sym (committed_program before.heap recheck.old recheck.was)) recheck.edited)
-    ∣ (recheck.results, recheck.full, recheck.counts.2) ∣₁
-    (same_standing new (program_in now.heap.committed) (before.heap.version + 1) now.heap.version [] now.edits.edits
-    (sym (committed_program now.heap recheck.new recheck.is)) (sym recheck.next.0) (sym recheck.rest))
-    (ap (λ n. done_line n (length new) (length new) errors) (sym recheck.next.0 ∙ sym recheck.next.1)
-    ∙ ap (λ n. done_line v n (length new) errors) (sym (recheck.counts.0 ∙ many))
-    ∙ ap (λ n. done_line v parsed n errors) (sym (recheck.counts.1 ∙ many))
-    ∙ sym prints)
-    bounded reads
-heap_rechecked before now (outcome.ReadFault path) version line recheck reads bounded is prints =
-    rechecks_not (standing_of before.heap before.edits) (standing_of now.heap now.edits) path line before.folder now.folder recheck.1
-    (same_standing (program_in before.heap.committed) (program_in now.heap.committed) before.heap.version now.heap.version before.edits.edits now.edits.edits
-    (ap (λ (n : Meaning Payload). program_in n.committed) (sym recheck.0.0)) (ap (λ (n : Meaning Payload). n.version) (sym recheck.0.0)) (ap (λ (w : Pending). w.edits) (sym recheck.0.1)))
-    (ap (fault_line path) (sym is) ∙ sym prints)
-    reads.0
-heap_rechecked before now outcome.NoMemory version line recheck reads bounded is prints = absurd prints
+module _ (stop : ℕ) (fits : stop < 2 ^ 64) (before now : RecheckState) (stops : StopsAt stop before.stop now.stop) (bounded : before.folder.faults < 2 ^ 64) where
+  -- the edit of the committed program is one of the walk's
+  comes_to : (old new : Root) (n : Extent) → recheck_run.Edits before old new n → ComesTo before.folder.told (standing_of before.heap before.edits) (program_of new) n.parsed n.checked (polls n)
+  comes_to old new n is =
+      let was = sym (committed_program before.heap old is.was) in
+      record {
+        may = subst (λ p. MayBecome before.folder.told p before.edits.edits (program_of new)) was is.edited;
+        sizes = subst (λ p. AreSizes p (program_of new) n.parsed n.checked (polls n)) was (sizes_by (program_of old) (program_of new) n is.affects);
+      }
 
-pub rechecked : (before now : RecheckState) (h : Held) (o : Outcome) (version : ℕ) (line : Bytes) → held before.heap before.edits ≡ h → Rechecked before now o → CountsReads before.folder now.folder o
-    → before.folder.faults < 2 ^ 64 → version ≡ now.heap.version → Prints o version line → HasRechecked (standing_in h) (standing_of now.heap now.edits) line before.folder now.folder
-rechecked before now h o version line at recheck reads bounded is prints =
-    subst (λ (g : Held). HasRechecked (standing_in g) (standing_of now.heap now.edits) line before.folder now.folder) at (heap_rechecked before now o version line recheck reads bounded is prints)
+  stays : (now.heap ≡ before.heap) × (now.edits ≡ before.edits) → standing_of before.heap before.edits ≡ standing_of now.heap now.edits
+  stays same =
+      same_standing (program_in before.heap.committed) (program_in now.heap.committed) before.heap.version now.heap.version before.edits.edits now.edits.edits
+      (ap (λ (n : Meaning Payload). program_in n.committed) (sym same.0)) (ap (λ (n : Meaning Payload). n.version) (sym same.0)) (ap (λ (w : Pending). w.edits) (sym same.1))
+
+  heap_rechecked : (o : Outcome) (version : ℕ) (line : Bytes) → Rechecked before now o → CountsReads before.folder now.folder o → version ≡ now.heap.version → Prints o version line
+      → HasRechecked stop (standing_of before.heap before.edits) (standing_of now.heap now.edits) line before.folder now.folder
+  heap_rechecked (outcome.Done v parsed checked errors) version line recheck reads is prints =
+      let new = program_of recheck.new in
+      let n = recheck.extent in
+      rechecks_done stop (standing_of before.heap before.edits) (standing_of now.heap now.edits) line before.folder now.folder new n.parsed n.checked (polls n) errors
+      (comes_to recheck.old recheck.new n recheck.edits)
+      (goes_through stop (polls n) before.stop now.stop fits stops recheck.questions recheck.no_yes)
+      ∣ (recheck.results, recheck.full, recheck.counts.2) ∣₁
+      (same_standing new (program_in now.heap.committed) (before.heap.version + 1) now.heap.version [] now.edits.edits
+      (sym (committed_program now.heap recheck.new recheck.is)) (sym recheck.next.0) (sym recheck.rest))
+      (ap (λ k. done_line k n.parsed n.checked errors) (sym recheck.next.0 ∙ sym recheck.next.1)
+      ∙ ap (λ k. done_line v k n.checked errors) (sym recheck.counts.0)
+      ∙ ap (λ k. done_line v parsed k errors) (sym recheck.counts.1)
+      ∙ sym prints)
+      bounded reads
+  heap_rechecked (outcome.Cancelled poll) version line recheck reads is prints =
+      let n = recheck.extent in
+      let there = stops_there stop poll before.stop now.stop prints.0 stops recheck.questions recheck.at in
+      rechecks_cancelled stop (standing_of before.heap before.edits) (standing_of now.heap now.edits) line before.folder now.folder (program_of recheck.new) n.parsed n.checked (polls n)
+      (comes_to recheck.old recheck.new n recheck.edits)
+      (let some = recheck.some in omega (arith, there, some)) (let few = recheck.few in omega (arith, there, few))
+      (stays recheck.same)
+      ((λ i. cancelled_line (there i) (sym is i)) ∙ sym prints.1)
+      bounded reads
+  heap_rechecked (outcome.ReadFault path) version line recheck reads is prints =
+      rechecks_not stop (standing_of before.heap before.edits) (standing_of now.heap now.edits) line before.folder now.folder path recheck.2 (stays recheck.0) (ap (fault_line path) (sym is) ∙ sym prints) reads.0
+  heap_rechecked outcome.NoMemory version line recheck reads is prints = absurd prints
+
+pub rechecked : (stop : ℕ) (before now : FolderSeen) (m m' : Meaning Payload) (w w' : Pending) (h : Held) (work work' : Work) (o : Outcome) (version : ℕ) (line : Bytes) → stop < 2 ^ 64 → held m w ≡ h
+    → HasEnded stop before now (held m w) (held m' w') work work' o → CountsReads before now o → before.faults < 2 ^ 64 → version ≡ m'.version → Prints o version line
+    → HasRechecked stop (standing_in h) (standing_of m' w') line before now
+rechecked stop before now m m' w w' h work work' o version line fits at ended reads bounded is prints =
+    subst (λ (g : Held). HasRechecked stop (standing_in g) (standing_of m' w') line before now) at
+    (heap_rechecked stop fits (recheck_state before w m ended.asked work) (recheck_state now w' m' ended.asked' work') ended.stops bounded o version line ended.rechecked reads is prints)
 
 -- ---- edits
 
@@ -297,10 +399,10 @@ pub turned_delete : (most : ℕ) (said : Line) (path : Bytes) (s s' : Standing) 
 turned_delete most said path s s' printed now bounded is (same, none) =
     of_turn most said (line.Delete path) s s' [] printed 0 now now is none (subst (λ t. Turns most now.told (line.Delete path) s t 0 []) (sym same) (deletes s path)) (rose_none now.faults now.faults bounded refl)
 
-pub turned_recheck : (most : ℕ) (said : Line) (s s' : Standing) (text printed : Bytes) (before now : FolderSeen) → said ≡ line.Recheck → printed ≡ text → HasRechecked s s' text before now
+pub turned_recheck : (most : ℕ) (said : Line) (stop : ℕ) (s s' : Standing) (text printed : Bytes) (before now : FolderSeen) → said ≡ line.Recheck stop → printed ≡ text → HasRechecked stop s s' text before now
     → HasTurned most said s s' printed before now
-turned_recheck most said s s' text printed before now is same recheck =
-    of_turn most said line.Recheck s s' text printed recheck.faults before now is same (rechecks s s' recheck.faults text recheck.rechecks) recheck.counted
+turned_recheck most said stop s s' text printed before now is same recheck =
+    of_turn most said (line.Recheck stop) s s' text printed recheck.faults before now is same (rechecks s s' stop recheck.faults text recheck.rechecks) recheck.counted
 
 pub turned_status : (most : ℕ) (said : Line) (s : Standing) (printed : Bytes) (now : FolderSeen) → now.faults < 2 ^ 64 → said ≡ line.Ask ask.Status → IsStatusAnswer s.version s.program printed
     → HasTurned most said s s printed now now

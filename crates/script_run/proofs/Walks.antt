@@ -6,12 +6,12 @@ use Rattle.flow_base.specs.Program.{Bytes, Program}
 use Rattle.flow_base.specs.Causes.{RoseBy}
 use Rattle.flow_base.specs.Outside.{WhereTold, appended, HoldsFront}
 use Rattle.flow_base.specs.Seen.{FolderSeen, SourceSeen, SinkSeen, Outside}
-use Rattle.full_law.specs.Law.{EachFull}
+use Rattle.affected_sizes.specs.Law.{EachHasSizes}
 use Rattle.script_line.specs.declared.line.Line.{Line}
 use Rattle.script_reader.specs.Lines.{lines_left, TakesLine}
 use Rattle.script_run.specs.Checked.{HasErrorCount}
 use Rattle.script_run.specs.declared.ending.WalkEnd.{WalkEnd}
-use Rattle.script_run.specs.Transcript.{Standing, start, Rechecks, done, cannot_read, Turns, blank, edits, refuses, touches, refuses_touch, deletes, rechecks, answers, Walked, loads, goes, Ends, last_line, IsRun, IsRunSoFar}
+use Rattle.script_run.specs.Transcript.{Standing, start, Rechecks, done, cancelled, cannot_read, Turns, blank, edits, refuses, touches, refuses_touch, deletes, rechecks, answers, Walked, loads, goes, Ends, last_line, IsRun, IsRunSoFar}
 use Rattle.script_run.specs.Session.{HasRechecked, HasTurned}
 use Rattle.script_run.specs.declared.command.Command.{Command}
 use Rattle.script_run.specs.declared.command.Command.TheVariants as command
@@ -35,8 +35,9 @@ rose_more f before between now rose later = omega (arith, rose, later)
 
 -- ---- versions
 
-recheck_version : {told : Option Program} {s t : Standing} {f : ℕ} {printed : Bytes} → Rechecks told s t f printed → t.version ≤ s.version + 1
-recheck_version (done s program errors may counts) = omega arith
+recheck_version : {told : Option Program} {stop : ℕ} {s t : Standing} {f : ℕ} {printed : Bytes} → Rechecks told stop s t f printed → t.version ≤ s.version + 1
+recheck_version (done s program parsed checked polls errors comes through counts) = omega arith
+recheck_version (cancelled s program parsed checked polls comes some within) = omega arith
 recheck_version (cannot_read s path touched) = omega arith
 
 turn_version : {most : ℕ} {told : Option Program} {said : Line} {s t : Standing} {f : ℕ} {printed : Bytes} → Turns most told said s t f printed → t.version ≤ s.version + 1
@@ -46,7 +47,7 @@ turn_version (refuses s path text many) = omega arith
 turn_version (touches s path few) = omega arith
 turn_version (refuses_touch s path many) = omega arith
 turn_version (deletes s path) = omega arith
-turn_version (rechecks s t f printed recheck) = recheck_version recheck
+turn_version (rechecks s t stop f printed recheck) = recheck_version recheck
 turn_version (answers s answer is) = omega arith
 
 -- ---- errors
@@ -55,8 +56,9 @@ turn_version (answers s answer is) = omega arith
 abbrev pub SomeCount : Standing → Type 0
 SomeCount s = (errors : ℕ) × HasErrorCount s.program errors
 
-recheck_counts : {told : Option Program} {s t : Standing} {f : ℕ} {printed : Bytes} → Rechecks told s t f printed → SomeCount s → SomeCount t
-recheck_counts (done s program errors may counts) before = (errors, counts)
+recheck_counts : {told : Option Program} {stop : ℕ} {s t : Standing} {f : ℕ} {printed : Bytes} → Rechecks told stop s t f printed → SomeCount s → SomeCount t
+recheck_counts (done s program parsed checked polls errors comes through counts) before = (errors, counts)
+recheck_counts (cancelled s program parsed checked polls comes some within) before = before
 recheck_counts (cannot_read s path touched) before = before
 
 turn_counts : {most : ℕ} {told : Option Program} {said : Line} {s t : Standing} {f : ℕ} {printed : Bytes} → Turns most told said s t f printed → SomeCount s → SomeCount t
@@ -66,7 +68,7 @@ turn_counts (refuses s path text many) before = before
 turn_counts (touches s path few) before = before
 turn_counts (refuses_touch s path many) before = before
 turn_counts (deletes s path) before = before
-turn_counts (rechecks s t f printed recheck) before = recheck_counts recheck before
+turn_counts (rechecks s t stop f printed recheck) before = recheck_counts recheck before
 turn_counts (answers s answer is) before = before
 
 pub walk_counts : {most : ℕ} {told : Option Program} {listed taken : List Bytes} {s : Standing} {f : ℕ} {printed : Bytes} → Walked most told listed taken s f printed → SomeCount s
@@ -113,16 +115,16 @@ pub breaks_off : (most : ℕ) (said : Line) (before now : WalkState) (piece prin
 breaks_off most said before now piece printed held is front turned = begun now.standing printed turned (subst (λ p. HoldsFront before.out.written held p) is front)
 
 pub breaks_load : (before now : WalkState) (s : Standing) (piece printed : Bytes) (held : Option Bytes) → s ≡ before.standing → piece ≡ printed → HoldsFront before.out.written held piece
-    → HasRechecked s now.standing printed before.folder now.folder → BreaksLoad before now.folder held
+    → HasRechecked 0 s now.standing printed before.folder now.folder → BreaksLoad before now.folder held
 breaks_load before now s piece printed held is same front recheck =
-    begun_load now.standing printed (subst (λ t. HasRechecked t now.standing printed before.folder now.folder) is recheck) (subst (λ p. HoldsFront before.out.written held p) same front)
+    begun_load now.standing printed (subst (λ t. HasRechecked 0 t now.standing printed before.folder now.folder) is recheck) (subst (λ p. HoldsFront before.out.written held p) same front)
 
 -- a load from the start
-pub loaded_from : (before now : WalkState) (s : Standing) (piece printed : Bytes) → s ≡ before.standing → piece ≡ printed → HasRechecked s now.standing printed before.folder now.folder
+pub loaded_from : (before now : WalkState) (s : Standing) (piece printed : Bytes) → s ≡ before.standing → piece ≡ printed → HasRechecked 0 s now.standing printed before.folder now.folder
     → now.out.written ≡ appended before.out.written piece → HasLoaded before now
 loaded_from before now s piece printed is same recheck written = record {
   printed = printed;
-  load = subst (λ t. HasRechecked t now.standing printed before.folder now.folder) is recheck;
+  load = subst (λ t. HasRechecked 0 t now.standing printed before.folder now.folder) is recheck;
   written = written ∙ ap (appended before.out.written) same;
 }
 
@@ -144,7 +146,7 @@ module _ (most : ℕ) (listed : List Bytes) (script : Option (List Bytes)) (befo
     leaves = unchanged script;
     read_faults = loaded.load.faults;
     printed = loaded.printed;
-    walk = loads now.standing loaded.load.faults loaded.printed (subst (λ s. Rechecks before.folder.told s now.standing loaded.load.faults loaded.printed) is loaded.load.rechecks);
+    walk = loads now.standing loaded.load.faults loaded.printed (subst (λ s. Rechecks before.folder.told 0 s now.standing loaded.load.faults loaded.printed) is loaded.load.rechecks);
     written = loaded.written;
     counted = loaded.load.counted;
     version = omega (arith, recheck_version loaded.load.rechecks, ap (λ (s : Standing). s.version) is);
@@ -234,7 +236,7 @@ module _ (most : ℕ) (listed : List Bytes) (before : WalkState) (source : Sourc
       front_of_run how count.0 now.standing.program now.standing.version (outside_at now source') (finishes left n mid now source' how count.0 counts walked closes)
 
   -- a front of what was printed up to a line
-  front_so_far : EachFull → (now : Outside) (faults : ℕ) (printed : Bytes) → IsRunSoFar most before.folder.told listed lines faults printed → HoldsFront before.out.written now.out.written printed
+  front_so_far : EachHasSizes → (now : Outside) (faults : ℕ) (printed : Bytes) → IsRunSoFar most before.folder.told listed lines faults printed → HoldsFront before.out.written now.out.written printed
       → RoseByAtLeast faults before.folder.faults now.folder.faults → HasFront most listed first now
   front_so_far each now faults printed run front counted = let on = goes_on each most before.folder.told listed lines faults printed run in record {
     read_faults = faults;
@@ -247,13 +249,13 @@ module _ (most : ℕ) (listed : List Bytes) (before : WalkState) (source : Sourc
     counted = counted;
   }
 
-  pub front_of_walk : EachFull → (left : Option (List Bytes)) (n : ℕ) (mid : WalkState) (now : Outside) → now.out.written ≡ mid.out.written → mid.folder.faults ≤ now.folder.faults → HasWalked most listed lines left n before mid
+  pub front_of_walk : EachHasSizes → (left : Option (List Bytes)) (n : ℕ) (mid : WalkState) (now : Outside) → now.out.written ≡ mid.out.written → mid.folder.faults ≤ now.folder.faults → HasWalked most listed lines left n before mid
       → HasFront most listed first now
   front_of_walk each left n mid now same later walked =
       front_so_far each now walked.read_faults walked.printed (so_far_of most listed lines before left n mid walked) (front_all before.out.written now.out.written walked.printed (same ∙ walked.written))
       (rose_more walked.read_faults before.folder.faults mid.folder.faults now.folder.faults walked.counted later)
 
-  front_of_turn : EachFull → (left left' : Option (List Bytes)) (n : ℕ) (mid : WalkState) (now : Outside) (said : Line) → mid.folder.told ≡ before.folder.told → mid.folder.faults ≤ now.folder.faults
+  front_of_turn : EachHasSizes → (left left' : Option (List Bytes)) (n : ℕ) (mid : WalkState) (now : Outside) (said : Line) → mid.folder.told ≡ before.folder.told → mid.folder.faults ≤ now.folder.faults
       → HasWalked most listed lines left n before mid → IsTaken said n left left' → BreaksOff most said mid now.folder now.out.written → HasFront most listed first now
   front_of_turn each left left' n mid now said told later walked is (unsaid same) = front_of_walk each left n mid now same later walked
   front_of_turn each left left' n mid now said told later walked is (begun s printed turned front) =
@@ -270,7 +272,7 @@ module _ (most : ℕ) (listed : List Bytes) (before : WalkState) (source : Sourc
       (rose_least (walked.read_faults + turned.faults) before.folder.faults now.folder.faults
       (rose_both walked.read_faults turned.faults before.folder.faults mid.folder.faults now.folder.faults walked.counted turned.counted))
 
-  pub front_of_break : EachFull → (left : Option (List Bytes)) (n : ℕ) (mid : WalkState) (now : Outside) → mid.folder.told ≡ before.folder.told → mid.folder.faults ≤ now.folder.faults → HasWalked most listed lines left n before mid
+  pub front_of_break : EachHasSizes → (left : Option (List Bytes)) (n : ℕ) (mid : WalkState) (now : Outside) → mid.folder.told ≡ before.folder.told → mid.folder.faults ≤ now.folder.faults → HasWalked most listed lines left n before mid
       → Breaks most n left mid now.folder now.out.written → HasFront most listed first now
   front_of_break each left n mid now told later walked (silent same) = front_of_walk each left n mid now same later walked
   front_of_break each left n mid now told later walked (in_turn said left' is off) = front_of_turn each left left' n mid now said told later walked is off
@@ -285,7 +287,7 @@ module _ (most : ℕ) (listed : List Bytes) (before : WalkState) (source : Sourc
     counted = rose_more walked.read_faults before.folder.faults mid.folder.faults now.folder.faults walked.counted later;
   }
 
-  pub front_of_load : EachFull → (now : Outside) → before.standing ≡ start listed → before.folder.faults ≤ now.folder.faults → BreaksLoad before now.folder now.out.written → HasFront most listed first now
+  pub front_of_load : EachHasSizes → (now : Outside) → before.standing ≡ start listed → before.folder.faults ≤ now.folder.faults → BreaksLoad before now.folder now.out.written → HasFront most listed first now
   front_of_load each now is later (unsaid_load same) = let run = some_run each most before.folder.told listed lines in let on = run.3 in record {
     read_faults = run.0;
     printed = run.2 ++ on.more;
@@ -303,7 +305,7 @@ module _ (most : ℕ) (listed : List Bytes) (before : WalkState) (source : Sourc
         rest = rest.0;
         lines = rest.1;
         standing = s;
-        walk = loads s load.faults printed (subst (λ t. Rechecks before.folder.told t s load.faults printed) is load.rechecks);
+        walk = loads s load.faults printed (subst (λ t. Rechecks before.folder.told 0 t s load.faults printed) is load.rechecks);
       }) front (rose_least load.faults before.folder.faults now.folder.faults load.counted)
 
   -- the script failed, where neither the folder nor the sink was used any more

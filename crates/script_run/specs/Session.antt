@@ -16,18 +16,20 @@ use Rattle.payloads.specs.contracts.payload.Payload as payload_type
 use Rattle.payloads.specs.declared.payload.Payload.{Payload}
 use Rattle.payloads.specs.declared.payload.Payload.TheVariants as payload
 use Rattle.pending_edits.specs.Pending.{Pending}
-use Rattle.pending_edits.specs.Counting.{StandsOn}
+use Rattle.pending_edits.specs.Counting.{counted, StandsOn}
 use Rattle.pending_edits.specs.contracts.edit.Edit as edit_type
 use Rattle.pending_edits.specs.declared.edit.Edit.{Edit}
 use Rattle.pending_edits.specs.declared.edit.Edit.TheVariants.{Delete}
 use Rattle.pending_edits.specs.declared.edit.EditFault.{EditFault}
 use Rattle.pending_edits.specs.declared.edit.EditFault.TheVariants.{TooManyModules, NoMemory}
-use Rattle.program_recheck.specs.Recheck.{Commits, HasRoom}
-use Rattle.program_recheck.specs.declared.outcome.Outcome.{Outcome}
-use Rattle.program_recheck.specs.declared.outcome.Outcome.TheVariants as outcome
+use Rattle.recheck_run.specs.Recheck.{Commits, HasRoom, RecheckState, Rechecked}
+use Rattle.recheck_run.specs.declared.outcome.Outcome.{Outcome}
+use Rattle.recheck_run.specs.declared.outcome.Outcome.TheVariants as outcome
 use Rattle.script_line.specs.declared.line.Line.{Line}
 use Rattle.script_run.specs.Transcript.{Standing, with_edit, modules_counted, Rechecks, Turns}
-use Rattle.script_print.specs.Printed.{done_line, fault_line, refused_line}
+use Rattle.script_print.specs.Printed.{done_line, cancelled_line, fault_line, refused_line}
+use Rattle.stops.specs.Asked.{StopSeen, yes_answers_by}
+use Rattle.analyst.specs.Work.{Work}
 
 -- the modules of a root
 abbrev pub modules_of : Payload → List RootRow
@@ -88,10 +90,22 @@ standing_in h = standing_of h.heap h.waiting
 abbrev pub StandOnCommitted : Meaning Payload → Pending → Type 0
 StandOnCommitted m waiting = StandsOn (paths_of_rows (modules_in m.committed)) waiting
 
--- no transaction is open, there is room for as many modules as there may be, and the edits stand on the program
+-- no more modules are counted, while edits wait, than there may be
+abbrev pub AreFew : Meaning Payload → Pending → Type 0
+AreFew m waiting = counted (paths_of_rows (modules_in m.committed)) waiting.edits ≤ waiting.capacity
+
+-- Whatever the program's paths are: no more modules are counted than before, and the edits stand on them where they stood before.
+abbrev pub CountsNoMore : Pending → Pending → Type 0
+CountsNoMore before now = (paths : List Bytes) → counted paths now.edits ≤ counted paths before.edits
+
+abbrev pub StandsStill : Pending → Pending → Type 0
+StandsStill before now = (paths : List Bytes) → StandsOn paths before → StandsOn paths now
+
+-- no transaction is open, there is room for as many modules as there may be, no more are counted, and the edits stand on the program
 pub record IsReady (h : Held) : Type 0 where
   pub closed : h.heap.is_open ≡ false
   pub room : HasRoom h.heap h.waiting.capacity
+  pub few : AreFew h.heap h.waiting
   pub stands : StandOnCommitted h.heap h.waiting
 
 -- a heap for this many modules at version 0, before any recheck: it has no module
@@ -142,10 +156,28 @@ pub record HasPlace (state : List Payload) (m : RootRow) : Type 0 where
 
 -- ---- what the calls of a session do
 
--- a recheck, what it prints, and that the folder counted as many faults in it as it prints read faults
-pub record HasRechecked (s s' : Standing) (printed : Bytes) (before now : FolderSeen) : Type 0 where
+abbrev pub recheck_state : FolderSeen → Pending → Meaning Payload → StopSeen → Work → RecheckState
+recheck_state folder edits heap stop work = record { folder = folder; edits = edits; heap = heap; stop = stop; work = work }
+
+-- who was not asked yet, and says yes at this question alone, and the same after some questions
+pub record StopsAt (stop : ℕ) (before now : StopSeen) : Type 0 where
+  pub told : before.told ≡ Some stop
+  pub unasked : before.questions ≡ 0
+  pub no_yes : before.yes_answers ≡ yes_answers_by stop 0
+  pub yes : now.yes_answers ≡ yes_answers_by stop now.questions
+
+-- A recheck that is to stop at this poll, or at none where that is 0, ended like this.
+pub record HasEnded (stop : ℕ) (folder folder' : FolderSeen) (h h' : Held) (work work' : Work) (o : Outcome) : Type 0 where
+  pub asked : StopSeen
+  pub asked' : StopSeen
+  pub stops : StopsAt stop asked asked'
+  pub rechecked : Rechecked (recheck_state folder h.waiting h.heap asked work) (recheck_state folder' h'.waiting h'.heap asked' work') o
+
+-- a recheck that is to stop at this poll, or at none where that is 0, what it prints, and that the folder counted as many faults in it as
+-- it prints read faults
+pub record HasRechecked (stop : ℕ) (s s' : Standing) (printed : Bytes) (before now : FolderSeen) : Type 0 where
   pub faults : ℕ
-  pub rechecks : Rechecks before.told s s' faults printed
+  pub rechecks : Rechecks before.told stop s s' faults printed
   pub counted : RoseBy faults before.faults now.faults
 
 -- the same of a line of the script
@@ -170,9 +202,10 @@ HasEdited most path edit s s' printed =
 abbrev pub HasDeleted : Bytes → Standing → Standing → Bytes → Type 0
 HasDeleted path s s' printed = (s' ≡ with_edit s path Delete) × (printed ≡ [])
 
--- what a recheck prints, after which the version is this one
+-- what a recheck prints, after which the version is this one; the number of a poll fits its type
 abbrev pub Prints : Outcome → ℕ → Bytes → Type 0
 Prints (outcome.Done version parsed checked errors) now line = line ≡ done_line version parsed checked errors
+Prints (outcome.Cancelled poll) now line = (poll < 2 ^ 64) × (line ≡ cancelled_line poll now)
 Prints (outcome.ReadFault path) now line = line ≡ fault_line path now
 Prints outcome.NoMemory now line = ⊥
 

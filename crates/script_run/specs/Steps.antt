@@ -68,13 +68,13 @@ pub data BreaksOff (most : ℕ) (said : Line) (before : WalkState) (folder : Fol
 -- the load was done and printed, from the standing before it
 pub record HasLoaded (before now : WalkState) : Type 0 where
   pub printed : Bytes
-  pub load : HasRechecked before.standing now.standing printed before.folder now.folder
+  pub load : HasRechecked 0 before.standing now.standing printed before.folder now.folder
   pub written : now.out.written ≡ appended before.out.written printed
 
 -- the load broke off, and the folder and the sink were then these: nothing more was written, or a front of its line
 pub data BreaksLoad (before : WalkState) (folder : FolderSeen) (held : Option Bytes) : Type 0 where
   unsaid_load : held ≡ before.out.written → BreaksLoad before folder held
-  begun_load : (s : Standing) (printed : Bytes) → HasRechecked before.standing s printed before.folder folder → HoldsFront before.out.written held printed → BreaksLoad before folder held
+  begun_load : (s : Standing) (printed : Bytes) → HasRechecked 0 before.standing s printed before.folder folder → HoldsFront before.out.written held printed → BreaksLoad before folder held
 
 -- a line of the script was taken and answered
 pub record Takes (most taken : ℕ) (lines lines' : Option (List Bytes)) (before now : WalkState) : Type 0 where

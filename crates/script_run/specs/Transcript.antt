@@ -1,11 +1,12 @@
 -- What a run with a script prints: the load, and then the walk over the script's lines. The most modules that there may be, `most`, are a
 -- parameter of all of it.
-use Rattle.std.specs.Prelude.{◌≡◌, ◌<◌, ◌≤◌, ℕ, ◌+◌, List, [], ◌∷◌, ◌++◌, length, map, Option, Some}
+use Rattle.std.specs.Prelude.{◌≡◌, ◌⊎◌, ◌<◌, ◌≤◌, ℕ, ◌+◌, List, [], ◌∷◌, ◌++◌, length, map, Option, Some}
 use Rattle.std.specs.List.{AllByRecursion}
 use Rattle.flow_base.specs.Path.{IsNormalPath}
 use Rattle.flow_base.specs.Program.{Bytes, Program, paths_of, IsRising}
 use Rattle.flow_base.specs.Outside.{WhereTold}
 use Rattle.check_values.specs.Rows.{Rows}
+use Rattle.affected_sizes.specs.Sizes.{AreSizes}
 use Rattle.pending_edits.specs.Pending as pending
 use Rattle.pending_edits.specs.Pending.{MayBecome, IsTouched}
 use Rattle.pending_edits.specs.Counting.{counted}
@@ -16,7 +17,7 @@ use Rattle.script_line.specs.declared.line.Line.TheVariants as line
 use Rattle.script_line.specs.declared.line.Ask.TheVariants as ask
 use Rattle.script_line.specs.Says.{Says}
 use Rattle.script_reader.specs.Lines.{LINE_LIMIT}
-use Rattle.script_print.specs.Printed.{done_line, fault_line, refused_line, bad_line, long_line, many_lines}
+use Rattle.script_print.specs.Printed.{done_line, cancelled_line, fault_line, refused_line, bad_line, long_line, many_lines}
 use Rattle.script_run.specs.Checked.{HasErrorCount, IsStatusAnswer}
 use Rattle.script_run.specs.declared.ending.WalkEnd.{WalkEnd}
 use Rattle.script_run.specs.declared.ending.WalkEnd.TheVariants as ending
@@ -49,13 +50,24 @@ start listed = record { program = []; version = 0; waiting = to_touch listed }
 abbrev pub modules_counted : Standing → ℕ
 modules_counted s = counted (paths_of s.program) s.waiting
 
--- A recheck from one standing to the next, with the number of read faults and what it prints: it commits the edited program, or it
--- can't read a path for which the folder is wanted, and nothing changes.
-pub data Rechecks (told : Option Program) : Standing → Standing → ℕ → Bytes → Type 0 where
-  done : (s : Standing) (program : Program) (errors : ℕ) → MayBecome told s.program s.waiting program → HasErrorCount program errors →
-      Rechecks told s (record { program = program; version = s.version + 1; waiting = [] }) 0
-      (done_line (s.version + 1) (length program) (length program) errors)
-  cannot_read : (s : Standing) (path : Bytes) → IsTouched s.waiting path → Rechecks told s s 1 (fault_line path s.version)
+-- a recheck with so many polls that is to stop at this one, or at none where that is 0, goes through all of them
+abbrev pub GoesThrough : ℕ → ℕ → Type 0
+GoesThrough stop polls = (stop ≡ 0) ⊎ (polls < stop)
+
+-- The edits that wait may come to this program, of which so many modules are then parsed and checked, with so many polls.
+pub record ComesTo (told : Option Program) (s : Standing) (program : Program) (parsed checked polls : ℕ) : Type 0 where
+  pub may : MayBecome told s.program s.waiting program
+  pub sizes : AreSizes s.program program parsed checked polls
+
+-- A recheck that is to stop at a poll, or at none where that is 0, from one standing to the next, with the number of read faults and what
+-- it prints: it commits the edited program, where it goes through all polls, and is cancelled where it doesn't; or it can't read a path
+-- for which the folder is wanted. Where it commits nothing, nothing changes.
+pub data Rechecks (told : Option Program) (stop : ℕ) : Standing → Standing → ℕ → Bytes → Type 0 where
+  done : (s : Standing) (program : Program) (parsed checked polls errors : ℕ) → ComesTo told s program parsed checked polls → GoesThrough stop polls → HasErrorCount program errors →
+      Rechecks told stop s (record { program = program; version = s.version + 1; waiting = [] }) 0 (done_line (s.version + 1) parsed checked errors)
+  cancelled : (s : Standing) (program : Program) (parsed checked polls : ℕ) → ComesTo told s program parsed checked polls → 1 ≤ stop → stop ≤ polls →
+      Rechecks told stop s s 0 (cancelled_line stop s.version)
+  cannot_read : (s : Standing) (path : Bytes) → IsTouched s.waiting path → Rechecks told stop s s 1 (fault_line path s.version)
 
 -- the standing after an edit of this path, which the next recheck takes
 abbrev pub with_edit : Standing → Bytes → Edit → Standing
@@ -71,13 +83,13 @@ pub data Turns (most : ℕ) (told : Option Program) : Line → Standing → Stan
   refuses_touch : (s : Standing) (path : Bytes) → most < modules_counted (with_edit s path Touch) →
       Turns most told (line.Touch path) s s 0 (refused_line (modules_counted (with_edit s path Touch)))
   deletes : (s : Standing) (path : Bytes) → Turns most told (line.Delete path) s (with_edit s path Delete) 0 []
-  rechecks : (s s' : Standing) (faults : ℕ) (printed : Bytes) → Rechecks told s s' faults printed → Turns most told line.Recheck s s' faults printed
+  rechecks : (s s' : Standing) (stop faults : ℕ) (printed : Bytes) → Rechecks told stop s s' faults printed → Turns most told (line.Recheck stop) s s' faults printed
   answers : (s : Standing) (answer : Bytes) → IsStatusAnswer s.version s.program answer → Turns most told (line.Ask ask.Status) s s 0 answer
 
 -- The load was done and these lines of the script were taken, one after the other: where the walk stands, how many read faults there
 -- were, and what was printed.
 pub data Walked (most : ℕ) (told : Option Program) (listed : List Bytes) : List Bytes → Standing → ℕ → Bytes → Type 0 where
-  loads : (s : Standing) (faults : ℕ) (printed : Bytes) → Rechecks told (start listed) s faults printed → Walked most told listed [] s faults printed
+  loads : (s : Standing) (faults : ℕ) (printed : Bytes) → Rechecks told 0 (start listed) s faults printed → Walked most told listed [] s faults printed
   goes : (taken : List Bytes) (s : Standing) (faults : ℕ) (printed : Bytes) (bytes : Bytes) (line : Line) (s' : Standing) (more_faults : ℕ) (more : Bytes) →
       Walked most told listed taken s faults printed → length taken < MOST_LINES → length bytes ≤ LINE_LIMIT → Says bytes line → Turns most told line s s' more_faults more →
       Walked most told listed (taken ++ bytes ∷ []) s' (faults + more_faults) (printed ++ more)

@@ -10,7 +10,7 @@ pub fn a_front_goes_on()
     ensures { (most : ℕ) (told : Option Program) (listed : List Bytes) (script : Option (List Bytes)) (faults : ℕ) (printed : Bytes) →
         IsRunSoFar most told listed script faults printed → GoesOn most told listed script faults printed }
 {
-    full_law::each_full();
+    affected_sizes::each_edit_has_sizes();
 }
 
 /// Where the folder and the script tell their content, there is a run without a read fault, and one only.
@@ -20,6 +20,7 @@ pub fn one_quiet_run()
     ensures one { (most : ℕ) (folder : Program) (listed script : List Bytes) (p q : Bytes) (h k : WalkEnd) (a b : Program) (v w : ℕ) →
         IsQuietRun most folder listed script p h a v → IsQuietRun most folder listed script q k b w → (p ≡ q) × (h ≡ k) × (a ≡ b) × (v ≡ w) }
 {
-    full_law::each_full();
+    affected_sizes::each_edit_has_sizes();
+    affected_sizes::one_size_each();
     program_check::one_full();
 }

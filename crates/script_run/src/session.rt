@@ -7,15 +7,15 @@ ghost use Rattle.script_run.specs.Session.{IsEmptyHeap, standing_in, Prints, Pri
 
 use crate::committed::Committed;
 use crate::errors::{count_errors, status_answer};
-use crate::waiting::{put_text, recheck_edited, touch_path, touched};
+use crate::waiting::{delete_path, put_text, recheck_edited, touch_path, touched};
 use analyst::Analyst;
-use flow_base::{Folder, List, NoMemory, Path, Text};
+use flow_base::{Folder, List, NoMemory, Path, Text, Turnstile};
 use heap_core::HeapWriter;
 use payloads::Payload;
 use pending_edits::{EditFault, Edits};
-use program_recheck::Outcome;
+use recheck_run::Outcome;
 use script_line::{Ask, Line};
-use script_print::{done_line, fault_line, refused_line};
+use script_print::{cancelled_line, done_line, fault_line, refused_line};
 use std::alloc::Global;
 use std::marker::Model;
 
@@ -67,10 +67,16 @@ impl<W: HeapWriter<Payload> + Drop, A: Analyst + Drop> Session<W, A> {
         })
     }
 
-    /// Rechecks, and gives the line that this prints.
-    pub fn recheck<F: Folder>(&mut self, folder: &mut F) -> Result<String, NoMemory>
+    /// Rechecks, and gives the line that this prints. It stops at this poll, counted from 1, where it
+    /// comes to it, and with 0 at none. At each poll it passes the turnstile.
+    pub fn recheck<F: Folder, T: Turnstile>(
+        &mut self,
+        stop: u64,
+        folder: &mut F,
+        turns: &T,
+    ) -> Result<String, NoMemory>
         requires { self.old.heap.version + 1 < 2 ^ 31 }
-        ensures rechecked { IfOk result (λ line. HasRechecked (standing_in self.old) (standing_in self.new) (string_bytes line) (F.seen folder.old) (F.seen folder.new)) }
+        ensures rechecked { IfOk result (λ line. HasRechecked stop (standing_in self.old) (standing_in self.new) (string_bytes line) (F.seen folder.old) (F.seen folder.new)) }
         ensures modules { self.new.waiting.capacity ≡ self.old.waiting.capacity }
         ensures told { (F.seen folder.new).told ≡ (F.seen folder.old).told }
         ensures later { (F.seen folder.old).faults ≤ (F.seen folder.new).faults }
@@ -79,7 +85,9 @@ impl<W: HeapWriter<Payload> + Drop, A: Analyst + Drop> Session<W, A> {
             self.alloc,
             &mut self.heap,
             &mut self.edits,
+            stop,
             folder,
+            turns,
             &mut self.analyst,
         );
         Ok(outcome_line(self.alloc, &outcome, self.heap.version())?)
@@ -105,11 +113,12 @@ impl<W: HeapWriter<Payload> + Drop, A: Analyst + Drop> Session<W, A> {
     }
 
     /// From the next recheck on a path is no module. This prints nothing.
+    #[tactic(auto, using(crate::proofs::PendingEdits::ready_deleted))]
     fn delete(&mut self, path: Path) -> Result<Vec<u8>, NoMemory>
         ensures deleted { IfOk result (λ printed. HasDeleted path (standing_in self.old) (standing_in self.new) printed.items) }
         ensures modules { self.new.waiting.capacity ≡ self.old.waiting.capacity }
     {
-        self.edits.delete(path)?;
+        delete_path(&mut self.edits, path)?;
         Ok(Vec::new(self.alloc))
     }
 
@@ -128,7 +137,12 @@ impl<W: HeapWriter<Payload> + Drop, A: Analyst + Drop> Session<W, A> {
     }
 
     /// Answers a line that does not end the script, and gives what this prints.
-    pub fn turn<F: Folder>(&mut self, folder: &mut F, line: Line) -> Result<Vec<u8>, NoMemory>
+    pub fn turn<F: Folder, T: Turnstile>(
+        &mut self,
+        folder: &mut F,
+        turns: &T,
+        line: Line,
+    ) -> Result<Vec<u8>, NoMemory>
         requires version { self.old.heap.version + 1 < 2 ^ 31 }
         requires goes_on { line ≡ Line.End → ⊥ }
         ensures turned { IfOk result (λ printed. HasTurned self.old.waiting.capacity line (standing_in self.old) (standing_in self.new) printed.items (F.seen folder.old) (F.seen folder.new)) }
@@ -141,7 +155,7 @@ impl<W: HeapWriter<Payload> + Drop, A: Analyst + Drop> Session<W, A> {
             Line::Edit { path, text } => self.edit(path, text),
             Line::Delete { path } => self.delete(path),
             Line::Touch { path } => self.touch(path),
-            Line::Recheck => Ok(self.recheck(folder)?.into_bytes()),
+            Line::Recheck { stop } => Ok(self.recheck(stop, folder, turns)?.into_bytes()),
             Line::Ask(Ask::Status) => self.status(),
             Line::End => unreachable!(),
         }
@@ -178,6 +192,7 @@ fn outcome_line(alloc: Global, outcome: &Outcome, version: u32) -> Result<String
             checked,
             errors,
         } => done_line(alloc, *version, *parsed, *checked, *errors),
+        Outcome::Cancelled { poll } => cancelled_line(alloc, *poll, version),
         Outcome::ReadFault { path } => fault_line(alloc, path, version),
         Outcome::NoMemory => Err(NoMemory),
     }

@@ -6,20 +6,21 @@ ghost use Rattle.check_values.specs.Roots.{paths_of};
 ghost use Rattle.pending_edits.specs.Pending.{with_edit};
 ghost use Rattle.pending_edits.specs.Counting.{counted, StandsOn};
 ghost use Rattle.pending_edits.specs.declared.edit.Edit.TheVariants.{Put, Touch, Delete};
-ghost use Rattle.program_recheck.specs.Recheck.{HasRoom, Commits, Rechecked, CountsReads};
+ghost use Rattle.recheck_run.specs.Recheck.{HasRoom, Commits, CountsReads};
 ghost use Rattle.script_run.specs.Transcript.{to_touch};
-ghost use Rattle.script_run.specs.Session.{StandOnCommitted, Limits, program_in};
+ghost use Rattle.script_run.specs.Session.{StandOnCommitted, AreFew, CountsNoMore, StandsStill, HasEnded, Limits, held, program_in};
 
 use crate::committed::Committed;
 use analyst::Analyst;
 use check_values::Root;
-use flow_base::Folder;
+use flow_base::{Folder, Turnstile};
 use flow_values::{List, NoMemory, Path, Shared, Text};
 use heap_core::{HeapReader, HeapWriter};
 use payloads::Payload;
 use pending_edits::{EditFault, Edits};
-use program_recheck::{Outcome, recheck};
+use recheck_run::{Outcome, recheck};
 use std::alloc::Global;
+use stops::StopAt;
 
 // Puts a path to those that are to be read, where the modules are then no more than there may be.
 fn touch(edits: &mut Edits, root: &Root, path: Path) -> Result<(), NoMemory>
@@ -43,11 +44,13 @@ fn touch(edits: &mut Edits, root: &Root, path: Path) -> Result<(), NoMemory>
 /// # Errors
 ///
 /// `NoMemory` where memory is refused.
+#[tactic(auto, using(crate::proofs::PendingEdits::few_all))]
 pub(crate) fn touched(alloc: Global, modules: u32, listed: &[Path]) -> Result<Edits, NoMemory>
     requires rising { IsRising listed.now }
     requires few { length listed.now ≤ modules }
     ensures edits { IfOk result (λ edits. edits.edits ≡ to_touch listed.now) }
     ensures capacity { IfOk result (λ edits. edits.capacity ≡ modules) }
+    ensures few { IfOk result (λ edits. counted [] edits.edits ≤ modules) }
     ensures stands { IfOk result (StandsOn []) }
 {
     let none = Root {
@@ -91,10 +94,12 @@ pub(crate) fn put_text<W: HeapWriter<Payload>>(
 ) -> Result<(), EditFault>
     requires closed { (W.meaning heap.now).is_open ≡ false }
     requires room { HasRoom (W.meaning heap.now) edits.old.capacity }
+    requires few { AreFew (W.meaning heap.now) edits.old }
     requires stands { StandOnCommitted (W.meaning heap.now) edits.old }
     ensures ok { OnOk result (edits.new.edits ≡ with_edit edits.old.edits path (Put text)) }
     ensures err { OnErr result (edits.new.edits ≡ edits.old.edits) }
     ensures too_many { Limits edits.old.capacity (counted (paths_in (program_in (W.meaning heap.now).committed)) (with_edit edits.old.edits path (Put text))) result }
+    ensures few { AreFew (W.meaning heap.now) edits.new }
     ensures stands { StandOnCommitted (W.meaning heap.now) edits.new }
     ensures capacity { edits.new.capacity ≡ edits.old.capacity }
 {
@@ -115,10 +120,12 @@ pub(crate) fn touch_path<W: HeapWriter<Payload>>(
 ) -> Result<(), EditFault>
     requires closed { (W.meaning heap.now).is_open ≡ false }
     requires room { HasRoom (W.meaning heap.now) edits.old.capacity }
+    requires few { AreFew (W.meaning heap.now) edits.old }
     requires stands { StandOnCommitted (W.meaning heap.now) edits.old }
     ensures ok { OnOk result (edits.new.edits ≡ with_edit edits.old.edits path Touch) }
     ensures err { OnErr result (edits.new.edits ≡ edits.old.edits) }
     ensures too_many { Limits edits.old.capacity (counted (paths_in (program_in (W.meaning heap.now).committed)) (with_edit edits.old.edits path Touch)) result }
+    ensures few { AreFew (W.meaning heap.now) edits.new }
     ensures stands { StandOnCommitted (W.meaning heap.now) edits.new }
     ensures capacity { edits.new.capacity ≡ edits.old.capacity }
 {
@@ -126,27 +133,47 @@ pub(crate) fn touch_path<W: HeapWriter<Payload>>(
     edits.touch(root.get(), path)
 }
 
-/// Rechecks. The edits stand on the program that is then committed.
-pub(crate) fn recheck_edited<W: HeapWriter<Payload>, F: Folder, A: Analyst>(
+/// Deletes a path. No more modules are counted then, whatever the program is.
+///
+/// # Errors
+///
+/// `NoMemory` where memory is refused. The edits are then as before.
+pub(crate) fn delete_path(edits: &mut Edits, path: Path) -> Result<(), NoMemory>
+    ensures ok { OnOk result (edits.new.edits ≡ with_edit edits.old.edits path Delete) }
+    ensures err { OnErr result (edits.new.edits ≡ edits.old.edits) }
+    ensures no_more { CountsNoMore edits.old edits.new }
+    ensures stands { StandsStill edits.old edits.new }
+    ensures capacity { edits.new.capacity ≡ edits.old.capacity }
+{
+    edits.delete(path)
+}
+
+/// Rechecks, and stops at this poll, counted from 1, where it comes to it; with 0 it goes through all
+/// polls. At each it passes the turnstile. The edits stand on the program that is then committed.
+pub(crate) fn recheck_edited<W: HeapWriter<Payload>, F: Folder, T: Turnstile, A: Analyst>(
     alloc: Global,
     heap: &mut W,
     edits: &mut Edits,
+    stop: u64,
     folder: &mut F,
+    turns: &T,
     analyst: &mut A,
 ) -> Outcome
     requires closed { (W.meaning heap.old).is_open ≡ false }
     requires version { (W.meaning heap.old).version + 1 < 2 ^ 31 }
     requires room { HasRoom (W.meaning heap.old) edits.old.capacity }
+    requires few { AreFew (W.meaning heap.old) edits.old }
     requires stands { StandOnCommitted (W.meaning heap.old) edits.old }
-    ensures result { Rechecked (record { folder = F.seen folder.old; edits = edits.old; heap = W.meaning heap.old; work = A.work analyst.old })
-        (record { folder = F.seen folder.new; edits = edits.new; heap = W.meaning heap.new; work = A.work analyst.new }) result }
+    ensures ended { HasEnded stop (F.seen folder.old) (F.seen folder.new) (held (W.meaning heap.old) edits.old) (held (W.meaning heap.new) edits.new) (A.work analyst.old) (A.work analyst.new) result }
     ensures closed { (W.meaning heap.new).is_open ≡ false }
     ensures room { HasRoom (W.meaning heap.new) edits.new.capacity }
+    ensures few { AreFew (W.meaning heap.new) edits.new }
     ensures stands { StandOnCommitted (W.meaning heap.new) edits.new }
     ensures capacity { edits.new.capacity ≡ edits.old.capacity }
     ensures told { (F.seen folder.new).told ≡ (F.seen folder.old).told }
     ensures later { (F.seen folder.old).faults ≤ (F.seen folder.new).faults }
     ensures reads { CountsReads (F.seen folder.old) (F.seen folder.new) result }
 {
-    recheck(alloc, heap, edits, folder, analyst)
+    let mut asked = StopAt::new(stop);
+    recheck(alloc, heap, edits, folder, &mut asked, turns, analyst)
 }

@@ -13,9 +13,9 @@ use crate::ending::last_line;
 use crate::session::Session;
 use crate::sinks::write_all;
 use crate::{Ended, RunFault, WalkEnd};
+use affected_sizes::each_edit_has_sizes;
 use analyst::Analyst;
-use flow_base::{Folder, Path, Sink, SinkFault, Source};
-use full_law::each_full;
+use flow_base::{Folder, Path, Sink, SinkFault, Source, Turnstile};
 use heap_core::HeapWriter;
 use payloads::Payload;
 use script_line::Line;
@@ -23,8 +23,9 @@ use script_reader::LineReader;
 use std::alloc::Global;
 
 /// The load of these paths, which rise, into a heap for so many modules that has none, and then the
-/// script line by line. What a line prints is written before the next one is read. The heap is given
-/// back as the walk leaves it, with the program and the version at which it ended.
+/// script line by line. What a line prints is written before the next one is read. At each poll of a
+/// recheck the turnstile is passed. The heap is given back as the walk leaves it, with the program and
+/// the version at which it ended.
 ///
 /// # Errors
 ///
@@ -32,7 +33,14 @@ use std::alloc::Global;
 /// and `NoMemory` where memory is refused. After `ScriptFault` all whole lines that the script gave are answered,
 /// and what they print is written; after the others a front of what a whole run prints, with no more read faults than
 /// the folder counted.
-pub fn run<W: HeapWriter<Payload> + Drop, F: Folder, S: Source, K: Sink, A: Analyst + Drop>(
+pub fn run<
+    W: HeapWriter<Payload> + Drop,
+    F: Folder,
+    S: Source,
+    K: Sink,
+    T: Turnstile,
+    A: Analyst + Drop,
+>(
     alloc: Global,
     heap: W,
     modules: u32,
@@ -41,6 +49,7 @@ pub fn run<W: HeapWriter<Payload> + Drop, F: Folder, S: Source, K: Sink, A: Anal
     folder: &mut F,
     script: &mut S,
     out: &mut K,
+    turns: &T,
 ) -> Result<Ended<W>, RunFault>
     requires empty { IsEmptyHeap (W.meaning heap) modules }
     requires rising { IsRising listed.now }
@@ -56,12 +65,21 @@ pub fn run<W: HeapWriter<Payload> + Drop, F: Folder, S: Source, K: Sink, A: Anal
     ensures told { (F.seen folder.new).told ≡ (F.seen folder.old).told }
     ensures later { (F.seen folder.old).faults ≤ (F.seen folder.new).faults }
 {
-    each_full();
-    let mut session = load(alloc, heap, modules, listed, analyst, folder, out)?;
+    each_edit_has_sizes();
+    let mut session = load(alloc, heap, modules, listed, analyst, folder, out, turns)?;
     let mut reader = LineReader::new(alloc)?;
     let mut taken = 0;
     loop {
-        match step(alloc, taken, &mut session, &mut reader, folder, script, out)? {
+        match step(
+            alloc,
+            taken,
+            &mut session,
+            &mut reader,
+            folder,
+            script,
+            out,
+            turns,
+        )? {
             Some(ending) => {
                 let errors = session.errors()?;
                 let heap = session.into_heap();
@@ -78,7 +96,7 @@ pub fn run<W: HeapWriter<Payload> + Drop, F: Folder, S: Source, K: Sink, A: Anal
 
 // The load: the first recheck, and its line.
 #[tactic(auto, using(crate::proofs::Walks::loaded_from))]
-fn load<W: HeapWriter<Payload> + Drop, F: Folder, K: Sink, A: Analyst + Drop>(
+fn load<W: HeapWriter<Payload> + Drop, F: Folder, K: Sink, T: Turnstile, A: Analyst + Drop>(
     alloc: Global,
     heap: W,
     modules: u32,
@@ -86,6 +104,7 @@ fn load<W: HeapWriter<Payload> + Drop, F: Folder, K: Sink, A: Analyst + Drop>(
     analyst: A,
     folder: &mut F,
     out: &mut K,
+    turns: &T,
 ) -> Result<Session<W, A>, RunFault>
     requires empty { IsEmptyHeap (W.meaning heap) modules }
     requires rising { IsRising listed.now }
@@ -99,14 +118,21 @@ fn load<W: HeapWriter<Payload> + Drop, F: Folder, K: Sink, A: Analyst + Drop>(
     ensures later { (F.seen folder.old).faults ≤ (F.seen folder.new).faults }
 {
     let mut session = Session::open(alloc, heap, modules, listed, analyst)?;
-    let line = session.recheck(folder)?;
+    let line = session.recheck(0, folder, turns)?;
     print(out, line.as_bytes())?;
     Ok(session)
 }
 
 // Takes the next line of a script of which so many were taken, and answers it. Where the walk ends
 // there, it prints its last line, and tells how it ended.
-fn step<W: HeapWriter<Payload> + Drop, F: Folder, S: Source, K: Sink, A: Analyst + Drop>(
+fn step<
+    W: HeapWriter<Payload> + Drop,
+    F: Folder,
+    S: Source,
+    K: Sink,
+    T: Turnstile,
+    A: Analyst + Drop,
+>(
     alloc: Global,
     taken: u32,
     session: &mut Session<W, A>,
@@ -114,6 +140,7 @@ fn step<W: HeapWriter<Payload> + Drop, F: Folder, S: Source, K: Sink, A: Analyst
     folder: &mut F,
     script: &mut S,
     out: &mut K,
+    turns: &T,
 ) -> Result<Option<WalkEnd>, RunFault>
     requires { session.old.heap.version + 1 < 2 ^ 31 }
     ensures takes { IfOk result (λ ending. IfNone ending (Takes session.old.waiting.capacity taken (lines_left reader.old (S.seen script.old).left) (lines_left reader.new (S.seen script.new).left)
@@ -134,7 +161,7 @@ fn step<W: HeapWriter<Payload> + Drop, F: Folder, S: Source, K: Sink, A: Analyst
 {
     match read_command(alloc, taken, reader, script)? {
         Command::Takes(line) => {
-            answer(session, folder, out, line)?;
+            answer(session, folder, out, turns, line)?;
             Ok(None)
         }
         Command::Ends(ending) => {
@@ -145,10 +172,11 @@ fn step<W: HeapWriter<Payload> + Drop, F: Folder, S: Source, K: Sink, A: Analyst
 }
 
 // Answers a line that does not end the script.
-fn answer<W: HeapWriter<Payload> + Drop, F: Folder, K: Sink, A: Analyst + Drop>(
+fn answer<W: HeapWriter<Payload> + Drop, F: Folder, K: Sink, T: Turnstile, A: Analyst + Drop>(
     session: &mut Session<W, A>,
     folder: &mut F,
     out: &mut K,
+    turns: &T,
     line: Line,
 ) -> Result<(), RunFault>
     requires version { session.old.heap.version + 1 < 2 ^ 31 }
@@ -161,7 +189,7 @@ fn answer<W: HeapWriter<Payload> + Drop, F: Folder, K: Sink, A: Analyst + Drop>(
     ensures told { (F.seen folder.new).told ≡ (F.seen folder.old).told }
     ensures later { (F.seen folder.old).faults ≤ (F.seen folder.new).faults }
 {
-    let printed = session.turn(folder, line)?;
+    let printed = session.turn(folder, turns, line)?;
     print(out, printed.as_slice())
 }
 

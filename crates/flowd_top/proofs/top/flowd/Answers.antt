@@ -33,4 +33,4 @@ returns-clause-printed g c =
     (search rules) (search rules) c.in-Ok.ensures.rising c.in-Ok.ensures.paths (first_of (search rules, grind (arith, common_steps)))
     c.list.ensures.told (c.in-Ok.ensures.counts.stays (search rules)) (c.in-Ok.ensures.counts.keeps (search rules))
     (subst (λ (listed : List Bytes). RunLeaves MOST_MODULES listed (outside (g.F.Folder.seen c.list.new.self) (g.S.Source.seen c.args.script.now) (g.K.Sink.seen c.args.out.now))
-    (outside (g.F.Folder.seen c.run_over.new.folder) (g.S.Source.seen c.run_over.new.script) (g.K.Sink.seen c.run_over.new.out)) c.run_over.result) c.as_slice-2.ensures c.run_over.ensures.leaves)
+    (outside (g.F.Folder.seen c.run_over.new.folder) (g.S.Source.seen c.run_over.new.script) (g.K.Sink.seen c.run_over.new.out)) c.run_over.result) c.as_slice-paths.ensures c.run_over.ensures.leaves)

@@ -3,10 +3,10 @@ use Rattle.flow_values.specs.Path.{IsRising}
 use Rattle.check_values.specs.Roots.{paths_of}
 use Rattle.check_values.specs.declared.root.Root.{Root}
 use Rattle.std.proofs.Common.{◌<◌, ◌^◌, length}
-use Rattle.pending_edits.specs.Counting.{counted, StandsOn}
+use Rattle.pending_edits.specs.Counting.{counted, StandsOn, LimitsModules}
 use Rattle.pending_edits.specs.Pending.{with_edit}
 use Rattle.pending_edits.specs.declared.edit.Edit.TheVariants.{Touch}
-use Rattle.script_run.proofs.PendingEdits.{root_rising, root_few, stands_there, stand_still, counted_there, limits_there}
+use Rattle.script_run.proofs.PendingEdits.{root_rising, root_few, stands_there, stand_still, counted_there, limits_there, few_edited}
 use Rattle.script_run.proofs.waiting.touch_path.Goals as goal
 
 pub touch-requires-clause-rising : goal.touch-requires-clause-rising
@@ -29,6 +29,11 @@ returns-clause-too_many g c =
     limits_there c.args.edits.now.capacity _ _ c.touch.result
     (ap (λ (r : Root). counted (paths_of r) (with_edit c.args.edits.now.edits c.args.path Touch)) c.get.ensures
     ∙ counted_there (g.W.HeapWriter.meaning c.args.heap.now) c.in_ok-root.root c.in_ok-root.ensures (with_edit c.args.edits.now.edits c.args.path Touch)) c.touch.ensures.too_many
+
+pub returns-clause-few : goal.returns-clause-few
+returns-clause-few g c =
+    few_edited (g.W.HeapWriter.meaning c.args.heap.now) c.in_ok-root.root c.args.edits.now c.touch.new.self c.args.path Touch c.touch.result c.in_ok-root.ensures c.touch.ensures.ok c.touch.ensures.err c.touch.ensures.capacity
+    (subst (λ (r : Root). LimitsModules c.args.edits.now.capacity (counted (paths_of r) (with_edit c.args.edits.now.edits c.args.path Touch)) c.touch.result) c.get.ensures c.touch.ensures.too_many) c.requires.few
 
 pub returns-clause-stands : goal.returns-clause-stands
 returns-clause-stands g c =

@@ -21,7 +21,7 @@ returns-in-Delete-clause-turned g c =
 
 pub returns-in_ok-recheck-in-Recheck-clause-turned : goal.returns-in_ok-recheck-in-Recheck-clause-turned
 returns-in_ok-recheck-in-Recheck-clause-turned g c =
-    turned_recheck c.args.self.now.waiting.capacity c.args.line (standing_in c.args.self.now) (standing_in c.recheck.new.self) _ _ _ _ c.in-Recheck.is (ap (λ v. v.items) c.into_bytes.ensures.value) c.in_ok-recheck-in-Recheck.ensures.rechecked
+    turned_recheck c.args.self.now.waiting.capacity c.args.line c.in-Recheck.stop (standing_in c.args.self.now) (standing_in c.recheck.new.self) _ _ _ _ c.in-Recheck.is (ap (λ v. v.items) c.into_bytes.ensures.value) c.in_ok-recheck-in-Recheck.ensures.rechecked
 
 pub returns-in-Ask-Status-clause-turned : goal.returns-in-Ask-Status-clause-turned
 returns-in-Ask-Status-clause-turned g c =

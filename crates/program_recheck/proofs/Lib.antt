@@ -1,9 +1,0 @@
-pub mod Fit
-pub mod Finish
-pub mod Folders
-pub mod Giving
-pub mod Marks
-pub mod Modules
-pub mod Rows
-pub mod Staged
-pub mod Texts

@@ -1,4 +1,0 @@
-use Rattle.program_recheck.proofs.laws.counted.Goals as goal
-
-pub returns : goal.returns
-returns g c = g.met.A.Analyst.bounded c.args.analyst.now

@@ -1,5 +1,0 @@
-pub mod Reading
-pub mod Numbering
-pub mod Recheck
-pub mod Staging
-pub mod Halting

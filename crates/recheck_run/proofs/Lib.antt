@@ -1,0 +1,12 @@
+pub mod Counting
+pub mod Extents
+pub mod Goes
+pub mod Planned
+pub mod Listing
+pub mod Begun
+pub mod Rests
+pub mod Anews
+pub mod Kept
+pub mod Dones
+pub mod Runs
+pub mod Questions

@@ -1,0 +1,50 @@
+use Rattle.std.proofs.Common.{length, ap, refl, arith}
+use Rattle.std.proofs.lemmas.Result.{err_from_is_err_and}
+use Rattle.recheck_run.proofs.Goes.{batch_goes_on, batch_failed_on, numbers_low, checked_begun, checked_more}
+use Rattle.recheck_run.proofs.stepping.check_more.Goals as goal
+
+pub check_batch-requires-clause-numbered : goal.check_batch-requires-clause-numbered
+check_batch-requires-clause-numbered g c = c.requires.checking.signed.numbered
+
+pub check_batch-requires-clause-within : goal.check_batch-requires-clause-within
+check_batch-requires-clause-within g c = numbers_low c.args.checking.sources _ c.args.checking.checked c.as_slice-numbers.ensures c.requires.checking.to_check.within
+
+pub check_batch-requires-clause-checked : goal.check_batch-requires-clause-checked
+check_batch-requires-clause-checked g c = checked_begun c.args.checking.sources c.args.checking.signed _ c.args.checking.checked c.args.checking.done c.args.checking.errors.items c.as_slice-numbers.ensures c.requires.checking.errors
+
+pub returns-in_err-check_batch-clause-steps : goal.returns-in_err-check_batch-clause-steps
+returns-in_err-check_batch-clause-steps g c =
+    let p = err_from_is_err_and c.from_residual.result c.from_residual.ensures.1 in
+    rw p.1 (batch_failed_on c.args.base.now c.args.checking c.as_slice-numbers.result.now _ _ c.as_slice-numbers.ensures c.requires.low c.in_err-check_batch.ensures.work)
+
+pub returns-clause-holds : goal.returns-clause-holds
+returns-clause-holds g c =
+    let is = c.requires.checking in
+    let low = c.requires.low in
+    let a = c.min-end.ensures in
+    let v = ap length c.as_slice-numbers.ensures in
+    record {
+      listed = is.listed;
+      merged = is.merged;
+      moved = is.moved;
+      to_check = is.to_check;
+      signed = is.signed;
+      kept = is.kept;
+      errors = checked_more c.args.checking.sources c.args.checking.signed c.as_slice-numbers.result.now c.args.checking.checked c.args.checking.done c.min-end.result _ c.as_slice-numbers.ensures (omega (arith, a)) c.in_ok-check_batch.ensures.checked;
+      low = omega (arith, low, a, v);
+    }
+
+pub returns-clause-steps : goal.returns-clause-steps
+returns-clause-steps g c =
+    let a = c.min-end.ensures in
+    batch_goes_on c.args.base.now c.args.checking c.as_slice-numbers.result.now
+    (record {
+      sources = c.args.checking.sources;
+      relisted = c.args.checking.relisted;
+      signatures = c.args.checking.signatures;
+      moved = c.args.checking.moved;
+      checked = c.args.checking.checked;
+      signed = c.args.checking.signed;
+      done = c.min-end.result;
+      errors = c.check_batch.new.slots;
+    }) _ _ c.as_slice-numbers.ensures c.requires.low refl (omega (arith, a)) c.in_ok-check_batch.ensures.work

@@ -1,0 +1,106 @@
+//! From the merged signatures to the modules that are checked.
+ghost use Rattle.std.specs.Prelude.{◌≡◌, ◌<◌, ◌≤◌, ◌^◌, ℕ, All, IfOk, length};
+ghost use Rattle.graph_search.specs.Cycles.{IsOn};
+ghost use Rattle.recheck_plan.specs.Affected.{AreExactly};
+ghost use Rattle.recheck_reach.specs.Checked.{IsToCheckIn};
+ghost use Rattle.graph_search.specs.Reach.{IsRising};
+ghost use Rattle.affected_sizes.specs.Polls.{AreImports};
+ghost use Rattle.check_phases.specs.Sourced.{AreSources, paths_in, view_in};
+ghost use Rattle.recheck_run.specs.Stages.{IsBase, IsMerging, IsChecking};
+ghost use Rattle.recheck_run.specs.Steps.{IsAlso};
+ghost use Rattle.recheck_run.specs.declared.stages.Stage.TheVariants as stage;
+
+use crate::laws::{error_laws, reach_laws};
+use crate::stages::{Base, Checking, Merging};
+use check_values::Sig;
+use flow_values::{List, NoMemory, Shared};
+use recheck_checking::{kept_errors, sign};
+use recheck_merging::whole_signatures;
+use recheck_reach::{any_moved, checked_modules, moved_signatures};
+use recheck_sources::Listed;
+use std::alloc::Global;
+
+// Which modules are to be checked: those that changed, and where any signature moved, those that reach it.
+fn to_check(
+    alloc: Global,
+    listed: &Listed,
+    signatures: &[Shared<Sig>],
+    moved: &[bool],
+    edges: &[List<u32>],
+) -> Result<List<u32>, NoMemory>
+    requires sources { AreSources listed.now.sources }
+    requires few { length listed.now.sources.root.modules < 2 ^ 32 }
+    requires signatures { length signatures.now ≡ length listed.now.sources.root.modules }
+    requires moved { length moved.now ≡ length listed.now.sources.root.modules }
+    requires edges { (x : ℕ) → IsOn moved.now x → AreImports (view_in listed.now.sources) (paths_in listed.now.sources) edges.now }
+    requires rising { IsRising listed.now.changed }
+    requires within { All (λ x. x < length listed.now.sources.root.modules) listed.now.changed }
+    ensures { IfOk result (AreExactly (IsToCheckIn listed.now.sources signatures.now moved.now listed.now.changed)) }
+{
+    reach_laws();
+    let changed = listed.changed.as_slice();
+    if any_moved(moved) {
+        return checked_modules(alloc, &listed.sources, signatures, moved, edges, changed);
+    }
+    let all = List::from_slice(alloc, changed)?;
+    Ok(all)
+}
+
+/// All signatures are merged, and it is told what is to be checked.
+///
+/// # Errors
+///
+/// `NoMemory` where memory is refused.
+pub(crate) fn begin_checks(
+    alloc: Global,
+    base: &Base,
+    merging: Merging,
+) -> Result<Checking, NoMemory>
+    requires base { IsBase base.now }
+    requires merging { IsMerging base.now merging }
+    requires all { length merging.plan.waves ≤ merging.wave }
+    ensures checking { IfOk result (IsChecking base.now) }
+    ensures also { IfOk result (λ c. IsAlso base.now (stage.Merges merging) (stage.Checks c)) }
+{
+    reach_laws();
+    error_laws();
+    recheck_merging::waves_make_all();
+    recheck_merging::members_add_up();
+    full_law::each_full();
+    let Merging {
+        listed,
+        edges,
+        plan,
+        wave: _,
+        slots,
+    } = merging;
+    let was = base.was.signatures.as_slice();
+    let from = base.from.as_slice();
+    let signatures = whole_signatures(alloc, &slots)?;
+    let all = signatures.as_slice();
+    let merged = plan.merged.as_slice();
+    let moved = moved_signatures(alloc, was, from, merged, all)?;
+    let flags = moved.as_slice();
+    let imports = edges.as_slice();
+    let checked = to_check(alloc, &listed, all, flags, imports)?;
+    let signed = sign(alloc, &listed.sources, all)?;
+    let old = base.was.errors.as_slice();
+    let numbers = checked.as_slice();
+    let errors = kept_errors(alloc, old, from, numbers)?;
+    let Listed {
+        sources,
+        relisted,
+        touched: _,
+        changed: _,
+    } = listed;
+    Ok(Checking {
+        sources,
+        relisted,
+        signatures,
+        moved,
+        checked,
+        signed,
+        done: 0,
+        errors,
+    })
+}

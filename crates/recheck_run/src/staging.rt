@@ -1,0 +1,122 @@
+//! All results of the edited program, staged.
+ghost use Rattle.std.specs.Prelude.{◌≡◌, ◌<◌, ◌≤◌, ◌^◌, true, false, All, IfOk, OnOk, length, count_by, slice_get, Some};
+ghost use Rattle.graph_search.specs.Searching.{Marks};
+ghost use Rattle.heap_core.specs.Meaning.{none_of};
+ghost use Rattle.heap_core.specs.Transactions.{IsStaging};
+ghost use Rattle.recheck_plan.specs.Marks.{AreMarksOf};
+ghost use Rattle.recheck_run.specs.Stages.{IsBase, IsBaseIn, IsChecking};
+ghost use Rattle.recheck_run.specs.Steps.{AreAnew, IsReady};
+
+use crate::laws::error_laws;
+use crate::stages::{Base, Checking, Staged};
+use check_phases::{Made, count_errors};
+use flow_values::NoMemory;
+use heap_core::HeapWriter;
+use payloads::Payload;
+use recheck_checking::whole_errors;
+use recheck_staging::{Anew, stage_anew};
+use std::alloc::Global;
+
+// Turns the flags of these numbers on.
+fn flag_all(flags: &mut [bool], numbers: &[u32])
+    requires { All (λ x. x < length flags.old) numbers.now }
+    ensures { Marks numbers.now flags.old flags.new }
+{
+    for number in numbers {
+        flags[*number as usize] = true;
+    }
+}
+
+// So many flags, on at exactly these numbers.
+fn flags_of(alloc: Global, count: usize, numbers: &[u32]) -> Result<Vec<bool>, NoMemory>
+    requires { All (λ x. x < count) numbers.now }
+    ensures { IfOk result (λ flags. AreMarksOf count numbers.now flags.items) }
+{
+    let mut flags = vec![in alloc; false; count]?;
+    flag_all(flags.as_mut_slice(), numbers);
+    Ok(flags)
+}
+
+// All results, and which of them were made anew.
+#[derive(Drop)]
+struct Results {
+    made: Made,
+    anew: Anew,
+}
+
+// All results of the edited program, where all that is to be checked is.
+fn results_of(alloc: Global, base: &Base, checking: Checking) -> Result<Results, NoMemory>
+    requires base { IsBase base.now }
+    requires checking { IsChecking base.now checking }
+    requires all { length checking.checked ≤ checking.done }
+    ensures { IfOk result (λ r. AreAnew base.now r.made r.anew) }
+{
+    error_laws();
+    errors_by_reach::errors_by_reach();
+    let errors = whole_errors(alloc, &checking.errors)?;
+    let flags = base.fresh.as_slice();
+    let fresh = Vec::from_slice(alloc, flags)?;
+    let root = base.root.get();
+    let count = root.modules.len();
+    let numbers = checking.checked.as_slice();
+    let checked = flags_of(alloc, count, numbers)?;
+    let Checking {
+        sources,
+        relisted,
+        signatures,
+        moved,
+        ..
+    } = checking;
+    Ok(Results {
+        made: Made {
+            sources,
+            signatures,
+            errors,
+        },
+        anew: Anew {
+            fresh,
+            relisted,
+            moved,
+            checked,
+        },
+    })
+}
+
+/// Counts the errors of all modules, and stages what was made anew.
+///
+/// # Errors
+///
+/// `NoMemory` where memory is refused. Some of it may be staged then.
+pub(crate) fn stage_all<W: HeapWriter<Payload>>(
+    alloc: Global,
+    writer: &mut W,
+    base: &Base,
+    checking: Checking,
+) -> Result<Staged, NoMemory>
+    requires is_open { (W.meaning writer.old).is_open ≡ true }
+    requires bare { (W.meaning writer.old).staged ≡ none_of (W.meaning writer.old).staged }
+    requires base { IsBaseIn (W.meaning writer.old).committed base.now }
+    requires checking { IsChecking base.now checking }
+    requires all { length checking.checked ≤ checking.done }
+    ensures ready { IfOk result (λ staged. IsReady base.now (W.meaning writer.old) (W.meaning writer.new) staged.errors) }
+    ensures parsed { IfOk result (λ staged. staged.parsed ≡ count_by (λ on. on) base.now.fresh.items) }
+    ensures checked { IfOk result (λ staged. staged.checked ≡ length checking.checked) }
+    ensures staging { IsStaging (W.meaning writer.old) (W.meaning writer.new) }
+    ensures is_open { (W.meaning writer.new).is_open ≡ true }
+    ensures told { W.told writer.new ≡ W.told writer.old }
+    ensures part { W.part writer.new ≡ W.part writer.old }
+{
+    let parsed = base.fresh.iter().filter(|flag| **flag).count() as u32;
+    let checked = checking.checked.len() as u32;
+    let results = results_of(alloc, base, checking)?;
+    let Results { made, anew } = results;
+    let all = made.errors.as_slice();
+    let errors = count_errors(all)?;
+    let freed = base.freed.as_slice();
+    stage_anew(alloc, writer, &made, &anew, freed)?;
+    Ok(Staged {
+        parsed,
+        checked,
+        errors,
+    })
+}

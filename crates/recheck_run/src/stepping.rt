@@ -1,0 +1,183 @@
+//! One stage of work.
+ghost use Rattle.std.specs.Prelude.{◌≡◌, ◌<◌, true, IfOk, length};
+ghost use Rattle.heap_core.specs.Meaning.{none_of};
+ghost use Rattle.heap_core.specs.Transactions.{IsStaging};
+ghost use Rattle.analyst.specs.Work.{Work, IsCounted};
+ghost use Rattle.recheck_run.specs.Stages.{IsBase, IsBaseIn, Holds, IsMerging, IsChecking};
+ghost use Rattle.recheck_run.specs.Steps.{HoldsNext, StepsOn, LeadsOn};
+ghost use Rattle.recheck_run.specs.declared.stages.Stage.TheVariants as stage;
+
+use crate::checking::begin_checks;
+use crate::laws::{counted, reach_laws};
+use crate::merging::list_all;
+use crate::stages::{Base, Checking, Merging, Next, Stage};
+use crate::staging::stage_all;
+use analyst::Analyst;
+use flow_values::{NoMemory, Shared};
+use heap_core::HeapWriter;
+use payloads::Payload;
+use recheck_checking::check_batch;
+use recheck_merging::merge_wave;
+use recheck_sources::edited_parses;
+use source_front::Parse;
+use std::alloc::Global;
+
+// The sources that are new or differ are read.
+fn front_next<A: Analyst>(alloc: Global, analyst: &mut A, base: &Base) -> Result<Stage, NoMemory>
+    requires base { IsBase base.now }
+    ensures holds { IfOk result (Holds base.now) }
+    ensures steps { StepsOn base.now stage.Fronts result (A.work analyst.old) (A.work analyst.new) }
+{
+    counted(&*analyst);
+    reach_laws();
+    let root = base.root.get();
+    let from = base.from.as_slice();
+    let fresh = base.fresh.as_slice();
+    let parses = edited_parses(alloc, analyst, &base.was.sources, root, from, fresh)?;
+    Ok(Stage::Lists { parses })
+}
+
+// The dependency lists are made, and it is planned what is merged.
+fn list_next(alloc: Global, base: &Base, parses: Vec<Shared<Parse>>) -> Result<Stage, NoMemory>
+    requires base { IsBase base.now }
+    requires holds { Holds base.now (stage.Lists parses) }
+    ensures holds { IfOk result (Holds base.now) }
+    ensures steps { (work : Work) → IsCounted work → StepsOn base.now (stage.Lists parses) result work work }
+{
+    reach_laws();
+    program_check::one_full();
+    recheck_merging::plans_are_of_merged();
+    let merging = list_all(alloc, base, parses)?;
+    Ok(Stage::Merges(merging))
+}
+
+// A wave is merged.
+fn merge_next<A: Analyst>(
+    alloc: Global,
+    analyst: &mut A,
+    base: &Base,
+    mut merging: Merging,
+) -> Result<Stage, NoMemory>
+    requires merging { IsMerging base.now merging }
+    requires low { merging.wave < length merging.plan.waves }
+    ensures holds { IfOk result (Holds base.now) }
+    ensures steps { StepsOn base.now (stage.Merges merging) result (A.work analyst.old) (A.work analyst.new) }
+{
+    counted(&*analyst);
+    recheck_merging::members_add_up();
+    let wave = merging.wave;
+    merge_wave(
+        alloc,
+        analyst,
+        &merging.listed.sources,
+        &merging.plan,
+        wave,
+        &mut merging.slots,
+    )?;
+    merging.wave = wave + 1;
+    Ok(Stage::Merges(merging))
+}
+
+// The next modules are checked, at most 64.
+fn check_more<A: Analyst>(
+    alloc: Global,
+    analyst: &mut A,
+    base: &Base,
+    mut checking: Checking,
+) -> Result<Stage, NoMemory>
+    requires checking { IsChecking base.now checking }
+    requires low { checking.done < length checking.checked }
+    ensures holds { IfOk result (Holds base.now) }
+    ensures steps { StepsOn base.now (stage.Checks checking) result (A.work analyst.old) (A.work analyst.new) }
+{
+    counted(&*analyst);
+    let done = checking.done;
+    let numbers = checking.checked.as_slice();
+    let end = usize::min(numbers.len(), done + 64);
+    check_batch(
+        alloc,
+        analyst,
+        &checking.sources,
+        &checking.signed,
+        numbers,
+        done,
+        &mut checking.errors,
+    )?;
+    checking.done = end;
+    Ok(Stage::Checks(checking))
+}
+
+// The next modules are checked; behind the last one all is staged.
+fn check_next<W: HeapWriter<Payload>, A: Analyst>(
+    alloc: Global,
+    writer: &mut W,
+    analyst: &mut A,
+    base: &Base,
+    mut checking: Checking,
+) -> Result<Next, NoMemory>
+    requires is_open { (W.meaning writer.old).is_open ≡ true }
+    requires bare { (W.meaning writer.old).staged ≡ none_of (W.meaning writer.old).staged }
+    requires base { IsBaseIn (W.meaning writer.old).committed base.now }
+    requires checking { IsChecking base.now checking }
+    ensures holds { IfOk result (HoldsNext base.now (W.meaning writer.old) (W.meaning writer.new)) }
+    ensures leads { LeadsOn base.now (stage.Checks checking) result (A.work analyst.old) (A.work analyst.new) }
+    ensures staging { IsStaging (W.meaning writer.old) (W.meaning writer.new) }
+    ensures is_open { (W.meaning writer.new).is_open ≡ true }
+    ensures told { W.told writer.new ≡ W.told writer.old }
+    ensures part { W.part writer.new ≡ W.part writer.old }
+{
+    counted(&*analyst);
+    reach_laws();
+    if checking.done < checking.checked.len() {
+        let stage = check_more(alloc, analyst, base, checking)?;
+        return Ok(Next::GoesTo(stage));
+    }
+    let staged = stage_all(alloc, writer, base, checking)?;
+    Ok(Next::Ready(staged))
+}
+
+/// One stage of work.
+///
+/// # Errors
+///
+/// `NoMemory` where memory is refused.
+pub(crate) fn step<W: HeapWriter<Payload>, A: Analyst>(
+    alloc: Global,
+    writer: &mut W,
+    analyst: &mut A,
+    base: &Base,
+    stage: Stage,
+) -> Result<Next, NoMemory>
+    requires is_open { (W.meaning writer.old).is_open ≡ true }
+    requires bare { (W.meaning writer.old).staged ≡ none_of (W.meaning writer.old).staged }
+    requires base { IsBaseIn (W.meaning writer.old).committed base.now }
+    requires holds { Holds base.now stage }
+    ensures holds { IfOk result (HoldsNext base.now (W.meaning writer.old) (W.meaning writer.new)) }
+    ensures leads { LeadsOn base.now stage result (A.work analyst.old) (A.work analyst.new) }
+    ensures staging { IsStaging (W.meaning writer.old) (W.meaning writer.new) }
+    ensures is_open { (W.meaning writer.new).is_open ≡ true }
+    ensures told { W.told writer.new ≡ W.told writer.old }
+    ensures part { W.part writer.new ≡ W.part writer.old }
+{
+    counted(&*analyst);
+    recheck_merging::members_add_up();
+    match stage {
+        Stage::Fronts => {
+            let next = front_next(alloc, analyst, base)?;
+            Ok(Next::GoesTo(next))
+        }
+        Stage::Lists { parses } => {
+            let next = list_next(alloc, base, parses)?;
+            Ok(Next::GoesTo(next))
+        }
+        Stage::Merges(merging) => {
+            if merging.wave < merging.plan.wave_count() {
+                let next = merge_next(alloc, analyst, base, merging)?;
+                return Ok(Next::GoesTo(next));
+            }
+            let checking = begin_checks(alloc, base, merging)?;
+            check_next(alloc, writer, analyst, base, checking)
+        }
+        Stage::Checks(checking) => check_next(alloc, writer, analyst, base, checking),
+    }
+}
