@@ -3,8 +3,8 @@
 
     tests/hostile.py [WORD]       (only the cases whose name has this word)
 
-They stand in the folder, and then come through edits of the script. Each run must print what the rules say, end by itself, and
-stay within a bound of time and of memory that goes by the bytes that it reads and prints. The last line is 'N passed, M failed'.
+Each run must print what the rules say, end by itself, and stay within a bound of time and of memory that goes by the
+bytes that it reads and prints. The last line is 'N passed, M failed'.
 """
 
 import os
@@ -15,7 +15,6 @@ import sys
 sys.path.insert(0, os.path.dirname(os.path.abspath(__file__)))
 import real_folders
 from real_folders import CLEAN, ERRORS, FLOWD, recheck, write
-from scripts import RECHECK, STATUS, done, edit
 
 MOST = 1_048_576  # bytes of a source
 DEEPEST = 200  # brackets in one another
@@ -23,6 +22,7 @@ STACK = 1 << 30  # what the thread that does all work asks for
 SECONDS = 20  # of a processor
 START, EACH = 32 << 20, 300  # bytes of memory at the most: those at the start, and those for each byte
 CASES = real_folders.CASES = []
+STATUS = b'{"do":"ask","ask":{"what":"status"}}\n'
 
 
 def case(test):
@@ -52,33 +52,25 @@ def brief(text):
     return text if len(text) < 400 else text[:200] + b" .. " + text[-200:]
 
 
-def expect_run(root, size, script, status, text):
-    """What ./flowd prints of the folder with this script, and what it takes for that where the sources have this size."""
-    ended, told, memory = run(root, script)
-    if (ended, told) != (status, text):
-        raise AssertionError(f"it ended with {ended} and printed {brief(told)}, and not with {status} and {brief(text)}")
-    bound = START + EACH * (size + len(script) + len(text))
-    if memory > bound:
-        raise AssertionError(f"it took {memory} bytes of memory, which is more than {bound}")
-
-
 def expect_told(root, sources, script, status, text):
     """What ./flowd prints of these modules, and what it takes for that."""
     for name, source in sources.items():
         if len(source) > MOST:
             raise AssertionError(f"{name}.js has {len(source)} bytes, which is past the limit")
         write(f"{root}/d/{name}.js", source.encode())
-    expect_run(root, sum(map(len, sources.values())), script, status, text)
+    ended, told, memory = run(root, script)
+    if (ended, told) != (status, text):
+        raise AssertionError(f"it ended with {ended} and printed {brief(told)}, and not with {status} and {brief(text)}")
+    bound = START + EACH * (sum(map(len, sources.values())) + len(script) + len(text))
+    if memory > bound:
+        raise AssertionError(f"it took {memory} bytes of memory, which is more than {bound}")
 
 
 def expect(root, errors, **sources):
     """The errors of these modules, each as PATH:LINE:COLUMN CODE DETAILS."""
-    lines, count = "".join(f"  {error}\n" for error in errors), len(sources)
-    status, told = ERRORS if errors else CLEAN, f" status: {len(errors)} errors\n{lines}".encode()
-    expect_told(root, sources, STATUS, status, recheck(count, len(errors)) + b"1" + told)
-    os.makedirs(f"{root}/edits/d")
-    script = b"".join(edit(f"{name}.js", source.encode()) for name, source in sources.items()) + RECHECK + STATUS
-    expect_run(f"{root}/edits", 0, script, status, recheck(0) + done(2, count, count, len(errors)) + b"2" + told)
+    lines = "".join(f"  {error}\n" for error in errors)
+    told = recheck(len(sources), len(errors)) + f"1 status: {len(errors)} errors\n{lines}".encode()
+    expect_told(root, sources, STATUS, ERRORS if errors else CLEAN, told)
 
 
 def filled(part, before="", after="", size=MOST):
