@@ -60,6 +60,7 @@ class Program:
         return line[:-1]
 
     def recheck_line(self):
+        """How many modules were read."""
         line = self.line()
         if line.startswith("too many modules "):
             raise Ended(WHY[69].format(folder=self.folder), 69)
@@ -69,9 +70,8 @@ class Program:
         return int(line.split()[2])
 
     def recheck(self):
-        """How many modules the edited program has."""
         self.say(do="recheck")
-        return self.recheck_line()
+        self.recheck_line()
 
     def errors(self):
         self.say(do="ask", ask={"what": "status"})
@@ -228,7 +228,8 @@ class Watch:
                 self.show(modules, before, time.monotonic() - began)
 
     def take(self, changed, gone):
-        """An edit for each changed module. The program begins anew where one is gone, or where no edit can have its text."""
+        """An edit for each changed module; how many modules there are then. The program begins anew where one is gone, or where no edit
+        can have its text."""
         texts = {it: text_of(self.folder, it) for it in changed}
         if gone or None in texts.values() or not self.program:
             if self.program:
@@ -238,7 +239,8 @@ class Watch:
         for path, text in texts.items():
             self.sources.put(path, text)
             self.program.say(do="edit", path=path, text=text)
-        return self.program.recheck()
+        self.program.recheck()
+        return len(self.files)
 
     def show(self, modules, before, seconds):
         was, self.errors = self.errors, self.program.errors()
