@@ -1,10 +1,10 @@
 -- The errors of the modules, one after the other.
-use Rattle.std.proofs.Common.{◌≡◌, ℕ, zero, suc, ◌+◌, ◌<◌, ◌≤◌, List, [], ◌∷◌, ◌++◌, map, length, take, take_all, get_or, slice_get, Option, Some, None, refl, sym, ap, ◌∙◌, subst, arith, append-nil}
+use Rattle.std.proofs.Common.{◌≡◌, ℕ, suc, ◌+◌, ◌<◌, ◌≤◌, List, [], ◌∷◌, ◌++◌, map, length, take, take_all, get_or, slice_get, Option, Some, refl, sym, ap, ◌∙◌, subst, arith, append-nil}
 use Rattle.std.specs.Prelude.{option_to_list}
 use Rattle.std.specs.List.{flat_map}
 use Rattle.std.proofs.lemmas.Option.{slice_get_past}
 use Rattle.heap_core.proofs.Lists.{get_index}
-use Rattle.flow_base.specs.Program.{Bytes, Program}
+use Rattle.flow_base.specs.Program.{Bytes}
 use Rattle.check_values.specs.Rows.{Rows, row_at}
 use Rattle.check_values.specs.declared.root.RootRow.{RootRow}
 use Rattle.check_values.specs.declared.faults.Errs.{Errs}
@@ -16,20 +16,16 @@ use Rattle.source_front.specs.Front.{Says, IsParse}
 use Rattle.source_front.specs.declared.parse.Parse.{Parse}
 use Rattle.source_front.specs.declared.parse.ParseTree.{ParseTree}
 use Rattle.source_front.specs.declared.parse.ParseTree.TheVariants.{Tree, Broken}
-use Rattle.errors_by_reach.specs.Seen.{Sigs}
-use Rattle.errors_by_reach.specs.Law.{HasErrors, AreErrors, Agree}
+use Rattle.errors_by_reach.specs.Law.{AreErrors, Agree}
 use Rattle.reach_law.specs.Law.{JobsAreRight}
 use Rattle.named_rows.proofs.Lists.{flat_last}
-use Rattle.import_sayings.specs.Reached.{AreNumbers}
 use Rattle.import_sayings.proofs.ReachedPaths.{taken}
 use Rattle.check_job.specs.Jobs.{source_in, source_of, IsFronted, HasFaults}
 use Rattle.check_job.specs.declared.job.CheckJob.{CheckJob}
 use Rattle.program_check.specs.Full.{beside}
-use Rattle.check_phases.specs.Phases.{AreChecked, IsCheckedAt}
+use Rattle.check_phases.specs.Phases.{IsCheckedAt}
 use Rattle.check_phases.specs.Sourced.{program_in, AreSources}
-use Rattle.check_phases.specs.Whole.{sigs_by}
-use Rattle.check_phases.specs.Checking.{IsJobOf, AreSigned, picked}
-use Rattle.check_phases.specs.declared.checking.Signed.{Signed}
+use Rattle.check_phases.specs.Checking.{IsJobOf, picked}
 use Rattle.check_phases.specs.declared.merging.Sources.{Sources}
 use Rattle.check_phases.proofs.Jobs.{zip_at}
 use Rattle.check_phases.proofs.Lists.{one_value, take_next, take_whole}
@@ -53,9 +49,6 @@ length_beside (m ∷ ms) (x ∷ xs) many = ap suc (length_beside ms xs (omega (a
 pub signed_all : (s : Sources) (sigs : List Sig) (i : ℕ) (rows : Rows Sig) → length sigs ≡ length s.root.modules → i ≡ length s.root.modules → rows ≡ take i (beside (program_in s) sigs) → rows ≡ beside (program_in s) sigs
 signed_all s sigs i rows many all is =
     is ∙ (ap (λ (n : ℕ). take n (beside (program_in s) sigs)) (all ∙ sym (length_beside s.root.modules sigs many)) ∙ take_whole (beside (program_in s) sigs))
-
-pub all_signed : (s : Sources) (sigs : List Sig) (rows view : Rows Sig) (signed : Signed) → rows ≡ beside (program_in s) sigs → view ≡ rows → AreNumbers view signed.numbers → signed.rows ≡ rows → AreSigned s sigs signed
-all_signed s sigs rows view signed is seen numbered same = record { rows = same ∙ is; numbers = subst (λ (l : Rows Sig). AreNumbers l signed.numbers) (seen ∙ sym same) numbered }
 
 -- ---- some of them
 
@@ -114,29 +107,4 @@ pub job_errors : JobsAreRight → (s : Sources) (rows : Rows Sig) (x : ℕ) (job
     → IsCheckedAt (row_at rows) (program_in s) s.parses.items s.lists.items x mine
 job_errors right s rows x job errs mine is are same = subst (λ (e : Errs). IsCheckedAt (row_at rows) (program_in s) s.parses.items s.lists.items x e) (sym same) (job_checked right s rows x job errs is are)
 
--- and so of those that were signed
-pub signed_errors : (s : Sources) (sigs : List Sig) (signed : Signed) (x : ℕ) (errs : Errs) → AreSigned s sigs signed → IsCheckedAt (row_at signed.rows) (program_in s) s.parses.items s.lists.items x errs → IsCheckedAt (sigs_by s sigs) (program_in s) s.parses.items s.lists.items x errs
-signed_errors s sigs signed x errs are = subst (λ (l : Rows Sig). IsCheckedAt (row_at l) (program_in s) s.parses.items s.lists.items x errs) are.rows
-
 -- ---- batches
-
-pub one_checked : (sigs : Sigs) (program : Program) (parses : List Parse) (lists : List Deps) (x : ℕ) (errs : Errs) (old new : List Errs) → length old ≡ x → IsCheckedAt sigs program parses lists x errs → new ≡ old ++ errs ∷ []
-    → AreChecked sigs program parses lists old → AreChecked sigs program parses lists new
-one_checked sigs program parses lists x errs old new many is pushed so_far =
-    subst (λ (l : List Errs). AreChecked sigs program parses lists l) (sym pushed) (go program parses lists x old many is.path is.parse is.deps is.at_path is.at_parse is.at_deps is.errors so_far)
-  where
-    go : (program : Program) (parses : List Parse) (lists : List Deps) (x : ℕ) (old : List Errs) → length old ≡ x → (path : Bytes × Bytes) (parse : Parse) (deps : Deps) → slice_get program x ≡ Some path → slice_get parses x ≡ Some parse
-        → slice_get lists x ≡ Some deps → HasErrors path.0 deps (source_in parse.tree) sigs errs.faults → AreChecked sigs program parses lists old → AreChecked sigs program parses lists (old ++ errs ∷ [])
-    go [] parses lists x old many path parse deps a b c e so_far = absurd (let z : None ≡ Some path = a in cc)
-    go (m ∷ program) [] lists x old many path parse deps a b c e so_far = absurd (let z : None ≡ Some parse = b in cc)
-    go (m ∷ program) (p ∷ parses) [] x old many path parse deps a b c e so_far = absurd (let z : None ≡ Some deps = c in cc)
-    go (m ∷ program) (p ∷ parses) (d ∷ lists) zero [] many path parse deps a b c e so_far =
-        let am = one_value m path a in let bp = one_value p parse b in let cd = one_value d deps c in (
-          subst (λ (r : Bytes × Bytes). HasErrors r.0 d (source_in p.tree) sigs errs.faults) (sym am)
-              (subst (λ (r : Parse). HasErrors path.0 d (source_in r.tree) sigs errs.faults) (sym bp)
-              (subst (λ (r : Deps). HasErrors path.0 r (source_in parse.tree) sigs errs.faults) (sym cd) e)),
-          tt,
-        )
-    go (m ∷ program) (p ∷ parses) (d ∷ lists) zero (o ∷ old) many path parse deps a b c e so_far = absurd (omega (arith, many))
-    go (m ∷ program) (p ∷ parses) (d ∷ lists) (suc x) [] many path parse deps a b c e so_far = absurd (omega (arith, many))
-    go (m ∷ program) (p ∷ parses) (d ∷ lists) (suc x) (o ∷ old) many path parse deps a b c e so_far = (so_far.0, go program parses lists x old (omega (arith, many)) path parse deps a b c e so_far.1)

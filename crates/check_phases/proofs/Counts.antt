@@ -1,22 +1,11 @@
 -- Each module stands in one component, and each component in one wave, so the waves have as many members as there are modules.
-use Rattle.std.proofs.Common.{◌≡◌, ◌⊎◌, ℕ, zero, suc, ◌+◌, ◌<◌, Bool, true, false, List, [], ◌∷◌, ◌++◌, length, get_or, slice_get, sum_by, Some, None, refl, sym, ap, ◌∙◌, subst, inl, inr, arith}
+use Rattle.std.proofs.Common.{◌≡◌, ◌⊎◌, ℕ, zero, suc, Bool, true, false, List, [], ◌∷◌, ◌++◌, get_or, Some, None, refl, sym, ap, inl, inr}
 use Rattle.std.specs.Prelude.{eqb, ◌||◌}
-use Rattle.std.specs.List.{AllByRecursion, IsDistinct, flat_map, list_any}
-use Rattle.std.proofs.lemmas.Bool.{cases_lt, eqb-true}
-use Rattle.std.proofs.lemmas.Bool.Decides.{nat_tests}
-use Rattle.std.proofs.lemmas.List.Concat.{length-flat_map}
+use Rattle.std.specs.List.{AllByRecursion, IsDistinct, list_any}
+use Rattle.std.proofs.lemmas.Bool.{eqb-true}
 use Rattle.std.proofs.lemmas.Map.Keys.{IsDistinct-cons}
-use Rattle.std.proofs.lemmas.Map.Steps.{length-le_from_distinct_below, le-length_from_below}
-use Rattle.graph_search.specs.Cycles.{here, Has}
-use Rattle.graph_search.specs.Reach.{IsRising}
-use Rattle.graph_search.specs.Components.{AreComponents, AreMutual, StandsIn}
-use Rattle.graph_search.specs.Waves.{AreWaves}
-use Rattle.check_phases.specs.Merging.{IsGraphOf, members_of, members_from}
-use Rattle.check_phases.specs.Sourced.{AreSources}
-use Rattle.check_phases.specs.declared.merging.Sources.{Sources}
-use Rattle.check_phases.specs.declared.merging.Graph.{Graph}
-use Rattle.check_phases.proofs.Lists.{one_value, within_there, drop_none}
-use Rattle.check_phases.proofs.Merges.{edges_many}
+use Rattle.graph_search.specs.Cycles.{Has}
+use Rattle.graph_search.specs.Components.{StandsIn}
 
 -- no number stands twice
 abbrev pub Once : List ℕ → Type 0
@@ -31,54 +20,6 @@ has_append [] ys x h = inr h
 has_append (y ∷ xs) ys x (zero, at) = inl (0, at)
 has_append (y ∷ xs) ys x (suc i, at) = elim (has_append xs ys x (i, at)) [ inl h ↦ inl (has_later y xs x h) | inr h ↦ inr h ]
 
-has_front : (xs ys : List ℕ) (x : ℕ) → Has xs x → Has (xs ++ ys) x
-has_front [] ys x h = absurd (let z : None ≡ Some x = h.1 in cc)
-has_front (y ∷ xs) ys x (zero, at) = (0, at)
-has_front (y ∷ xs) ys x (suc i, at) = has_later y (xs ++ ys) x (has_front xs ys x (i, at))
-
-has_behind : (xs ys : List ℕ) (x : ℕ) → Has ys x → Has (xs ++ ys) x
-has_behind [] ys x h = h
-has_behind (y ∷ xs) ys x h = has_later y (xs ++ ys) x (has_behind xs ys x h)
-
-once_append : (xs ys : List ℕ) → Once xs → Once ys → ((x : ℕ) → Has xs x → Has ys x → ⊥) → Once (xs ++ ys)
-once_append [] ys a b apart = b
-once_append (x ∷ xs) ys a b apart =
-    ((λ h. elim (has_append xs ys x h) [ inl old ↦ a.0 old | inr new ↦ apart x (0, refl) new ]), once_append xs ys a.1 b (λ y h k. apart y (has_later x xs y h) k))
-
-module _ {X : Type 0} (f : X → List ℕ) where
-  -- what stands in one of the lists
-  has_flat : (ks : List X) (x : ℕ) → Has (flat_map f ks) x → (i : ℕ) × (k : X) × (slice_get ks i ≡ Some k) × Has (f k) x
-  has_flat [] x h = absurd (let z : None ≡ Some x = h.1 in cc)
-  has_flat (k ∷ ks) x h = go (has_append (f k) (flat_map f ks) x h) (λ later. has_flat ks x later)
-    where
-      go : Has (f k) x ⊎ Has (flat_map f ks) x → (Has (flat_map f ks) x → (i : ℕ) × (l : X) × (slice_get ks i ≡ Some l) × Has (f l) x) → (i : ℕ) × (l : X) × (slice_get (k ∷ ks) i ≡ Some l) × Has (f l) x
-      go (inl first) rest = (0, k, refl, first)
-      go (inr later) rest = let r = rest later in (suc r.0, r.1, r.2, r.3)
-
-  flat_has : (ks : List X) (i : ℕ) (k : X) (x : ℕ) → slice_get ks i ≡ Some k → Has (f k) x → Has (flat_map f ks) x
-  flat_has [] i k x at h = absurd (let z : None ≡ Some k = at in cc)
-  flat_has (j ∷ ks) zero k x at h = has_front (f j) (flat_map f ks) x (subst (λ (l : X). Has (f l) x) (sym (one_value j k at)) h)
-  flat_has (j ∷ ks) (suc i) k x at h = has_behind (f j) (flat_map f ks) x (flat_has ks i k x at h)
-
-  once_flat : (ks : List X) → ((i : ℕ) (k : X) → slice_get ks i ≡ Some k → Once (f k))
-      → ((i j : ℕ) (k l : X) (x : ℕ) → slice_get ks i ≡ Some k → slice_get ks j ≡ Some l → Has (f k) x → Has (f l) x → i ≡ j) → Once (flat_map f ks)
-  once_flat [] each apart = tt
-  once_flat (k ∷ ks) each apart =
-      once_append (f k) (flat_map f ks) (each 0 k refl)
-      (once_flat ks (λ i j at. each (suc i) j at) (λ i j l m x p q a b. let e : suc i ≡ suc j = apart (suc i) (suc j) l m x p q a b in omega arith))
-      (λ x a b. let r = has_flat ks x b in let e : 0 ≡ suc r.0 = apart 0 (suc r.0) k r.1 x refl r.2 a r.3 in omega arith)
-
-rising_once : (xs : List ℕ) → IsRising xs → Once xs
-rising_once [] rising = tt
-rising_once (x ∷ xs) rising =
-    ((λ h. let less : x < x = rising 0 (suc h.0) x x (omega arith) refl h.1 in omega arith), rising_once xs (λ i j a b less p q. rising (suc i) (suc j) a b (omega arith) p q))
-
-rising_place : (xs : List ℕ) (i j x : ℕ) → IsRising xs → slice_get xs i ≡ Some x → slice_get xs j ≡ Some x → i ≡ j
-rising_place xs i j x rising a b = elim (cases_lt i j) [
-  | inl less ↦ absurd (let bad : x < x = rising i j x x less a b in omega arith)
-  | inr more ↦ elim (cases_lt j i) [ inl less ↦ absurd (let bad : x < x = rising j i x x less b a in omega arith) | inr same ↦ omega arith ]
-]
-
 -- ---- as many as below a number
 
 pub any_has : (xs : List ℕ) (x : ℕ) → list_any (eqb x) xs ≡ true → Has xs x
@@ -88,22 +29,6 @@ any_has (y ∷ xs) x is = go (λ h. any_has xs x h) (eqb x y) refl is
     go : (list_any (eqb x) xs ≡ true → Has xs x) → (b : Bool) → eqb x y ≡ b → (b || list_any (eqb x) xs) ≡ true → Has (y ∷ xs) x
     go later true e h = (0, ap Some (sym (eqb-true x y e)))
     go later false e h = has_later y xs x (later h)
-
-has_any : (xs : List ℕ) (x : ℕ) → Has xs x → list_any (eqb x) xs ≡ true
-has_any [] x h = absurd (let z : None ≡ Some x = h.1 in cc)
-has_any (y ∷ xs) x (zero, at) = go (eqb x y) (eqb_same x y (sym (one_value y x at)))
-  where
-    eqb_same : (a b : ℕ) → a ≡ b → eqb a b ≡ true
-    eqb_same a b e = grind (arith, nat_tests)
-
-    go : (b : Bool) → b ≡ true → (b || list_any (eqb x) xs) ≡ true
-    go true e = refl
-    go false e = absurd (let z : false ≡ true = e in cc)
-has_any (y ∷ xs) x (suc i, at) = go (eqb x y) (has_any xs x (i, at))
-  where
-    go : (b : Bool) → list_any (eqb x) xs ≡ true → (b || list_any (eqb x) xs) ≡ true
-    go true h = refl
-    go false h = h
 
 first_has : (y : ℕ) (xs : List ℕ) (x : ℕ) → y ≡ x → Has (y ∷ xs) x
 first_has y xs x is = (0, ap Some is)
@@ -121,70 +46,9 @@ unfolding IsDistinct
 once_distinct [] once = tt
 once_distinct (x ∷ xs) once = IsDistinct-cons eqb x xs (all_apart xs x once.0) (once_distinct xs once.1)
 
--- each number below n stands once, and no other
-many_once : (xs : List ℕ) (n : ℕ) → Once xs → ((x : ℕ) → Has xs x → x < n) → ((x : ℕ) → x < n → Has xs x) → length xs ≡ n
-many_once xs n once below each =
-    let most = length-le_from_distinct_below xs n (once_distinct xs once) (λ x h. below x (any_has xs x h)) in
-    let least = le-length_from_below xs n (λ x low. has_any xs x (each x low)) in
-    omega arith
-
 -- ---- components and waves
 
 stands : (cs : List (List ℕ)) (k x : ℕ) → Has (get_or cs k []) x → StandsIn cs k x
 stands [] k x h = absurd (let z : None ≡ Some x = h.1 in cc)
 stands (m ∷ cs) zero x h = (m, refl, h)
 stands (m ∷ cs) (suc k) x h = stands cs k x h
-
-unstands : (cs : List (List ℕ)) (k x : ℕ) → StandsIn cs k x → Has (get_or cs k []) x
-unstands [] k x s = absurd (let z : None ≡ Some s.0 = s.1 in cc)
-unstands (m ∷ cs) zero x s = subst (λ (l : List ℕ). Has l x) (sym (one_value m s.0 s.1)) s.2
-unstands (m ∷ cs) (suc k) x s = unstands cs k x s
-
-once_members : (k : ℕ) → (cs : List (List ℕ)) → ((j : ℕ) (ms : List ℕ) → slice_get cs j ≡ Some ms → IsRising ms × (0 < length ms)) → Once (get_or cs k [])
-once_members k [] each = tt
-once_members zero (m ∷ cs) each = rising_once m (each 0 m refl).0
-once_members (suc k) (m ∷ cs) each = once_members k cs (λ j ms at. each (suc j) ms at)
-
-module _ (edges components waves : List (List ℕ)) (c : AreComponents edges components) (w : AreWaves edges components waves) where
-  abbrev members : ℕ → List ℕ
-  members k = get_or components k []
-
-  abbrev in_wave : List ℕ → List ℕ
-  in_wave ks = flat_map members ks
-
-  itself : (x : ℕ) → AreMutual edges x x
-  itself x = (here, here)
-
-  one_component : (k j x : ℕ) → Has (members k) x → Has (members j) x → k ≡ j
-  one_component k j x a b = c.apart k j x x (stands components k x a) (stands components j x b) (itself x)
-
-  once_wave : (v : ℕ) (ks : List ℕ) → slice_get waves v ≡ Some ks → Once (in_wave ks)
-  once_wave v ks at =
-      once_flat members ks (λ i k there. once_members k components c.each)
-      (λ i j k l x p q a b. rising_place ks i j k (w.each v ks at).0 p (q ∙ ap Some (sym (one_component k l x a b))))
-
-  once_all : Once (flat_map in_wave waves)
-  once_all =
-      once_flat in_wave waves once_wave
-      (λ i j ks ls x p q a b.
-      let r = has_flat members ks x a in let t = has_flat members ls x b in
-      let same : r.1 ≡ t.1 = one_component r.1 t.1 x r.3 t.3 in
-      w.once i j r.1 (ks, p, (r.0, r.2)) (ls, q, (t.0, t.2 ∙ ap Some (sym same))))
-
-  all_below : (x : ℕ) → Has (flat_map in_wave waves) x → x < length edges
-  all_below x h = let r = has_flat in_wave waves x h in let t = has_flat members r.1 x r.3 in c.within t.1 x (stands components t.1 x t.3)
-
-  all_there : (x : ℕ) → x < length edges → Has (flat_map in_wave waves) x
-  all_there x low =
-      let k = c.whole x low in
-      let v = w.whole k.0 (within_there components k.0 k.1.0 k.1.1) in
-      flat_has in_wave waves v.0 v.1.0 x v.1.1 (flat_has members v.1.0 v.1.2.0 k.0 x v.1.2.1 (unstands components k.0 x k.1))
-
-  all_many : sum_by (λ ks. sum_by (λ k. length (members k)) ks) waves ≡ length edges
-  all_many =
-      ap (λ (f : List ℕ → ℕ). sum_by f waves) (λ j ks. sym (length-flat_map members ks) j)
-      ∙ (sym (length-flat_map in_wave waves) ∙ many_once (flat_map in_wave waves) (length edges) once_all all_below all_there)
-
--- all waves have all modules
-pub all_members : (s : Sources) (g : Graph) → AreSources s → IsGraphOf s g → members_from g 0 ≡ length s.root.modules
-all_members s g sources graph = ap (sum_by (members_of g)) (drop_none g.waves) ∙ all_many g.edges.items g.components g.waves graph.components graph.waves ∙ edges_many s g sources graph

@@ -3,12 +3,9 @@ pub mod Counts
 pub mod Edges
 pub mod Fronts
 pub mod Jobs
-pub mod Lefts
 pub mod Lists
 pub mod Merges
-pub mod Nexts
 pub mod Results
-pub mod Sourcing
 pub mod Sums
 pub mod Waves
 pub mod Works

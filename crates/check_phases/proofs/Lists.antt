@@ -1,5 +1,5 @@
 -- Lists that grow at their end beside others.
-use Rattle.std.proofs.Common.{◌≡◌, ℕ, zero, suc, ◌+◌, ◌<◌, List, [], ◌∷◌, ◌++◌, map, length, take, drop, get_or, slice_get, Some, None, refl, sym, ap, subst, arith}
+use Rattle.std.proofs.Common.{◌≡◌, ℕ, zero, suc, ◌+◌, ◌<◌, List, [], ◌∷◌, ◌++◌, map, length, take, get_or, slice_get, Some, None, refl, sym, ap, subst, arith}
 use Rattle.std.specs.List.{AllZip}
 use Rattle.check_values.specs.Roots as roots
 use Rattle.check_values.specs.declared.root.Root.{Root}
@@ -31,10 +31,6 @@ module _ {A : Type 0} where
   place_at [] i d low = absurd (omega arith)
   place_at (x ∷ xs) zero d low = refl
   place_at (x ∷ xs) (suc i) d low = place_at xs i d (omega arith)
-
-  pub drop_none : (xs : List A) → drop 0 xs ≡ xs
-  drop_none [] = refl
-  drop_none (x ∷ xs) = refl
 
   -- one more element
   pub take_next : (xs : List A) (i : ℕ) (x : A) → slice_get xs i ≡ Some x → take (i + 1) xs ≡ take i xs ++ x ∷ []

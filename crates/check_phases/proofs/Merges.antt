@@ -1,11 +1,10 @@
 -- Jobs, and the signatures that they give.
-use Rattle.std.proofs.Common.{◌≡◌, ℕ, zero, suc, ◌+◌, ◌<◌, List, [], ◌∷◌, ◌++◌, All, map, length, take, get_or, slice_get, Option, Some, None, refl, sym, ap, ◌∙◌, subst, append-nil, append_assoc}
+use Rattle.std.proofs.Common.{◌≡◌, ℕ, zero, suc, ◌+◌, ◌<◌, List, [], ◌∷◌, ◌++◌, map, length, take, get_or, slice_get, Option, Some, None, refl, sym, ap, ◌∙◌, append-nil, append_assoc}
 use Rattle.std.specs.Prelude.{option_to_list}
-use Rattle.std.specs.List.{AllZip, flat_map}
+use Rattle.std.specs.List.{flat_map}
 use Rattle.std.proofs.lemmas.List.{length-map}
-use Rattle.std.proofs.lemmas.List.Elements.{All-from_get_or}
-use Rattle.heap_core.proofs.Lists.{get_index, get_there}
-use Rattle.flow_base.specs.Program.{Bytes, paths_of}
+use Rattle.heap_core.proofs.Lists.{get_index}
+use Rattle.flow_base.specs.Program.{Bytes}
 use Rattle.check_values.specs.Rows.{Rows}
 use Rattle.check_values.specs.Roots as roots
 use Rattle.check_values.specs.declared.root.RootRow.{RootRow}
@@ -16,19 +15,14 @@ use Rattle.check_values.specs.declared.signatures.LocalSig.{LocalSig}
 use Rattle.check_values.specs.declared.signatures.Sig.{Sig}
 use Rattle.source_front.specs.declared.parse.Parse.{Parse}
 use Rattle.named_rows.proofs.Lists.{flat_more}
-use Rattle.graph_search.specs.Cycles.{AreWithin}
-use Rattle.graph_search.specs.Components.{AreComponents}
-use Rattle.graph_search.specs.Waves.{AreWaves}
 use Rattle.merged_signatures.specs.Chains.{Known}
 use Rattle.program_check.specs.Full.{beside}
 use Rattle.check_phases.specs.Phases.{AreParsed, knowns}
-use Rattle.check_phases.specs.Edges.{LeadTo, AreEdges}
 use Rattle.check_phases.specs.Sourced.{program_in, paths_in, AreSources}
-use Rattle.check_phases.specs.Merging.{IsGraphOf, known_rows, member_at, made_row, made_at, outside_of, outside_at}
+use Rattle.check_phases.specs.Merging.{known_rows, member_at, made_row, made_at}
 use Rattle.check_phases.specs.declared.merging.Sources.{Sources}
-use Rattle.check_phases.specs.declared.merging.Graph.{Graph}
-use Rattle.check_phases.proofs.Edges.{length_lists, length_paths}
-use Rattle.check_phases.proofs.Lists.{one_value, value_at, zip_length}
+use Rattle.check_phases.proofs.Edges.{length_lists}
+use Rattle.check_phases.proofs.Lists.{one_value, zip_length}
 
 -- there are as many sources and lists as modules
 pub as_many : (s : Sources) → AreSources s → (length s.parses.items ≡ length s.root.modules) × (length s.lists.items ≡ length s.root.modules)
@@ -107,39 +101,7 @@ members_more s group i x old new row within is so_far at adds =
     let here : row ∷ [] ≡ f (get_or group i 0) = sym (ap (λ (o : Option (Bytes × Known)). option_to_list o) at) ∙ ap f is in
     adds ∙ ((λ j. so_far j ++ here j) ∙ sym (flat_more f group i 0 within))
 
-pub others_more : (s : Sources) (g : Graph) (made : List (Option Sig)) (group : List ℕ) (i x : ℕ) (ys : List ℕ) (old new : Rows Sig) → i < length group → x ≡ get_or group i 0 → x < length g.edges.items → ys ≡ get_or g.edges.items x ys
-    → old ≡ flat_map (outside_at s g made) (take i group) → new ≡ old ++ flat_map (made_at s made) ys → new ≡ flat_map (outside_at s g made) (take (i + 1) group)
-others_more s g made group i x ys old new within is low is_ys so_far adds =
-    let f : ℕ → Rows Sig = outside_at s g made in
-    let here : flat_map (made_at s made) ys ≡ f (get_or group i 0) = ap (outside_of s made) (sym (get_index g.edges.items x ys low is_ys)) ∙ ap f is in
-    adds ∙ ((λ j. so_far j ++ here j) ∙ sym (flat_more f group i 0 within))
-
 -- ---- the edges
-
-zip_there : {A B : Type 0} (R : A → B → Type 0) (xs : List A) (ys : List B) (i : ℕ) (y : B) → AllZip R xs ys → slice_get ys i ≡ Some y → (x : A) × R x y
-zip_there {A} {B} R [] [] i y all at = absurd (let z : None ≡ Some y = at in cc)
-zip_there {A} {B} R [] (b ∷ ys) i y all at = absurd all
-zip_there {A} {B} R (a ∷ xs) [] i y all at = absurd all
-zip_there {A} {B} R (a ∷ xs) (b ∷ ys) zero y all at = (a, subst (λ (c : B). R a c) (one_value b y at) all.0)
-zip_there {A} {B} R (a ∷ xs) (b ∷ ys) (suc i) y all at = zip_there R xs ys i y all.1 at
-
--- there is a list of edges for each module
-pub edges_many : (s : Sources) (g : Graph) → AreSources s → IsGraphOf s g → length g.edges.items ≡ length s.root.modules
-edges_many s g are graph = zip_length _ s.lists.items g.edges.items graph.edges ∙ (as_many s are).1
-
--- and they lead to modules
-pub edges_within : (s : Sources) (g : Graph) (x : ℕ) (ys : List ℕ) → IsGraphOf s g → slice_get g.edges.items x ≡ Some ys → All (λ y. y < length s.root.modules) ys
-edges_within s g x ys graph at =
-    let lead = zip_there (LeadTo (paths_in s)) s.lists.items g.edges.items x ys graph.edges at in
-    subst (λ (n : ℕ). All (λ y. y < n) ys) (length_paths s.root.modules) lead.1.within
-
-pub edges_low : (s : Sources) (g : Graph) (x n : ℕ) (ys : List ℕ) → IsGraphOf s g → n ≡ length s.root.modules → x < length g.edges.items → ys ≡ get_or g.edges.items x ys → All (λ y. y < n) ys
-edges_low s g x n ys graph many low is = subst (λ (m : ℕ). All (λ y. y < m) ys) (sym many) (edges_within s g x ys graph (get_index g.edges.items x ys low is))
-
-pub edges_all : (paths : List Bytes) (lists : List Deps) (edges : List (List ℕ)) → AreEdges paths lists edges → All (λ ys. All (λ y. y < length paths) ys) edges
-edges_all paths lists edges are = All-from_get_or (λ (ys : List ℕ). All (λ y. y < length paths) ys) edges [] (λ i within.
-    let there = get_there edges i within in
-    subst (λ (ys : List ℕ). All (λ y. y < length paths) ys) (value_at edges i there.0 [] there.1) (zip_there (LeadTo paths) lists edges i there.0 are there.1).1.within)
 
 pub map_more : {A B : Type 0} (f : A → B) (xs : List A) (x : A) → map f (xs ++ x ∷ []) ≡ map f xs ++ f x ∷ []
 map_more f [] x = refl
@@ -150,21 +112,3 @@ map_more {A} {B} f (y ∷ xs) x = ap (λ (l : List B). f y ∷ l) (map_more f xs
 -- what each source says, of as many modules
 pub parses_many : (root : Root) (parses : List Parse) → AreParsed (program_of root) parses → length parses ≡ length root.modules
 parses_many root parses are = zip_length _ (program_of root) parses are ∙ length-map root.modules (λ (m : RootRow). (m.path, m.text))
-
--- the edges of the lists of a root
-pub graph_many : (s : Sources) (root : Root) (lists : List Deps) (edges : List (List ℕ)) → AreSources s → root ≡ s.root → lists ≡ s.lists.items → AreEdges (roots.paths_of root) lists edges → length edges ≡ length s.root.modules
-graph_many s root lists edges are same all leads = zip_length _ lists edges leads ∙ (ap length all ∙ many_lists s are)
-
-pub graph_within : (s : Sources) (root : Root) (lists : List Deps) (edges : List (List ℕ)) → AreSources s → root ≡ s.root → lists ≡ s.lists.items → AreEdges (roots.paths_of root) lists edges → AreWithin edges
-graph_within s root lists edges are same all leads =
-    let many : length (roots.paths_of root) ≡ length edges = length_paths root.modules ∙ (ap (λ (r : Root). length r.modules) same ∙ sym (graph_many s root lists edges are same all leads)) in
-    subst (λ (n : ℕ). All (λ ys. All (λ y. y < n) ys) edges) many (edges_all (roots.paths_of root) lists edges leads)
-
--- they are the graph of the modules
-pub graph_made : (s : Sources) (root : Root) (lists : List Deps) (all : List (List ℕ)) (g : Graph) → root ≡ s.root → lists ≡ s.lists.items → all ≡ g.edges.items → AreEdges (roots.paths_of root) lists g.edges.items → AreComponents all g.components
-    → AreWaves all g.components g.waves → IsGraphOf s g
-graph_made s root lists all g same_root same_lists same edges components waves = record {
-  edges = subst (λ (r : Root). AreEdges (roots.paths_of r) s.lists.items g.edges.items) same_root (subst (λ (ls : List Deps). AreEdges (roots.paths_of root) ls g.edges.items) same_lists edges);
-  components = subst (λ (es : List (List ℕ)). AreComponents es g.components) same components;
-  waves = subst (λ (es : List (List ℕ)). AreWaves es g.components g.waves) same waves;
-}

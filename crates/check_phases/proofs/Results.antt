@@ -1,5 +1,5 @@
 -- The lists that the phases made are the full check.
-use Rattle.std.proofs.Common.{◌≡◌, suc, List, [], ◌∷◌, map, length, sum_by, refl, sym, ap, subst, arith}
+use Rattle.std.proofs.Common.{◌≡◌, List, [], ◌∷◌, map, length, sum_by, refl, sym, ap, subst, arith}
 use Rattle.std.proofs.lemmas.List.Sums.{sum_by-cons}
 use Rattle.flow_base.specs.Program.{Bytes, Program, paths_of}
 use Rattle.check_values.specs.Rows.{row_at}
@@ -50,18 +50,6 @@ module _ (paths : List Bytes) (v : View) (s : Sigs) where
   all_results (m ∷ program) (x ∷ parses) (y ∷ sigs) [] p q c l = absurd (omega (arith, l))
   all_results (m ∷ program) (x ∷ parses) (y ∷ sigs) (e ∷ errors) p q c l =
       (record { parse = p.0; deps = refl; sig = q.0; errors = c.0 }, all_results program parses sigs errors p.1 q.1 c.1 (omega (arith, l)))
-
--- how many there are
-pub length_results : (paths : List Bytes) (v : View) (s : Sigs) (program : Program) (parses : List Parse) (sigs : List Sig) (errors : List Errs)
-    → AreParsed program parses → AreMerged v program sigs → AreChecked s program parses (lists_in paths program parses) errors → length errors ≡ length program
-    → length (results_by parses (lists_in paths program parses) sigs errors) ≡ length program
-length_results paths v s [] [] sigs errors p m c l = refl
-length_results paths v s [] (x ∷ parses) sigs errors p m c l = absurd p
-length_results paths v s (m ∷ program) [] sigs errors p q c l = absurd p
-length_results paths v s (m ∷ program) (x ∷ parses) [] errors p q c l = absurd q
-length_results paths v s (m ∷ program) (x ∷ parses) (y ∷ sigs) [] p q c l = absurd (omega (arith, l))
-length_results paths v s (m ∷ program) (x ∷ parses) (y ∷ sigs) (e ∷ errors) p q c l =
-    ap suc (length_results paths v s program parses sigs errors p.1 q.1 c.1 (omega (arith, l)))
 
 -- and how many errors they have
 pub errors_counted : (paths : List Bytes) (v : View) (s : Sigs) (program : Program) (parses : List Parse) (sigs : List Sig) (errors : List Errs)

@@ -2,7 +2,6 @@
 use Rattle.std.proofs.Common.{◌≡◌, ℕ, ◌+◌, ◌<◌, List, length, take, get_or, sum_by, ap, ◌∙◌, arith}
 use Rattle.std.proofs.lemmas.List.Sums.{sum_by_more}
 use Rattle.check_values.specs.declared.faults.Errs.{Errs}
-use Rattle.source_front.specs.declared.parse.Parse.{Parse}
 use Rattle.check_phases.proofs.Lists.{take_whole}
 
 pub more_errors : (all : List Errs) (i n more : ℕ) (errs : Errs) (m : ℕ) → i < length all → errs ≡ get_or all i errs → n ≡ sum_by (λ (e : Errs). length e.faults) (take i all) → more ≡ length errs.faults → m ≡ n + more
@@ -14,13 +13,3 @@ more_errors all i n more errs m within is so_far adds sum =
 
 pub all_errors : (all : List Errs) (n : ℕ) → n ≡ sum_by (λ (e : Errs). length e.faults) (take (length all) all) → n ≡ sum_by (λ (e : Errs). length e.faults) all
 all_errors all n is = is ∙ ap (sum_by (λ (e : Errs). length e.faults)) (take_whole all)
-
-pub more_exports : (all : List Parse) (i n more : ℕ) (parse : Parse) (m : ℕ) → i < length all → parse ≡ get_or all i parse → n ≡ sum_by (λ (p : Parse). length p.sig.exports) (take i all) → more ≡ length parse.sig.exports → m ≡ n + more
-    → m ≡ sum_by (λ (p : Parse). length p.sig.exports) (take (i + 1) all)
-more_exports all i n more parse m within is so_far adds sum =
-    let next = sum_by_more (λ (p : Parse). length p.sig.exports) all i parse within in
-    let here : length parse.sig.exports ≡ length (get_or all i parse).sig.exports = ap (λ (p : Parse). length p.sig.exports) is in
-    omega (arith, next, here, so_far, adds, sum)
-
-pub all_exports : (all : List Parse) (n : ℕ) → n ≡ sum_by (λ (p : Parse). length p.sig.exports) (take (length all) all) → n ≡ sum_by (λ (p : Parse). length p.sig.exports) all
-all_exports all n is = is ∙ ap (sum_by (λ (p : Parse). length p.sig.exports)) (take_whole all)

@@ -1,8 +1,8 @@
 -- Work that adds up.
-use Rattle.std.proofs.Common.{◌≡◌, ℕ, ◌+◌, ◌-◌, ◌^◌, ◌<◌, ◌≤◌, List, length, take, get_or, sum_by, refl, sym, ap, ◌∙◌, subst, arith}
+use Rattle.std.proofs.Common.{◌≡◌, ℕ, ◌+◌, ◌-◌, ◌^◌, ◌<◌, ◌≤◌, List, length, take, get_or, sum_by, sym, ap, ◌∙◌, subst, arith}
 use Rattle.std.proofs.lemmas.List.Sums.{sum_by_more, sum_by-take-le}
 use Rattle.graph_search.proofs.Lists.{take_whole}
-use Rattle.analyst.specs.Work.{Work, work_of, no_work, fronting, fronts_of, merging, checking, checks_of, risen, done, RisesWithin, IsWithin, IsCounted}
+use Rattle.analyst.specs.Work.{Work, work_of, no_work, merging, checking, checks_of, risen, done, RisesWithin, IsWithin, IsCounted}
 
 -- the work of both
 abbrev pub both : Work → Work → Work
@@ -27,11 +27,6 @@ rises_all c a all low part = (omega arith, omega arith)
 
 rises_more : (c a now b all : ℕ) → c < 2 ^ 64 → a + b ≤ all → RisesWithin (risen c a) now b → RisesWithin c now all
 rises_more c a now b all low part rises = (let r = rises.0 in omega arith, let r = rises.1 in omega arith)
-
-rises_then : (c mid now a b all : ℕ) → a + b ≤ all → RisesWithin c mid a → RisesWithin mid now b → RisesWithin c now all
-rises_then c mid now a b all part first then =
-    let f0 = first.0 in let f1 = first.1 in let t0 = then.0 in let t1 = then.1 in
-    (omega arith, omega arith)
 
 -- ---- all three
 
@@ -67,25 +62,6 @@ within_more w mid now a b all low first rest part =
       checks = rises_more w.checks a.checks now.checks b.checks all.checks low.checks part.checks r.checks;
     }
 
--- some was done within one part, and then some within another
-pub within_then : (w mid now a b all : Work) → IsWithin w mid a → IsWithin mid now b → IsPart (both a b) all → IsWithin w now all
-within_then w mid now a b all first rest part = record {
-  fronts = rises_then w.fronts mid.fronts now.fronts a.fronts b.fronts all.fronts part.fronts first.fronts rest.fronts;
-  merges = rises_then w.merges mid.merges now.merges a.merges b.merges all.merges part.merges first.merges rest.merges;
-  checks = rises_then w.checks mid.checks now.checks a.checks b.checks all.checks part.checks first.checks rest.checks;
-}
-
--- what was left is done, as it was to be from the start
-pub within_left : (w mid now left total : Work) → IsWithin w mid total → done mid left ≡ done w total → IsWithin mid now left → IsWithin w now total
-within_left w mid now left total first same rest = record {
-  fronts = one w.fronts mid.fronts now.fronts left.fronts total.fronts first.fronts (ap (λ (k : Work). k.fronts) same) rest.fronts;
-  merges = one w.merges mid.merges now.merges left.merges total.merges first.merges (ap (λ (k : Work). k.merges) same) rest.merges;
-  checks = one w.checks mid.checks now.checks left.checks total.checks first.checks (ap (λ (k : Work). k.checks) same) rest.checks;
-}
-  where
-    one : (c m n l t : ℕ) → RisesWithin c m t → risen m l ≡ risen c t → RisesWithin m n l → RisesWithin c n t
-    one c m n l t a e b = let a0 = a.0 in let b0 = b.0 in let b1 = b.1 in (omega arith, omega arith)
-
 -- the same, where what was done is all
 pub within_same : (w now all : Work) → IsCounted w → now ≡ done w all → IsWithin w now all
 within_same w now all low is = within_all w now all all low is (record { fronts = omega arith; merges = omega arith; checks = omega arith })
@@ -99,15 +75,6 @@ members_within n m w now same within = subst (λ (k : ℕ). IsWithin w now (merg
 
 -- ---- as loops have it
 
--- one more source
-pub fronts_part : (i n : ℕ) (w mid now : Work) → IsCounted w → i < n → mid ≡ done w (fronts_of i) → IsWithin mid now fronting → IsWithin w now (fronts_of n)
-fronts_part i n w mid now low below so_far rest = within_more w mid now (fronts_of i) fronting (fronts_of n) low so_far rest (record { fronts = omega arith; merges = omega arith; checks = omega arith })
-
-pub fronts_done : (i n : ℕ) (w mid now : Work) → IsCounted w → i < n → mid ≡ done w (fronts_of i) → now ≡ done mid fronting → IsWithin w now (fronts_of n)
-fronts_done i n w mid now low below so_far rest =
-    within_all w now (fronts_of (i + 1)) (fronts_of n) low (worked_more w mid now (fronts_of i) fronting (fronts_of (i + 1)) so_far rest refl) (record { fronts = omega arith; merges = omega arith; checks = omega arith })
-
--- one more component of a wave
 module _ (f : ℕ → ℕ) (ks : List ℕ) (i : ℕ) (w mid now : Work) where
   pub merges_more : i < length ks → mid ≡ done w (merging (sum_by f (take i ks))) → now ≡ done mid (merging (f (get_or ks i 0))) → now ≡ done w (merging (sum_by f (take (i + 1) ks)))
   merges_more below so_far rest =

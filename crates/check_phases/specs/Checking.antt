@@ -1,19 +1,11 @@
 -- What a module is checked by.
-use Rattle.std.specs.Prelude.{◌≡◌, ℕ, ◌+◌, min, List, slice_get, Some, option_to_list}
+use Rattle.std.specs.Prelude.{◌≡◌, ℕ, ◌+◌, min, slice_get, Some, option_to_list}
 use Rattle.check_values.specs.Rows.{Rows, row_at}
 use Rattle.check_values.specs.declared.signatures.Sig.{Sig}
 use Rattle.errors_by_reach.specs.Law.{Agree}
-use Rattle.import_sayings.specs.Reached.{AreNumbers}
 use Rattle.check_job.specs.declared.job.CheckJob.{CheckJob}
-use Rattle.program_check.specs.Full.{beside}
 use Rattle.check_phases.specs.Sourced.{program_in}
-use Rattle.check_phases.specs.declared.checking.Signed.{Signed}
 use Rattle.check_phases.specs.declared.merging.Sources.{Sources}
-
--- these are the signatures of all modules by their paths, and the numbers of the paths
-pub record AreSigned (s : Sources) (sigs : List Sig) (signed : Signed) : Type 0 where
-  pub rows : signed.rows ≡ beside (program_in s) sigs
-  pub numbers : AreNumbers signed.rows signed.numbers
 
 -- the row of a number, if it has one
 abbrev pub picked : Rows Sig → ℕ → Rows Sig

@@ -1,10 +1,9 @@
 -- All results of the modules of a program, and the work of it.
-use Rattle.std.specs.Prelude.{◌≡◌, ℕ, List, length}
+use Rattle.std.specs.Prelude.{◌≡◌, List, length}
 use Rattle.check_values.specs.Rows.{row_at}
 use Rattle.check_values.specs.declared.signatures.Sig.{Sig}
 use Rattle.errors_by_reach.specs.Seen.{Sigs}
 use Rattle.program_check.specs.Full.{beside}
-use Rattle.analyst.specs.Work.{Work, work_of}
 use Rattle.check_phases.specs.Phases.{AreMerged, AreChecked}
 use Rattle.check_phases.specs.Sourced.{program_in, view_in, AreSources}
 use Rattle.check_phases.specs.declared.merging.Sources.{Sources}
@@ -20,7 +19,3 @@ pub record AreMade (made : Made) : Type 0 where
   pub merged : AreMerged (view_in made.sources) (program_in made.sources) made.signatures.items
   pub checked : AreChecked (sigs_by made.sources made.signatures.items) (program_in made.sources) made.sources.parses.items made.sources.lists.items made.errors.items
   pub many : length made.errors.items ≡ length made.sources.root.modules
-
--- the work of checking so many modules
-abbrev pub whole_work : ℕ → Work
-whole_work modules = work_of modules modules modules

@@ -1,14 +1,11 @@
-//! The full check of a root's program, by phases: each takes what the ones before it made, and goes on with one stage of work, behind
-//! which a poll may stand.
+//! All results of a program's modules as they are worked with, beside one another: what each source says by itself, its dependency list,
+//! its merged signature and its errors.
 #![tactic(auto)]
 
 mod checking;
-mod fronting;
-mod listing;
 mod merging;
 mod phases;
-mod work;
 
 pub use checking::count_errors;
 pub use merging::Sources;
-pub use phases::{Made, make_all};
+pub use phases::Made;

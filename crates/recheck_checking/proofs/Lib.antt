@@ -3,6 +3,7 @@ pub mod Clears
 pub mod Filled
 pub mod Keeps
 pub mod Old
+pub mod Puts
 pub mod Rightly
 pub mod Sees
 pub mod Signs

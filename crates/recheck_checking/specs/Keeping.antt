@@ -1,5 +1,5 @@
 -- Which of the old errors are kept.
-use Rattle.std.specs.Prelude.{◌≡◌, ◌<◌, ℕ, List, length, slice_get, Option, Some, None}
+use Rattle.std.specs.Prelude.{◌≡◌, ◌<◌, ℕ, List, ◌∷◌, length, slice_get, slice_set, Option, Some, None}
 use Rattle.check_values.specs.declared.faults.Errs.{Errs}
 use Rattle.graph_search.specs.Cycles.{Has}
 
@@ -26,3 +26,8 @@ IsFilled slots x = (errs : Errs) × (slice_get slots x ≡ Some (Some errs))
 
 abbrev pub AreFilled : List (Option Errs) → Type 0
 AreFilled slots = (x : ℕ) → x < length slots → IsFilled slots x
+
+-- errors are put into the slots of some numbers, one after the other
+abbrev pub put_all : List ℕ → List Errs → List (Option Errs) → List (Option Errs)
+put_all (x ∷ numbers) (errs ∷ errors) slots = put_all numbers errors (slice_set slots x (Some errs))
+put_all numbers errors slots = slots

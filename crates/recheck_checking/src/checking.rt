@@ -1,20 +1,25 @@
 //! The errors of the modules that are checked.
-ghost use Rattle.std.specs.Prelude.{◌≡◌, ◌-◌, ◌<◌, ◌≤◌, All, IfOk, OnOk, length};
-ghost use Rattle.analyst.specs.Work.{Works, checking, checks_of};
+ghost use Rattle.std.specs.Prelude.{◌≡◌, ◌-◌, ◌<◌, ◌≤◌, All, IfOk, OnOk, length, map};
+ghost use Rattle.std.specs.List.{AllZip};
+ghost use Rattle.analyst.specs.Work.{Works, checks_of};
+ghost use Rattle.work_totals.specs.Totals.{total};
 ghost use Rattle.check_phases.specs.Checking.{IsJobOf, batch_after};
 ghost use Rattle.check_phases.specs.Sourced.{AreSources};
 ghost use Rattle.recheck_checking.specs.Checking.{IsCheckedBy, AreCheckedTo};
+ghost use Rattle.recheck_checking.specs.Keeping.{put_all};
 ghost use Rattle.recheck_checking.specs.Signing.{IsNumbered};
 
 use crate::keeping::ErrorSlots;
 use crate::signing::{Signed, modules_of, signatures_for};
-use crate::work::counted;
 use analyst::Analyst;
 use check_job::CheckJob;
 use check_phases::Sources;
 use check_values::Errs;
-use flow_values::{NoMemory, Shared};
+use flow_values::{List, NoMemory, Shared};
 use std::alloc::Global;
+use std::sync::Wait;
+use std::thread::Threads;
+use worker_jobs::run_checks;
 
 /// The most modules that are checked between two polls.
 const BATCH: usize = 64;
@@ -41,58 +46,108 @@ fn job_of(alloc: Global, sources: &Sources, signed: &Signed, x: usize) -> Result
     })
 }
 
-// The errors of the module of a number, by one analyst.
-#[tactic(auto, using(check_phases::proofs::Works::within_same, check_phases::proofs::Works::within_none))]
-fn errors_of<A: Analyst>(
+// The jobs of the modules of some numbers.
+fn jobs_for(
     alloc: Global,
-    analyst: &mut A,
     sources: &Sources,
     signed: &Signed,
-    x: usize,
-) -> Result<Shared<Errs>, NoMemory>
+    numbers: &[u32],
+) -> Result<Vec<CheckJob>, NoMemory>
     requires sources { AreSources sources.now }
-    requires within { x < length sources.now.root.modules }
+    requires within { All (λ x. x < length sources.now.root.modules) numbers.now }
     requires numbered { IsNumbered signed.now }
-    ensures errors { IfOk result (IsCheckedBy sources.now signed.now x) }
-    ensures work { Works result checking (A.work analyst.old) (A.work analyst.new) }
+    ensures { IfOk result (λ jobs. AllZip (IsJobOf sources.now signed.now.rows) numbers.now jobs.items) }
 {
-    counted(&*analyst);
-    reach_law::cut_is_right();
-    let job = job_of(alloc, sources, signed, x)?;
-    let errs = analyst.check(&job)?;
-    Ok(Shared::new(alloc, errs)?)
+    let mut jobs = Vec::new(alloc);
+    for i in 0..numbers.len() {
+        let job = job_of(alloc, sources, signed, numbers[i] as usize)?;
+        jobs.push(job)?;
+    }
+    Ok(jobs)
 }
 
-/// Checks the next modules of `checked`, at most 64 of them, and puts their errors into their slots: `done` of them are checked, and
-/// behind the call those of one more batch. `signed` are the merged signatures of the modules of `sources`.
+// Errors, each shared.
+fn shared_all(alloc: Global, errors: List<Errs>) -> Result<Vec<Shared<Errs>>, NoMemory>
+    ensures { IfOk result (λ all. all.items ≡ errors) }
+{
+    let mut all = Vec::new(alloc);
+    for errs in errors.into_vec() {
+        let kept = Shared::new(alloc, errs)?;
+        all.push(kept)?;
+    }
+    Ok(all)
+}
+
+// The errors of the modules of some numbers, by the analysts.
+#[tactic(auto, using(work_totals::proofs::Totals::none_within))]
+fn errors_of<R: Threads + Wait + Sync, A: Analyst + Send>(
+    rt: &R,
+    alloc: Global,
+    analysts: &mut [A],
+    sources: &Sources,
+    signed: &Signed,
+    numbers: &[u32],
+) -> Result<Vec<Shared<Errs>>, NoMemory>
+    requires some { 0 < length analysts.old }
+    requires sources { AreSources sources.now }
+    requires within { All (λ x. x < length sources.now.root.modules) numbers.now }
+    requires numbered { IsNumbered signed.now }
+    ensures errors { IfOk result (λ errors. AllZip (IsCheckedBy sources.now signed.now) numbers.now errors.items) }
+    ensures work { Works result (checks_of (length numbers.now)) (total (map A.work analysts.old)) (total (map A.work analysts.new)) }
+    ensures many { length analysts.new ≡ length analysts.old }
+{
+    reach_law::cut_is_right();
+    let jobs = jobs_for(alloc, sources, signed, numbers)?;
+    let errors = run_checks(rt, alloc, analysts, jobs.as_slice())?;
+    shared_all(alloc, errors)
+}
+
+// Puts the errors of the modules of some numbers into their slots.
+fn keep_all(
+    numbers: &[u32],
+    errors: &[Shared<Errs>],
+    slots: &mut ErrorSlots,
+) -> Result<(), NoMemory>
+    requires many { length errors.now ≡ length numbers.now }
+    requires within { All (λ x. x < length slots.old.items) numbers.now }
+    ensures { OnOk result (slots.new.items ≡ put_all numbers.now errors.now slots.old.items) }
+{
+    for i in 0..numbers.len() {
+        let kept = errors[i].share()?;
+        slots[numbers[i] as usize] = Some(kept);
+    }
+    Ok(())
+}
+
+/// Checks the next modules of `checked`, at most 64 of them, by the analysts, and puts their errors into their slots: `done` of them are
+/// checked, and behind the call those of one more batch. `signed` are the merged signatures of the modules of `sources`.
 ///
 /// # Errors
 ///
-/// `NoMemory` where memory is refused. The errors of some of them may be in their slots then.
-#[tactic(auto, using(check_phases::proofs::Works::checks_part, check_phases::proofs::Works::checks_done, crate::proofs::Batches::slot_there))]
-pub fn check_batch<A: Analyst>(
+/// `NoMemory` where memory is refused. The errors of some of them may be in their slots then, or of none.
+pub fn check_batch<R: Threads + Wait + Sync, A: Analyst + Send>(
+    rt: &R,
     alloc: Global,
-    analyst: &mut A,
+    analysts: &mut [A],
     sources: &Sources,
     signed: &Signed,
     checked: &[u32],
     done: usize,
     slots: &mut ErrorSlots,
 ) -> Result<(), NoMemory>
+    requires some { 0 < length analysts.old }
     requires sources { AreSources sources.now }
     requires numbered { IsNumbered signed.now }
     requires within { All (λ x. x < length sources.now.root.modules) checked.now }
     requires begun { done ≤ length checked.now }
     requires checked { AreCheckedTo sources.now signed.now checked.now done slots.old.items }
     ensures checked { OnOk result (AreCheckedTo sources.now signed.now checked.now (batch_after done (length checked.now)) slots.new.items) }
-    ensures work { Works result (checks_of (batch_after done (length checked.now) - done)) (A.work analyst.old) (A.work analyst.new) }
+    ensures work { Works result (checks_of (batch_after done (length checked.now) - done)) (total (map A.work analysts.old)) (total (map A.work analysts.new)) }
+    ensures many { length analysts.new ≡ length analysts.old }
 {
-    counted(&*analyst);
     let end = usize::min(checked.len(), done + BATCH);
-    for i in done..end {
-        let x = checked[i] as usize;
-        let errors = errors_of(alloc, analyst, sources, signed, x)?;
-        slots[x] = Some(errors);
-    }
-    Ok(())
+    let numbers = &checked[done..end];
+    let found = errors_of(rt, alloc, analysts, sources, signed, numbers)?;
+    let errors = found.as_slice();
+    keep_all(numbers, errors, slots)
 }

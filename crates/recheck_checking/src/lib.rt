@@ -5,7 +5,6 @@ mod checking;
 mod keeping;
 mod laws;
 mod signing;
-mod work;
 
 pub use checking::check_batch;
 pub use keeping::{ErrorSlots, kept_errors, whole_errors};

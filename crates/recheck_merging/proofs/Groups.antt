@@ -1,7 +1,6 @@
 -- The components of a plan are merged one after the other, and its waves.
 use Rattle.std.proofs.Common.{◌≡◌, ◌≢◌, ◌⊎◌, ℕ, zero, suc, ◌+◌, ◌<◌, ◌≤◌, Bool, true, false, List, [], ◌∷◌, All, map, length, take, get_or, slice_get, Option, Some, None, refl, sym, ap, ◌∙◌, subst, inl, inr, arith}
 use Rattle.std.proofs.lemmas.Bool.{cases_lt}
-use Rattle.analyst.specs.Work.{Work, done, IsWithin, merging}
 use Rattle.heap_core.specs.Meaning.{names}
 use Rattle.heap_core.proofs.Lists.{get_index}
 use Rattle.check_values.specs.declared.signatures.Sig.{Sig}
@@ -15,7 +14,7 @@ use Rattle.check_phases.specs.Merging.{IsMade, AreRight, HasMerged}
 use Rattle.check_phases.specs.declared.merging.Sources.{Sources}
 use Rattle.check_phases.proofs.Lists.{one_value, within_there, value_at, place_at, take_whole}
 use Rattle.check_phases.proofs.Waves.{named_has, has_named}
-use Rattle.recheck_merging.specs.Plans.{AreEdgesOf, IsPlan, numbers_at, edges_at, size_of}
+use Rattle.recheck_merging.specs.Plans.{AreEdgesOf, IsPlan, numbers_at, edges_at}
 use Rattle.recheck_merging.specs.Merging.{IsMember, AreMergedTo, AreMergedIn, IsReady}
 use Rattle.recheck_merging.specs.declared.planning.MergePlan.{MergePlan}
 use Rattle.recheck_merging.proofs.Among.{path_at_place}
@@ -141,11 +140,6 @@ ready_now s p wave n k ks places made sources plan at_wave at_k at_places merged
         let earlier = (waved s p plan).later k l wave v.0 depends (ks, at_wave, (n, at_k)) v.1 in
         merged.before v.0 l y earlier v.1 (j.0, there.1, j.1)
 
-pub ready_here : (s : Sources) (p : MergePlan) (wave i : ℕ) (places : List ℕ) (made : List (Option Sig)) → AreSources s → IsPlan s p → wave < length p.waves → i < length (get_or p.waves wave [])
-    → slice_get p.components (get_or (get_or p.waves wave []) i 0) ≡ Some places → AreMergedIn s p wave (take i (get_or p.waves wave [])) made → IsReady s (numbers_at p.merged places) (edges_at p.edges.items places) made
-ready_here s p wave i places made sources plan low_wave low at so_far =
-    ready_now s p wave i (get_or (get_or p.waves wave []) i 0) (get_or p.waves wave []) places made sources plan (place_at p.waves wave [] low_wave) (place_at (get_or p.waves wave []) i 0 low) at so_far.to
-
 -- one more component of the wave is merged
 pub merged_here : (s : Sources) (p : MergePlan) (wave i : ℕ) (places : List ℕ) (old new : List (Option Sig)) → slice_get p.components (get_or (get_or p.waves wave []) i 0) ≡ Some places
     → AreMergedIn s p wave (take i (get_or p.waves wave [])) old → HasMerged s (numbers_at p.merged places) old new → AreMergedIn s p wave (take (i + 1) (get_or p.waves wave [])) new
@@ -162,16 +156,6 @@ merged_here s p wave i places old new at so_far now = record {
         now.made x (has_named (numbers_at p.merged places) x (place_number p places member.0 x (subst (λ (l : List ℕ). Has l member.0) mine member.1.2) member.2))
   ];
 }
-
--- the size of a component
-size_here : (cs : List (List ℕ)) (k : ℕ) (places : List ℕ) → slice_get cs k ≡ Some places → length places ≡ length (get_or cs k [])
-size_here cs k places at = ap length (value_at cs k places [] at)
-
-pub worked_here : (p : MergePlan) (k : ℕ) (places : List ℕ) (before now : Work) → slice_get p.components k ≡ Some places → now ≡ done before (merging (length places)) → now ≡ done before (merging (size_of p k))
-worked_here p k places before now at is = is ∙ ap (λ (n : ℕ). done before (merging n)) (size_here p.components k places at)
-
-pub within_here : (p : MergePlan) (k : ℕ) (places : List ℕ) (before now : Work) → slice_get p.components k ≡ Some places → IsWithin before now (merging (length places)) → IsWithin before now (merging (size_of p k))
-within_here p k places before now at is = subst (λ (n : ℕ). IsWithin before now (merging n)) (size_here p.components k places at) is
 
 -- none of the wave is merged yet
 pub wave_begins : (s : Sources) (p : MergePlan) (wave : ℕ) (made : List (Option Sig)) → AreMergedTo s p wave made → AreMergedIn s p wave [] made

@@ -1,28 +1,103 @@
--- A group is merged by its job.
-use Rattle.std.proofs.Common.{◌≡◌, ℕ, List, length, sym, ap, ◌∙◌, subst, Option}
+-- The components of a wave are merged by their jobs.
+use Rattle.std.proofs.Common.{◌≡◌, ℕ, zero, suc, ◌+◌, ◌<◌, List, [], ◌∷◌, ◌++◌, map, length, take, get_or, slice_get, sum_by, Option, Some, None, refl, sym, ap, ◌∙◌, subst, arith}
+use Rattle.std.proofs.lemmas.List.Sums.{sum_by-cons}
+use Rattle.std.specs.List.{AllZip}
 use Rattle.check_values.specs.declared.signatures.Sig.{Sig}
 use Rattle.job_ends.specs.Jobs.{job_view}
 use Rattle.job_ends.specs.declared.job.MergeJob.{MergeJob}
-use Rattle.merged_signatures.specs.Job.{job_signatures}
+use Rattle.merged_signatures.specs.Job.{Job, job_signatures}
 use Rattle.merged_signatures.specs.Settled.{AJobTellsTheProgram}
 use Rattle.check_phases.specs.Sourced.{AreSources}
 use Rattle.check_phases.specs.Merging.{AreRight, HasMerged, put_all}
 use Rattle.check_phases.specs.declared.merging.Sources.{Sources}
-use Rattle.recheck_merging.specs.Plans.{numbers_at, edges_at}
-use Rattle.recheck_merging.specs.Merging.{job_by, IsReady}
+use Rattle.check_phases.proofs.Lists.{one_value, place_at, value_at, zip_length}
+use Rattle.recheck_merging.specs.Plans.{IsPlan, numbers_at, edges_at, size_of, members_in}
+use Rattle.recheck_merging.specs.Merging.{job_by, job_in, members_at, IsSigAt, AreSigsOf, AreMergedTo}
 use Rattle.recheck_merging.specs.declared.planning.MergePlan.{MergePlan}
-use Rattle.recheck_merging.proofs.Mapped.{length_mapped}
-use Rattle.recheck_merging.proofs.Puts.{has_merged}
+use Rattle.recheck_merging.proofs.Groups.{waved, ready_now, places_low}
+use Rattle.recheck_merging.proofs.Mapped.{length_mapped, mapped_more}
+use Rattle.recheck_merging.proofs.Outside.{group_within}
+use Rattle.recheck_merging.proofs.Puts.{job_signed, has_merged}
 
--- a group has as many numbers as places
-pub many_numbers : (merged places group : List ℕ) → group ≡ numbers_at merged places → length group ≡ length places
-many_numbers merged places group is = ap length is ∙ length_mapped _ places
+-- ---- one component, as the code has it
 
--- as the code has the group
-pub merged_by : AJobTellsTheProgram → (s : Sources) (p : MergePlan) (places group : List ℕ) (old view new : List (Option Sig)) (all given : List Sig) (job : MergeJob) → AreSources s → AreRight s old
-    → IsReady s (numbers_at p.merged places) (edges_at p.edges.items places) old → group ≡ numbers_at p.merged places → view ≡ old → all ≡ given → job_view job ≡ job_by s view group (edges_at p.edges.items places)
-    → given ≡ job_signatures (job_view job) → new ≡ put_all group all old → HasMerged s (numbers_at p.merged places) old new
-merged_by tells s p places group old view new all given job sources right ready is_group is_view is_all is_job is_given is_new =
-    has_merged tells s sources (numbers_at p.merged places) (edges_at p.edges.items places) old new all right ready
-    (is_all ∙ (is_given ∙ ap job_signatures (is_job ∙ (λ i. job_by s (is_view i) (is_group i) (edges_at p.edges.items places)))))
-    (is_new ∙ (λ i. put_all (is_group i) all old))
+pub job_here : (s : Sources) (p : MergePlan) (k : ℕ) (slots : List (Option Sig)) (places group : List ℕ) (job : Job) → slice_get p.components k ≡ Some places → group ≡ numbers_at p.merged places
+    → job ≡ job_by s slots group (edges_at p.edges.items places) → job ≡ job_in s p slots k
+job_here s p k slots places group job at is_group is =
+    let same : places ≡ get_or p.components k [] = value_at p.components k places [] at in
+    is ∙ (λ i. job_by s slots ((is_group ∙ ap (numbers_at p.merged) same) i) (edges_at p.edges.items (same i)))
+
+pub size_here : (p : MergePlan) (k n : ℕ) (places group : List ℕ) → slice_get p.components k ≡ Some places → group ≡ numbers_at p.merged places → n ≡ length group → n ≡ size_of p k
+size_here p k n places group at is_group many = many ∙ (ap length is_group ∙ (length_mapped _ places ∙ ap length (value_at p.components k places [] at)))
+
+-- ---- all of a wave
+
+-- one more, as the loop has it
+pub one_made : {A B : Type 0} (view : A → B) (f : ℕ → B) (ks : List ℕ) (i : ℕ) (x : A) (old new : List A) → i < length ks → view x ≡ f (get_or ks i 0) → map view old ≡ map f (take i ks) → new ≡ old ++ x ∷ [] → map view new ≡ map f (take (i + 1) ks)
+one_made view f ks i x old new low is so_far pushed =
+    ap (map view) pushed ∙ (map_last view old x ∙ ((λ j. so_far j ++ is j ∷ []) ∙ sym (mapped_more f ks i (get_or ks i 0) (place_at ks i 0 low))))
+  where
+    map_last : {A B : Type 0} (view : A → B) (xs : List A) (x : A) → map view (xs ++ x ∷ []) ≡ map view xs ++ view x ∷ []
+    map_last view [] x = refl
+    map_last view (y ∷ xs) x = ap (λ (l : List _). view y ∷ l) (map_last view xs x)
+
+zip_mapped : {A B : Type 0} (R : A → B → Type 0) (g : A → B) (xs : List A) → ((n : ℕ) (x : A) → slice_get xs n ≡ Some x → R x (g x)) → AllZip R xs (map g xs)
+zip_mapped R g [] each = tt
+zip_mapped R g (x ∷ xs) each = (each zero x refl, zip_mapped R g xs (λ n y at. each (suc n) y at))
+
+map_twice : {A B C : Type 0} (g : B → C) (f : A → B) (xs : List A) → map (λ x. g (f x)) xs ≡ map g (map f xs)
+map_twice g f [] = refl
+map_twice {A} {B} {C} g f (x ∷ xs) = ap (λ (l : List C). g (f x) ∷ l) (map_twice g f xs)
+
+-- the signatures that the jobs of a wave tell
+pub wave_signed : AJobTellsTheProgram → (s : Sources) (p : MergePlan) (wave : ℕ) (made : List (Option Sig)) (jobs : List MergeJob) (all : List (List Sig)) → AreSources s → IsPlan s p → wave < length p.waves → AreMergedTo s p wave made
+    → map job_view jobs ≡ map (job_in s p made) (get_or p.waves wave []) → all ≡ map (λ (job : MergeJob). job_signatures (job_view job)) jobs → AllZip (AreSigsOf s p) (get_or p.waves wave []) all
+wave_signed tells s p wave made jobs all sources plan low merged of_jobs told =
+    subst (λ (l : List (List Sig)). AllZip (AreSigsOf s p) ks l) (sym (told ∙ (map_twice job_signatures job_view jobs ∙ (ap (map job_signatures) of_jobs ∙ sym (map_twice job_signatures (job_in s p made) ks)))))
+    (zip_mapped (AreSigsOf s p) (λ (k : ℕ). job_signatures (job_in s p made k)) ks one)
+  where
+    ks : List ℕ
+    ks = get_or p.waves wave []
+
+    one : (n k : ℕ) → slice_get ks n ≡ Some k → AreSigsOf s p k (job_signatures (job_in s p made k))
+    one n k at =
+        let at_wave = place_at p.waves wave [] low in
+        let at_places = place_at p.components k [] ((waved s p plan).within wave k (ks, at_wave, (n, at))) in
+        job_signed tells s made (members_at p k) (edges_at p.edges.items (get_or p.components k [])) sources merged.right (ready_now s p wave n k ks (get_or p.components k []) made sources plan at_wave at at_places merged)
+
+-- the members of all jobs of a wave
+sum_mapped : {A : Type 0} (f : A → ℕ) (xs : List A) → sum_by f xs ≡ sum_by (λ n. n) (map f xs)
+sum_mapped f [] = refl
+sum_mapped f (x ∷ xs) = let rest = sum_mapped f xs in omega (arith, sum_by-cons f x xs, sum_by-cons (λ (n : ℕ). n) (f x) (map f xs))
+
+pub members_summed : (p : MergePlan) (wave : ℕ) (jobs : List MergeJob) → map (λ (job : MergeJob). length job.members) jobs ≡ map (size_of p) (get_or p.waves wave []) → sum_by (λ (job : MergeJob). length job.members) jobs ≡ members_in p wave
+members_summed p wave jobs same = sum_mapped (λ (job : MergeJob). length job.members) jobs ∙ (ap (sum_by (λ (n : ℕ). n)) same ∙ sym (sum_mapped (size_of p) (get_or p.waves wave [])))
+
+-- ---- and kept
+
+-- each shared
+pub zip_inside : {A B : Type 0} (R : ℕ → B → Type 0) (f : A → B) (ks : List ℕ) (xs : List A) → AllZip R ks (map f xs) → AllZip (λ k x. R k (f x)) ks xs
+zip_inside R f [] [] zip = tt
+zip_inside R f [] (x ∷ xs) zip = absurd zip
+zip_inside R f (k ∷ ks) [] zip = absurd zip
+zip_inside R f (k ∷ ks) (x ∷ xs) zip = (zip.0, zip_inside R f ks xs zip.1)
+
+-- those of one component among those of all
+pub zip_at : {A : Type 0} (R : ℕ → A → Type 0) (ks : List ℕ) (all : List A) (i : ℕ) (own : A) → AllZip R ks all → slice_get all i ≡ Some own → R (get_or ks i 0) own
+zip_at R [] [] i own zip at = absurd (let z : None ≡ Some own = at in cc)
+zip_at R [] (x ∷ all) i own zip at = absurd zip
+zip_at R (k ∷ ks) [] i own zip at = absurd zip
+zip_at R (k ∷ ks) (x ∷ all) zero own zip at = subst (R k) (one_value x own at) zip.0
+zip_at R (k ∷ ks) (x ∷ all) (suc i) own zip at = zip_at R ks all i own zip.1 at
+
+-- a component has as many signatures as numbers
+pub many_signed : (s : Sources) (p : MergePlan) (k : ℕ) (places group : List ℕ) (sigs all : List Sig) → slice_get p.components k ≡ Some places → group ≡ numbers_at p.merged places → AreSigsOf s p k sigs → all ≡ sigs → length all ≡ length group
+many_signed s p k places group sigs all at is_group signed is_all =
+    ap length is_all ∙ (zip_length (IsSigAt s) (members_at p k) sigs signed ∙ ap length (ap (numbers_at p.merged) (sym (value_at p.components k places [] at)) ∙ sym is_group))
+
+pub kept_by : (s : Sources) (p : MergePlan) (k : ℕ) (places group : List ℕ) (old new : List (Option Sig)) (sigs all : List Sig) → IsPlan s p → AreRight s old → slice_get p.components k ≡ Some places → group ≡ numbers_at p.merged places
+    → AreSigsOf s p k sigs → all ≡ sigs → new ≡ put_all group all old → HasMerged s (numbers_at p.merged places) old new
+kept_by s p k places group old new sigs all plan right at is_group signed is_all is_new =
+    let same : places ≡ get_or p.components k [] = value_at p.components k places [] at in
+    has_merged s (numbers_at p.merged places) old new sigs right (group_within s p places (numbers_at p.merged places) plan (places_low s p k places plan at) refl)
+    (subst (λ (l : List ℕ). AllZip (IsSigAt s) (numbers_at p.merged l) sigs) (sym same) signed) (is_new ∙ (λ i. put_all (is_group i) (is_all i) old))

@@ -5,15 +5,14 @@ use Rattle.std.proofs.lemmas.List.Elements.{All-get_or}
 use Rattle.check_values.specs.Rows.{Rows}
 use Rattle.check_values.specs.declared.signatures.Sig.{Sig}
 use Rattle.graph_search.specs.Cycles.{Has}
-use Rattle.check_phases.specs.Merging.{AreRight, made_at}
+use Rattle.check_phases.specs.Merging.{made_at}
 use Rattle.check_phases.specs.declared.merging.Sources.{Sources}
 use Rattle.check_phases.proofs.Lists.{place_at, value_at}
-use Rattle.check_phases.proofs.Waves.{has_named}
 use Rattle.recheck_merging.specs.Plans.{AreEdgesOf, IsPlan, numbers_at, edges_at}
-use Rattle.recheck_merging.specs.Merging.{outside_by, IsReady}
+use Rattle.recheck_merging.specs.Merging.{outside_by}
 use Rattle.recheck_merging.specs.declared.planning.MergePlan.{MergePlan}
 use Rattle.recheck_merging.proofs.Among.{all_low}
-use Rattle.recheck_merging.proofs.Mapped.{mapped_more, has_all}
+use Rattle.recheck_merging.proofs.Mapped.{mapped_more, mapped_from, all_has, has_all}
 
 flat_last : {A X : Type 0} (f : A → List X) (xs : List A) (y : A) → flat_map f (xs ++ y ∷ []) ≡ flat_map f xs ++ f y
 flat_last f [] y = append-nil (f y)
@@ -35,8 +34,11 @@ outside_more s made edges places i x ys old new low is low_x is_ys so_far adds =
     adds ∙ ((λ j. so_far j ++ f (here j)) ∙ (sym (flat_last f (map g (take i places)) (g x)) ∙ ap (flat_map f) (sym (mapped_more g places i x at))))
 
 -- the numbers of a group are those of modules, and have slots
-pub group_within : (s : Sources) (group : List ℕ) (edges : List (List ℕ)) (made : List (Option Sig)) → IsReady s group edges made → All (λ x. x < length s.root.modules) group
-group_within s group edges made ready = has_all (λ (x : ℕ). x < length s.root.modules) group (λ x has. ready.within x (has_named group x has))
+pub group_within : (s : Sources) (p : MergePlan) (places group : List ℕ) → IsPlan s p → All (λ i. i < length p.merged) places → group ≡ numbers_at p.merged places → All (λ x. x < length s.root.modules) group
+group_within s p places group plan low is = has_all (λ (x : ℕ). x < length s.root.modules) group (λ x has.
+    let from = mapped_from (λ (i : ℕ). get_or p.merged i 0) places has.0 x (ap (λ (l : List ℕ). slice_get l has.0) (sym is) ∙ has.1) in
+    let there = place_at p.merged from.0 0 (all_has (λ (i : ℕ). i < length p.merged) places low from.0 (has.0, from.1)) ∙ ap Some (sym from.2) in
+    all_has (λ (y : ℕ). y < length s.root.modules) p.merged plan.within x (from.0, there))
 
-pub group_low : (s : Sources) (group : List ℕ) (edges : List (List ℕ)) (made : List (Option Sig)) → AreRight s made → IsReady s group edges made → All (λ x. x < length made) group
-group_low s group edges made right ready = has_all (λ (x : ℕ). x < length made) group (λ x has. let low = ready.within x (has_named group x has) in let many = right.many in omega arith)
+pub group_low : (s : Sources) (p : MergePlan) (places group : List ℕ) (made : List (Option Sig)) → IsPlan s p → length made ≡ length s.root.modules → All (λ i. i < length p.merged) places → group ≡ numbers_at p.merged places → All (λ x. x < length made) group
+group_low s p places group made plan many low is = has_all (λ (x : ℕ). x < length made) group (λ x has. let small = all_has (λ (y : ℕ). y < length s.root.modules) group (group_within s p places group plan low is) x has in omega arith)

@@ -1,18 +1,20 @@
 -- How the modules of a plan are merged, wave by wave, beside signatures that are kept.
-use Rattle.std.specs.Prelude.{◌≡◌, ◌<◌, ℕ, true, false, List, [], map, length, slice_get, Option, Some}
-use Rattle.std.specs.List.{flat_map}
+use Rattle.std.specs.Prelude.{◌≡◌, ◌<◌, ℕ, true, false, List, [], map, length, get_or, slice_get, Option, Some}
+use Rattle.std.specs.List.{AllZip, flat_map}
+use Rattle.flow_base.specs.Program.{Bytes}
 use Rattle.check_values.specs.Rows.{Rows}
 use Rattle.check_values.specs.declared.signatures.Sig.{Sig}
 use Rattle.heap_core.specs.Meaning.{names}
 use Rattle.graph_search.specs.Cycles.{Has}
 use Rattle.graph_search.specs.Components.{StandsIn}
 use Rattle.merged_signatures.specs.Job.{Job}
+use Rattle.merged_signatures.specs.Merged.{merged}
 use Rattle.affected_sizes.specs.Polls.{IsImport}
 use Rattle.check_phases.specs.Phases.{AreMerged}
 use Rattle.check_phases.specs.Merging.{IsMade, AreRight, member_at, made_at}
 use Rattle.check_phases.specs.Sourced.{program_in, paths_in, view_in, AreSources}
 use Rattle.check_phases.specs.declared.merging.Sources.{Sources}
-use Rattle.recheck_merging.specs.Plans.{IsPlan, AreEdgesOf}
+use Rattle.recheck_merging.specs.Plans.{IsPlan, AreEdgesOf, numbers_at, edges_at}
 use Rattle.recheck_merging.specs.declared.planning.MergePlan.{MergePlan}
 
 -- the module of a number is a member of a component of the plan
@@ -49,6 +51,22 @@ pub record IsReady (s : Sources) (group : List ℕ) (edges : List (List ℕ)) (m
   pub within : (x : ℕ) → names group x ≡ true → x < length s.root.modules
   pub edges_are : AreEdgesOf s group edges
   pub before : (x y : ℕ) → names group x ≡ true → IsImport (view_in s) (paths_in s) x y → names group y ≡ false → IsMade made y
+
+-- the members of a component of the plan, by their numbers
+abbrev pub members_at : MergePlan → ℕ → List ℕ
+members_at p k = numbers_at p.merged (get_or p.components k [])
+
+-- the job of a component of the plan
+abbrev pub job_in : Sources → MergePlan → List (Option Sig) → ℕ → Job
+job_in s p made k = job_by s made (members_at p k) (edges_at p.edges.items (get_or p.components k []))
+
+-- this is the signature of the module of a number
+abbrev pub IsSigAt : Sources → ℕ → Sig → Type 0
+IsSigAt s x sig = (path : Bytes) → slice_get (paths_in s) x ≡ Some path → merged (view_in s) path ≡ Some sig
+
+-- these are those of the members of a component, in order
+abbrev pub AreSigsOf : Sources → MergePlan → ℕ → List Sig → Type 0
+AreSigsOf s p k sigs = AllZip (IsSigAt s) (members_at p k) sigs
 
 -- ---- all waves
 

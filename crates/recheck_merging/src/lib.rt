@@ -6,7 +6,6 @@ mod keeping;
 mod laws;
 mod merging;
 mod planning;
-mod work;
 
 pub use importing::edges_of;
 pub use keeping::{Slots, kept_signatures, whole_signatures};

@@ -1,22 +1,26 @@
 //! The merged signatures of the modules of a plan, wave by wave.
 ghost use Rattle.std.specs.Prelude.{◌≡◌, ◌+◌, ◌<◌, ◌++◌, [], All, IfOk, OnOk, map, take, length, slice_get, get_or, Some};
-ghost use Rattle.std.specs.List.{flat_map};
+ghost use Rattle.std.specs.List.{AllZip, flat_map};
 ghost use Rattle.job_ends.specs.Jobs.{job_view, member_view};
 ghost use Rattle.analyst.specs.Work.{Works, merging};
+ghost use Rattle.work_totals.specs.Totals.{total};
 ghost use Rattle.check_phases.specs.Sourced.{AreSources};
-ghost use Rattle.check_phases.specs.Merging.{known_rows, member_at, made_at, put_all, AreRight, HasMerged};
+ghost use Rattle.check_phases.specs.Merging.{known_rows, member_at, made_at, put_all};
 ghost use Rattle.recheck_merging.specs.Plans.{IsPlan, numbers_at, edges_at, size_of, members_in};
-ghost use Rattle.recheck_merging.specs.Merging.{outside_by, job_by, IsReady, AreMergedTo, AreMergedIn};
+ghost use Rattle.recheck_merging.specs.Merging.{outside_by, job_by, job_in, AreSigsOf, AreMergedTo, AreMergedIn};
 
 use crate::keeping::Slots;
 use crate::planning::MergePlan;
-use crate::work::counted;
 use analyst::Analyst;
 use check_phases::Sources;
 use check_values::{RootRow, Sig};
 use flow_values::{List, NoMemory, Path, Shared};
 use job_ends::{MergeJob, MergeMember};
 use std::alloc::Global;
+use std::sync::Wait;
+use std::thread::Threads;
+use work_totals::totals_rise;
+use worker_jobs::run_merges;
 
 // The modules, with their rows.
 fn modules_of(sources: &Sources) -> &[RootRow]
@@ -170,6 +174,21 @@ fn shared_all(alloc: Global, signatures: List<Sig>) -> Result<Vec<Shared<Sig>>, 
     Ok(all)
 }
 
+// The signatures of each component, each shared.
+fn shared_each(
+    alloc: Global,
+    signatures: List<List<Sig>>,
+) -> Result<Vec<Vec<Shared<Sig>>>, NoMemory>
+    ensures { IfOk result (λ all. map (λ own. own.items) all.items ≡ signatures) }
+{
+    let mut all = Vec::new(alloc);
+    for own in signatures.into_vec() {
+        let kept = shared_all(alloc, own)?;
+        all.push(kept)?;
+    }
+    Ok(all)
+}
+
 // Puts the signatures of a component into the slots of its modules.
 fn keep_all(group: &[u32], signatures: &[Shared<Sig>], slots: &mut Slots) -> Result<(), NoMemory>
     requires many { length signatures.now ≡ length group.now }
@@ -180,38 +199,6 @@ fn keep_all(group: &[u32], signatures: &[Shared<Sig>], slots: &mut Slots) -> Res
         let kept = signatures[i].share()?;
         slots[group[i] as usize] = Some(kept);
     }
-    Ok(())
-}
-
-// Merges the modules at some places, where all that they lead to outside of them is made.
-#[tactic(auto, using(check_phases::proofs::Works::within_none, crate::proofs::Outside::group_low, crate::proofs::Outside::group_within))]
-fn merge_group<A: Analyst>(
-    alloc: Global,
-    analyst: &mut A,
-    sources: &Sources,
-    plan: &MergePlan,
-    places: &[u32],
-    slots: &mut Slots,
-) -> Result<(), NoMemory>
-    requires sources { AreSources sources.now }
-    requires plan { IsPlan sources.now plan.now }
-    requires right { AreRight sources.now slots.old.items }
-    requires places { All (λ i. i < length plan.now.merged) places.now }
-    requires within { All (λ i. i < length plan.now.edges.items) places.now }
-    requires ready { IsReady sources.now (numbers_at plan.now.merged places.now) (edges_at plan.now.edges.items places.now) slots.old.items }
-    ensures merged { OnOk result (HasMerged sources.now (numbers_at plan.now.merged places.now) slots.old.items slots.new.items) }
-    ensures work { Works result (merging (length places.now)) (A.work analyst.old) (A.work analyst.new) }
-{
-    counted(&*analyst);
-    merged_signatures::a_job_tells_the_program();
-    let numbers = numbers_of(alloc, plan, places)?;
-    let group = numbers.as_slice();
-    let made = slots.as_slice();
-    let job = job_of(alloc, sources, plan, places, group, made)?;
-    let given = analyst.merge(&job)?;
-    let signatures = shared_all(alloc, given)?;
-    let all = signatures.as_slice();
-    keep_all(group, all, slots)?;
     Ok(())
 }
 
@@ -239,55 +226,161 @@ fn group_at<'p>(plan: &'p MergePlan, wave: usize, i: usize) -> &'p [u32]
     components[component].as_slice()
 }
 
-// Merges one more component of a wave.
-#[tactic(auto, using(crate::proofs::Groups::component_low, crate::proofs::Groups::places_low, crate::proofs::Groups::places_within, crate::proofs::Groups::ready_here, crate::proofs::Groups::merged_here, crate::proofs::Groups::worked_here, crate::proofs::Groups::within_here))]
-fn merge_component<A: Analyst>(
+// The job of a component of a wave.
+#[tactic(auto, using(crate::proofs::Groups::component_low, crate::proofs::Groups::places_low, crate::proofs::Groups::places_within, crate::proofs::Outside::group_within, crate::proofs::Merged::job_here, crate::proofs::Merged::size_here))]
+fn component_job(
     alloc: Global,
-    analyst: &mut A,
     sources: &Sources,
     plan: &MergePlan,
     wave: usize,
     i: usize,
+    slots: &[Option<Shared<Sig>>],
+) -> Result<MergeJob, NoMemory>
+    requires sources { AreSources sources.now }
+    requires plan { IsPlan sources.now plan.now }
+    requires wave { wave < length plan.now.waves }
+    requires within { i < length (get_or plan.now.waves wave []) }
+    requires many { length slots.now ≡ length sources.now.root.modules }
+    ensures job { IfOk result (λ job. job_view job ≡ job_in sources.now plan.now slots.now (get_or (get_or plan.now.waves wave []) i 0)) }
+    ensures many { IfOk result (λ job. length job.members ≡ size_of plan.now (get_or (get_or plan.now.waves wave []) i 0)) }
+{
+    let places = group_at(plan, wave, i);
+    let numbers = numbers_of(alloc, plan, places)?;
+    let group = numbers.as_slice();
+    let job = job_of(alloc, sources, plan, places, group, slots)?;
+    Ok(job)
+}
+
+// The jobs of the components of a wave.
+fn wave_jobs(
+    alloc: Global,
+    sources: &Sources,
+    plan: &MergePlan,
+    wave: usize,
+    slots: &[Option<Shared<Sig>>],
+) -> Result<List<MergeJob>, NoMemory>
+    requires sources { AreSources sources.now }
+    requires plan { IsPlan sources.now plan.now }
+    requires wave { wave < length plan.now.waves }
+    requires many { length slots.now ≡ length sources.now.root.modules }
+    ensures jobs { IfOk result (λ jobs. map job_view jobs ≡ map (job_in sources.now plan.now slots.now) (get_or plan.now.waves wave [])) }
+    ensures many { IfOk result (λ jobs. map (λ job. length job.members) jobs ≡ map (size_of plan.now) (get_or plan.now.waves wave [])) }
+{
+    let numbers = wave_at(plan, wave);
+    let mut jobs = List::new(alloc);
+    for i in 0..numbers.len() {
+        let job = component_job(alloc, sources, plan, wave, i, slots)?;
+        jobs.push(job)?;
+    }
+    Ok(jobs)
+}
+
+// Puts the signatures of a component of a wave into the slots of its modules.
+#[tactic(auto, using(crate::proofs::Groups::component_low, crate::proofs::Groups::places_low, crate::proofs::Outside::group_low))]
+fn keep_component(
+    alloc: Global,
+    sources: &Sources,
+    plan: &MergePlan,
+    wave: usize,
+    i: usize,
+    signatures: &[Shared<Sig>],
     slots: &mut Slots,
 ) -> Result<(), NoMemory>
     requires sources { AreSources sources.now }
     requires plan { IsPlan sources.now plan.now }
     requires wave { wave < length plan.now.waves }
     requires within { i < length (get_or plan.now.waves wave []) }
+    requires signatures { AreSigsOf sources.now plan.now (get_or (get_or plan.now.waves wave []) i 0) signatures.now }
     requires merged { AreMergedIn sources.now plan.now wave (take i (get_or plan.now.waves wave [])) slots.old.items }
-    ensures merged { OnOk result (AreMergedIn sources.now plan.now wave (take (i + 1) (get_or plan.now.waves wave [])) slots.new.items) }
-    ensures work { Works result (merging (size_of plan.now (get_or (get_or plan.now.waves wave []) i 0))) (A.work analyst.old) (A.work analyst.new) }
+    ensures { OnOk result (AreMergedIn sources.now plan.now wave (take (i + 1) (get_or plan.now.waves wave [])) slots.new.items) }
 {
     let places = group_at(plan, wave, i);
-    merge_group(alloc, analyst, sources, plan, places, slots)?;
+    let numbers = numbers_of(alloc, plan, places)?;
+    let group = numbers.as_slice();
+    keep_all(group, signatures, slots)?;
     Ok(())
 }
 
-/// Merges the components of a wave of the plan, where those of the waves before it are merged, and puts their signatures into the slots
-/// of their modules. It takes time in proportion to the members of the wave, their edges and exports.
+// Puts the signatures of the components of a wave into the slots of their modules.
+fn keep_wave(
+    alloc: Global,
+    sources: &Sources,
+    plan: &MergePlan,
+    wave: usize,
+    signatures: &[Vec<Shared<Sig>>],
+    slots: &mut Slots,
+) -> Result<(), NoMemory>
+    requires sources { AreSources sources.now }
+    requires plan { IsPlan sources.now plan.now }
+    requires wave { wave < length plan.now.waves }
+    requires signatures { AllZip (λ k own. AreSigsOf sources.now plan.now k own.items) (get_or plan.now.waves wave []) signatures.now }
+    requires merged { AreMergedTo sources.now plan.now wave slots.old.items }
+    ensures { OnOk result (AreMergedTo sources.now plan.now (wave + 1) slots.new.items) }
+{
+    for i in 0..signatures.len() {
+        let own = signatures[i].as_slice();
+        keep_component(alloc, sources, plan, wave, i, own, slots)?;
+    }
+    Ok(())
+}
+
+// The signatures of the components of a wave, by the slots before it.
+fn wave_signatures<R: Threads + Wait + Sync, A: Analyst + Send>(
+    rt: &R,
+    alloc: Global,
+    analysts: &mut [A],
+    sources: &Sources,
+    plan: &MergePlan,
+    wave: usize,
+    slots: &[Option<Shared<Sig>>],
+) -> Result<Vec<Vec<Shared<Sig>>>, NoMemory>
+    requires some { 0 < length analysts.old }
+    requires sources { AreSources sources.now }
+    requires plan { IsPlan sources.now plan.now }
+    requires wave { wave < length plan.now.waves }
+    requires merged { AreMergedTo sources.now plan.now wave slots.now }
+    ensures signatures { IfOk result (λ all. AllZip (λ k own. AreSigsOf sources.now plan.now k own.items) (get_or plan.now.waves wave []) all.items) }
+    ensures work { Works result (merging (members_in plan.now wave)) (total (map A.work analysts.old)) (total (map A.work analysts.new)) }
+    ensures many { length analysts.new ≡ length analysts.old }
+{
+    totals_rise();
+    merged_signatures::a_job_tells_the_program();
+    let jobs = wave_jobs(alloc, sources, plan, wave, slots)?;
+    let asked = jobs.as_slice();
+    let told = run_merges(rt, alloc, analysts, asked)?;
+    let shared = shared_each(alloc, told)?;
+    Ok(shared)
+}
+
+/// Merges the components of a wave of the plan by at least one analyst, where those of the waves before it are merged, and puts their
+/// signatures into the slots of their modules. Each component is merged by the slots as they stand before the wave, so the analysts work
+/// beside one another. It takes time in proportion to the members of the wave, their edges and exports.
 ///
 /// # Errors
 ///
 /// `NoMemory` where memory is refused.
-pub fn merge_wave<A: Analyst>(
+pub fn merge_wave<R: Threads + Wait + Sync, A: Analyst + Send>(
+    rt: &R,
     alloc: Global,
-    analyst: &mut A,
+    analysts: &mut [A],
     sources: &Sources,
     plan: &MergePlan,
     wave: usize,
     slots: &mut Slots,
 ) -> Result<(), NoMemory>
+    requires some { 0 < length analysts.old }
     requires sources { AreSources sources.now }
     requires plan { IsPlan sources.now plan.now }
     requires within { wave < length plan.now.waves }
     requires merged { AreMergedTo sources.now plan.now wave slots.old.items }
     ensures merged { OnOk result (AreMergedTo sources.now plan.now (wave + 1) slots.new.items) }
-    ensures work { Works result (merging (members_in plan.now wave)) (A.work analyst.old) (A.work analyst.new) }
+    ensures work { Works result (merging (members_in plan.now wave)) (total (map A.work analysts.old)) (total (map A.work analysts.new)) }
+    ensures many { length analysts.new ≡ length analysts.old }
 {
-    counted(&*analyst);
-    let numbers = wave_at(plan, wave);
-    for i in 0..numbers.len() {
-        merge_component(alloc, analyst, sources, plan, wave, i, slots)?;
-    }
+    totals_rise();
+    let made = slots.as_slice();
+    let shared = wave_signatures(rt, alloc, analysts, sources, plan, wave, made)?;
+    let signatures = shared.as_slice();
+    keep_wave(alloc, sources, plan, wave, signatures, slots)?;
     Ok(())
 }

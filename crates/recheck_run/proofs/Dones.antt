@@ -129,6 +129,13 @@ rolled_back was begun mid now sound_was sound_mid closed is staging back = given
 pub room_left : (m now : Meaning Payload) (capacity capacity' : ℕ) → HasRoom m capacity → length now.committed ≡ length m.committed → capacity' ≡ capacity → HasRoom now capacity'
 room_left m now capacity capacity' room size same = record { entities = (let e = room.entities in omega (arith, e, size, same)); numbered = (let n = room.numbered in omega (arith, n, same)) }
 
+-- behind a commit too
+pub room_done : (was begun mid now : Meaning Payload) (capacity capacity' : ℕ) → IsSound fits mid → begun ≡ opened was → IsStaging begun mid → now ≡ after_commit mid → HasRoom was capacity → capacity' ≡ capacity → HasRoom now capacity'
+room_done was begun mid now capacity capacity' sound is staging after room same =
+    let size : length now.committed ≡ length was.committed =
+    ap (λ (m : Meaning Payload). length m.committed) after ∙ (sound.as_many.0 ∙ (ap length staging.committed ∙ ap (λ (m : Meaning Payload). length m.committed) is)) in
+    room_left was now capacity capacity' room size same
+
 -- the state that the writer tells is the one that is committed now
 pub told_state : (before mid after : Option (List (List Payload))) (m now : Meaning Payload) → mid ≡ before → now ≡ after_commit m → Appends mid m.latest after → Appends before now.committed after
 told_state before mid after m now same is told =
@@ -277,9 +284,9 @@ module _ (folder folder' : FolderSeen) (edits edits' : Pending) (stop stop' : St
   }
 
   pub is_done : MadeIsFull → SeenAsChecked → SignedAsChecked → SignaturesStay → ((m : Meaning Payload) (changes : List (ℕ × Payload)) → IsSound fits m → m.is_open ≡ false → Committed changes m (after_commit (all_staged changes (opened m))))
-      → IsSound fits was → IsSound fits mid → was.is_open ≡ false → IsCounted work → (version : ℕ) (staged : Staged) → IsStaged at_begin at_end staged → IsStaging begun mid → now ≡ after_commit mid → version ≡ now.version → edits'.edits ≡ [] → ((paths : List Bytes) → StandsOn paths edits')
+      → IsSound fits was → IsSound fits mid → was.is_open ≡ false → (version : ℕ) (staged : Staged) → IsStaged at_begin at_end staged → IsStaging begun mid → now ≡ after_commit mid → version ≡ now.version → edits'.edits ≡ [] → ((paths : List Bytes) → StandsOn paths edits')
       → IsDone before (record { folder = folder'; edits = edits'; heap = now; stop = stop'; work = work' }) version staged.parsed staged.checked staged.errors
-  is_done full sees signs stay commits sound_was sound_mid closed counted version staged st staging after answers rest stands =
+  is_done full sees signs stay commits sound_was sound_mid closed version staged st staging after answers rest stands =
       let b = st.base in
       let r = st.ready in
       let made = r.made in
@@ -304,7 +311,7 @@ module _ (folder folder' : FolderSeen) (edits edits' : Pending) (stop stop' : St
         results = results_of made;
         full = subst (λ (p : Program). IsFull p (results_of made)) program_is (full made r.are.are);
         counts = (st.ended.counts.0, st.ended.counts.1, r.count ∙ sym (errors_are made r.are.are));
-        work = worked_to_end st.extent work work' counted a.are_batches.enough st.ended.work;
+        work = st.ended.work;
         questions = st.ended.questions;
         no_yes = st.ended.no_yes;
         next = (ap (λ (m : Meaning Payload). m.version) after ∙ ap (λ (n : ℕ). n + 1) (staging.version ∙ ap (λ (m : Meaning Payload). m.version) is), answers);

@@ -11,7 +11,7 @@ use Rattle.stops.specs.Asked.{StopSeen}
 use Rattle.program_check.specs.Full.{Results, IsFull}
 use Rattle.program_check.specs.Status.{error_count}
 use Rattle.affected_law.specs.Affected.{results_at, Parsed, Merged, Checked}
-use Rattle.analyst.specs.Work.{Work, work_of, risen, RisesWithin, IsWithin}
+use Rattle.analyst.specs.Work.{Work, work_of, risen, done, RisesWithin, IsWithin}
 use Rattle.payloads.specs.Entities.{parse_entity, deps_entity, signature_entity, errors_entity}
 use Rattle.payloads.specs.State.{program_of}
 use Rattle.payloads.specs.declared.payload.Payload.{Payload}
@@ -84,7 +84,7 @@ pub record IsDone (before now : RecheckState) (version parsed checked errors : �
   pub results : List Results
   pub full : IsFull (program_of new) results
   pub counts : (parsed ≡ extent.parsed) × (checked ≡ extent.checked) × (errors ≡ error_count results)
-  pub work : WorkedTo extent (polls extent) before.work now.work
+  pub work : now.work ≡ done before.work (whole_work extent)
   pub questions : RoseBy (polls extent) before.stop.questions now.stop.questions
   pub no_yes : now.stop.yes_answers ≡ before.stop.yes_answers
   pub next : (now.heap.version ≡ before.heap.version + 1) × (version ≡ now.heap.version)

@@ -1,5 +1,5 @@
 //! Laws, as the contracts of calls that do nothing.
-ghost use Rattle.std.specs.Prelude.{◌≡◌, ◌<◌, ◌^◌, ℕ, List, false};
+ghost use Rattle.std.specs.Prelude.{◌≡◌, ◌<◌, ◌^◌, ℕ, List, false, map};
 ghost use Rattle.analyst.specs.Work.{IsCounted};
 ghost use Rattle.heap_core.specs.Meaning.{IsSound};
 ghost use Rattle.heap_core.specs.Meaning.{Meaning, opened, after_commit};
@@ -9,16 +9,19 @@ ghost use Rattle.recheck_reach.specs.Law.{RestIsSame, CheckedAreOfChecked, Unmov
 ghost use Rattle.recheck_checking.specs.Checking.{AllAreChecked};
 ghost use Rattle.recheck_checking.specs.Full.{MadeIsFull};
 ghost use Rattle.recheck_checking.specs.Right.{KeptErrorsAreRight};
+ghost use Rattle.work_totals.specs.Totals.{total};
 
 use analyst::Analyst;
 use heap_core::HeapWriter;
 use payloads::Payload;
 use stops::Stop;
 
-/// The counts of an analyst stay within their type.
-pub(crate) fn counted<A: Analyst>(analyst: &A)
-    ensures { IsCounted (A.work analyst.now) }
-{}
+/// The counts of all analysts together stay within their type.
+pub(crate) fn counted<A: Analyst>(analysts: &[A])
+    ensures { IsCounted (total (map A.work analysts.now)) }
+{
+    work_totals::totals_rise();
+}
 
 /// What holds of a heap at all times.
 pub(crate) fn sound<W: HeapWriter<Payload>>(writer: &W)

@@ -1,11 +1,12 @@
 //! One stage of work.
-ghost use Rattle.std.specs.Prelude.{◌≡◌, ◌<◌, true, IfOk, length};
+ghost use Rattle.std.specs.Prelude.{◌≡◌, ◌<◌, true, IfOk, length, map};
 ghost use Rattle.heap_core.specs.Meaning.{none_of};
 ghost use Rattle.heap_core.specs.Transactions.{IsStaging};
 ghost use Rattle.analyst.specs.Work.{Work, IsCounted};
 ghost use Rattle.recheck_run.specs.Stages.{IsBase, IsBaseIn, Holds, IsMerging, IsChecking};
 ghost use Rattle.recheck_run.specs.Steps.{HoldsNext, StepsOn, LeadsOn};
 ghost use Rattle.recheck_run.specs.declared.stages.Stage.TheVariants as stage;
+ghost use Rattle.work_totals.specs.Totals.{total};
 
 use crate::checking::begin_checks;
 use crate::laws::{counted, reach_laws};
@@ -21,19 +22,28 @@ use recheck_merging::merge_wave;
 use recheck_sources::edited_parses;
 use source_front::Parse;
 use std::alloc::Global;
+use std::sync::Wait;
+use std::thread::Threads;
 
 // The sources that are new or differ are read.
-fn front_next<A: Analyst>(alloc: Global, analyst: &mut A, base: &Base) -> Result<Stage, NoMemory>
+fn front_next<R: Threads + Wait + Sync, A: Analyst + Send>(
+    rt: &R,
+    alloc: Global,
+    analysts: &mut [A],
+    base: &Base,
+) -> Result<Stage, NoMemory>
+    requires some { 0 < length analysts.old }
     requires base { IsBase base.now }
     ensures holds { IfOk result (Holds base.now) }
-    ensures steps { StepsOn base.now stage.Fronts result (A.work analyst.old) (A.work analyst.new) }
+    ensures steps { StepsOn base.now stage.Fronts result (total (map A.work analysts.old)) (total (map A.work analysts.new)) }
+    ensures many { length analysts.new ≡ length analysts.old }
 {
-    counted(&*analyst);
+    counted(&*analysts);
     reach_laws();
     let root = base.root.get();
     let from = base.from.as_slice();
     let fresh = base.fresh.as_slice();
-    let parses = edited_parses(alloc, analyst, &base.was.sources, root, from, fresh)?;
+    let parses = edited_parses(rt, alloc, analysts, &base.was.sources, root, from, fresh)?;
     Ok(Stage::Lists { parses })
 }
 
@@ -52,23 +62,27 @@ fn list_next(alloc: Global, base: &Base, parses: Vec<Shared<Parse>>) -> Result<S
 }
 
 // A wave is merged.
-fn merge_next<A: Analyst>(
+fn merge_next<R: Threads + Wait + Sync, A: Analyst + Send>(
+    rt: &R,
     alloc: Global,
-    analyst: &mut A,
+    analysts: &mut [A],
     base: &Base,
     mut merging: Merging,
 ) -> Result<Stage, NoMemory>
+    requires some { 0 < length analysts.old }
     requires merging { IsMerging base.now merging }
     requires low { merging.wave < length merging.plan.waves }
     ensures holds { IfOk result (Holds base.now) }
-    ensures steps { StepsOn base.now (stage.Merges merging) result (A.work analyst.old) (A.work analyst.new) }
+    ensures steps { StepsOn base.now (stage.Merges merging) result (total (map A.work analysts.old)) (total (map A.work analysts.new)) }
+    ensures many { length analysts.new ≡ length analysts.old }
 {
-    counted(&*analyst);
+    counted(&*analysts);
     recheck_merging::members_add_up();
     let wave = merging.wave;
     merge_wave(
+        rt,
         alloc,
-        analyst,
+        analysts,
         &merging.listed.sources,
         &merging.plan,
         wave,
@@ -79,24 +93,28 @@ fn merge_next<A: Analyst>(
 }
 
 // The next modules are checked, at most 64.
-fn check_more<A: Analyst>(
+fn check_more<R: Threads + Wait + Sync, A: Analyst + Send>(
+    rt: &R,
     alloc: Global,
-    analyst: &mut A,
+    analysts: &mut [A],
     base: &Base,
     mut checking: Checking,
 ) -> Result<Stage, NoMemory>
+    requires some { 0 < length analysts.old }
     requires checking { IsChecking base.now checking }
     requires low { checking.done < length checking.checked }
     ensures holds { IfOk result (Holds base.now) }
-    ensures steps { StepsOn base.now (stage.Checks checking) result (A.work analyst.old) (A.work analyst.new) }
+    ensures steps { StepsOn base.now (stage.Checks checking) result (total (map A.work analysts.old)) (total (map A.work analysts.new)) }
+    ensures many { length analysts.new ≡ length analysts.old }
 {
-    counted(&*analyst);
+    counted(&*analysts);
     let done = checking.done;
     let numbers = checking.checked.as_slice();
     let end = usize::min(numbers.len(), done + 64);
     check_batch(
+        rt,
         alloc,
-        analyst,
+        analysts,
         &checking.sources,
         &checking.signed,
         numbers,
@@ -108,28 +126,31 @@ fn check_more<A: Analyst>(
 }
 
 // The next modules are checked; behind the last one all is staged.
-fn check_next<W: HeapWriter<Payload>, A: Analyst>(
+fn check_next<R: Threads + Wait + Sync, W: HeapWriter<Payload>, A: Analyst + Send>(
+    rt: &R,
     alloc: Global,
     writer: &mut W,
-    analyst: &mut A,
+    analysts: &mut [A],
     base: &Base,
     mut checking: Checking,
 ) -> Result<Next, NoMemory>
+    requires some { 0 < length analysts.old }
     requires is_open { (W.meaning writer.old).is_open ≡ true }
     requires bare { (W.meaning writer.old).staged ≡ none_of (W.meaning writer.old).staged }
     requires base { IsBaseIn (W.meaning writer.old).committed base.now }
     requires checking { IsChecking base.now checking }
     ensures holds { IfOk result (HoldsNext base.now (W.meaning writer.old) (W.meaning writer.new)) }
-    ensures leads { LeadsOn base.now (stage.Checks checking) result (A.work analyst.old) (A.work analyst.new) }
+    ensures leads { LeadsOn base.now (stage.Checks checking) result (total (map A.work analysts.old)) (total (map A.work analysts.new)) }
     ensures staging { IsStaging (W.meaning writer.old) (W.meaning writer.new) }
     ensures is_open { (W.meaning writer.new).is_open ≡ true }
     ensures told { W.told writer.new ≡ W.told writer.old }
     ensures part { W.part writer.new ≡ W.part writer.old }
+    ensures many { length analysts.new ≡ length analysts.old }
 {
-    counted(&*analyst);
+    counted(&*analysts);
     reach_laws();
     if checking.done < checking.checked.len() {
-        let stage = check_more(alloc, analyst, base, checking)?;
+        let stage = check_more(rt, alloc, analysts, base, checking)?;
         return Ok(Next::GoesTo(stage));
     }
     let staged = stage_all(alloc, writer, base, checking)?;
@@ -141,29 +162,32 @@ fn check_next<W: HeapWriter<Payload>, A: Analyst>(
 /// # Errors
 ///
 /// `NoMemory` where memory is refused.
-pub(crate) fn step<W: HeapWriter<Payload>, A: Analyst>(
+pub(crate) fn step<R: Threads + Wait + Sync, W: HeapWriter<Payload>, A: Analyst + Send>(
+    rt: &R,
     alloc: Global,
     writer: &mut W,
-    analyst: &mut A,
+    analysts: &mut [A],
     base: &Base,
     stage: Stage,
 ) -> Result<Next, NoMemory>
+    requires some { 0 < length analysts.old }
     requires is_open { (W.meaning writer.old).is_open ≡ true }
     requires bare { (W.meaning writer.old).staged ≡ none_of (W.meaning writer.old).staged }
     requires base { IsBaseIn (W.meaning writer.old).committed base.now }
     requires holds { Holds base.now stage }
     ensures holds { IfOk result (HoldsNext base.now (W.meaning writer.old) (W.meaning writer.new)) }
-    ensures leads { LeadsOn base.now stage result (A.work analyst.old) (A.work analyst.new) }
+    ensures leads { LeadsOn base.now stage result (total (map A.work analysts.old)) (total (map A.work analysts.new)) }
     ensures staging { IsStaging (W.meaning writer.old) (W.meaning writer.new) }
     ensures is_open { (W.meaning writer.new).is_open ≡ true }
     ensures told { W.told writer.new ≡ W.told writer.old }
     ensures part { W.part writer.new ≡ W.part writer.old }
+    ensures many { length analysts.new ≡ length analysts.old }
 {
-    counted(&*analyst);
+    counted(&*analysts);
     recheck_merging::members_add_up();
     match stage {
         Stage::Fronts => {
-            let next = front_next(alloc, analyst, base)?;
+            let next = front_next(rt, alloc, analysts, base)?;
             Ok(Next::GoesTo(next))
         }
         Stage::Lists { parses } => {
@@ -172,12 +196,12 @@ pub(crate) fn step<W: HeapWriter<Payload>, A: Analyst>(
         }
         Stage::Merges(merging) => {
             if merging.wave < merging.plan.wave_count() {
-                let next = merge_next(alloc, analyst, base, merging)?;
+                let next = merge_next(rt, alloc, analysts, base, merging)?;
                 return Ok(Next::GoesTo(next));
             }
             let checking = begin_checks(alloc, base, merging)?;
-            check_next(alloc, writer, analyst, base, checking)
+            check_next(rt, alloc, writer, analysts, base, checking)
         }
-        Stage::Checks(checking) => check_next(alloc, writer, analyst, base, checking),
+        Stage::Checks(checking) => check_next(rt, alloc, writer, analysts, base, checking),
     }
 }

@@ -1,7 +1,9 @@
 pub mod Changes
 pub mod Counted
+pub mod Fresh
 pub mod Here
 pub mod Loops
+pub mod Placing
 pub mod Serves
 pub mod Steps
 pub mod Told

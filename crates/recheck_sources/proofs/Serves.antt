@@ -29,6 +29,9 @@ use Rattle.recheck_sources.proofs.Loops.{off_at, kept_at, HasOld, is_kept}
 pub low_from : (old new : Root) (from : List (Option ℕ)) (ms : List RootRow) (i : ℕ) → from ≡ numbers_from old new → ms ≡ new.modules → i < length ms → i < length from
 low_from old new from ms i is same low = let a = many_from old new from is in let b = ap length same in omega (arith, a, b, low)
 
+pub low_number : (old new : Root) (from : List (Option ℕ)) (fresh : List Bool) (i : ℕ) → from ≡ numbers_from old new → fresh ≡ fresh_from old new → i < length fresh → i < length from
+low_number old new from fresh i from_is fresh_is low = let a = many_from old new from from_is in let b = many_fresh old new fresh fresh_is in omega (arith, a, b, low)
+
 pub low_fresh : (old new : Root) (fresh : List Bool) (ms : List RootRow) (i : ℕ) → fresh ≡ fresh_from old new → ms ≡ new.modules → i < length ms → i < length fresh
 low_fresh old new fresh ms i is same low = let a = many_fresh old new fresh is in let b = ap length same in omega (arith, a, b, low)
 

@@ -1,5 +1,5 @@
 -- What serves on of one old module, and what is made in its place.
-use Rattle.std.specs.Prelude.{◌≡◌, ◌≢◌, ◌<◌, ◌⊎◌, ℕ, Bool, true, false, List, map, length, slice_get, Option, Some, None}
+use Rattle.std.specs.Prelude.{◌≡◌, ◌≢◌, ◌<◌, ◌⊎◌, ℕ, Bool, true, false, List, [], ◌∷◌, map, length, slice_get, Option, Some, None}
 use Rattle.flow_base.specs.Program.{Bytes}
 use Rattle.check_values.specs.declared.signatures.Deps.{Deps}
 use Rattle.check_values.specs.declared.signatures.LocalSig.{LocalSig}
@@ -18,6 +18,13 @@ kept_in was (Some o) false = slice_get was o
 abbrev pub made_for : {X : Type 0} → Option X → ℕ
 made_for None = 1
 made_for (Some part) = 0
+
+-- the elements where the flag is on, in order
+abbrev pub where_on : {X : Type 0} → List Bool → List X → List X
+where_on [] xs = []
+where_on (on ∷ flags) [] = []
+where_on (true ∷ flags) (x ∷ xs) = x ∷ where_on flags xs
+where_on (false ∷ flags) (x ∷ xs) = where_on flags xs
 
 -- a part serves in place of another one
 abbrev pub IsInPlace : {X : Type 0} → Option X → X → Type 0

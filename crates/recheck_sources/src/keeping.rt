@@ -1,6 +1,6 @@
 //! What serves on of old modules.
-ghost use Rattle.std.specs.Prelude.{◌≡◌, ◌↔◌, IfOk, IsTrue};
-ghost use Rattle.recheck_sources.specs.Keeping.{kept_in, StandStill};
+ghost use Rattle.std.specs.Prelude.{◌≡◌, ◌+◌, ◌<◌, ◌↔◌, IfOk, OnOk, IsTrue, None, Some, length, slice_get};
+ghost use Rattle.recheck_sources.specs.Keeping.{kept_in, made_for, IsInPlace, StandStill};
 
 use flow_values::{NoMemory, Shared};
 
@@ -25,6 +25,31 @@ pub(crate) fn kept_part<T>(
     match was.get(number as usize) {
         Some(part) => Ok(Some(part.share()?)),
         None => Ok(None),
+    }
+}
+
+/// The part that is kept, or else the next one of those that were made; then the one behind it is the next.
+///
+/// # Errors
+///
+/// `NoMemory` where a part has too many owners.
+pub(crate) fn kept_or_next<T>(
+    kept: Option<Shared<T>>,
+    made: &[Shared<T>],
+    next: &mut usize,
+) -> Result<Shared<T>, NoMemory>
+    requires { kept ≡ None → next.old < length made.now }
+    ensures kept { IfOk result (IsInPlace kept) }
+    ensures made { kept ≡ None → IfOk result (λ part. slice_get made.now next.old ≡ Some part) }
+    ensures next { OnOk result (next.new ≡ next.old + made_for kept) }
+{
+    match kept {
+        Some(part) => Ok(part),
+        None => {
+            let part = made[*next].share()?;
+            *next += 1;
+            Ok(part)
+        }
     }
 }
 

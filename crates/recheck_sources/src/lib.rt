@@ -7,7 +7,6 @@ mod listing;
 mod parsing;
 mod sourcing;
 mod telling;
-mod work;
 
 pub use parsing::edited_parses;
 pub use sourcing::{Listed, listed_sources};

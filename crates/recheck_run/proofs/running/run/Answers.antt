@@ -1,9 +1,10 @@
-use Rattle.std.proofs.Common.{◌≡◌, true, false, refl, sym, ◌∙◌, arith}
+use Rattle.std.proofs.Common.{◌≡◌, true, false, refl, sym, ◌∙◌, arith, map}
 use Rattle.std.proofs.lemmas.Result.{err_from_is_err_and}
 use Rattle.check_phases.proofs.Works.{worked_none}
 use Rattle.recheck_staging.proofs.Steps.{staging_none, staging_then}
 use Rattle.recheck_run.proofs.Questions.{yes_at}
 use Rattle.recheck_run.proofs.Runs.{holds_stage, holds_ready, still_bare, still_based, still_next, stands_stage, stopped, ended, failed, next_fits}
+use Rattle.work_totals.specs.Totals.{total}
 use Rattle.recheck_run.proofs.running.run.Goals as goal
 
 pub polls-init : goal.polls-init
@@ -18,20 +19,24 @@ polls-init g c = record {
   is_open = c.requires.is_open;
   told = refl;
   part = refl;
+  many = refl;
 }
 
+pub step-requires-clause-some : goal.step-requires-clause-some
+step-requires-clause-some g c κs within = (let some = c.requires.some in let many = c.polls.invariant.many in omega (arith, some, many))
+
 pub step-requires-clause-bare : goal.step-requires-clause-bare
-step-requires-clause-bare g c = (let h = holds_stage _ _ _ _ c.in-GoesTo.stage c.in-GoesTo.is c.polls.invariant.holds in still_bare _ _ h.1 c.requires.bare)
+step-requires-clause-bare g c κs within = (let h = holds_stage _ _ _ _ c.in-GoesTo.stage c.in-GoesTo.is c.polls.invariant.holds in still_bare _ _ h.1 c.requires.bare)
 
 pub step-requires-clause-base : goal.step-requires-clause-base
-step-requires-clause-base g c = (let h = holds_stage _ _ _ _ c.in-GoesTo.stage c.in-GoesTo.is c.polls.invariant.holds in still_based _ _ c.args.base.now h.1 c.requires.base)
+step-requires-clause-base g c κs within = (let h = holds_stage _ _ _ _ c.in-GoesTo.stage c.in-GoesTo.is c.polls.invariant.holds in still_based _ _ c.args.base.now h.1 c.requires.base)
 
 pub step-requires-clause-holds : goal.step-requires-clause-holds
-step-requires-clause-holds g c = (holds_stage _ _ _ _ c.in-GoesTo.stage c.in-GoesTo.is c.polls.invariant.holds).0
+step-requires-clause-holds g c κs within = (holds_stage _ _ _ _ c.in-GoesTo.stage c.in-GoesTo.is c.polls.invariant.holds).0
 
 pub returns-then-stop-clause-halted : goal.returns-then-stop-clause-halted
 returns-then-stop-clause-halted g c = λ n a.
-    stopped c.members_add_up.ensures c.args.base.now n a (record { stop = g.S.Stop.seen c.args.stop.now; work = g.A.Analyst.work c.args.analyst.now }) (record { stop = g.S.Stop.seen c.polls.stop; work = g.A.Analyst.work c.polls.analyst }) _ c.polls.poll
+    stopped c.members_add_up.ensures c.args.base.now n a (record { stop = g.S.Stop.seen c.args.stop.now; work = total (map g.A.Analyst.work c.args.analysts.now) }) (record { stop = g.S.Stop.seen c.polls.stop; work = total (map g.A.Analyst.work c.polls.analysts) }) _ c.polls.poll
     c.counted.ensures c.polls.invariant.some c.polls.invariant.asked c.polls.invariant.quiet c.stop.ensures.questions _ _ c.polls.next c.polls.invariant.holds (c.polls.invariant.stands n a) (c.stop.ensures.counts.rises c.if-stop.true)
     (yes_at (g.S.Stop.seen c.args.stop.now).told (g.S.Stop.seen c.polls.stop) (g.S.Stop.seen c.stop.new.self) c.stop.result
     c.polls.invariant.told_stop (c.stop.ensures.told ∙ c.polls.invariant.told_stop)
@@ -40,7 +45,7 @@ returns-then-stop-clause-halted g c = λ n a.
 pub overflow_add-poll : goal.overflow_add-poll
 overflow_add-poll g c =
     let h = holds_stage _ _ _ _ c.in-GoesTo.stage c.in-GoesTo.is c.polls.invariant.holds in
-    let fits = next_fits c.each_full.ensures c.members_add_up.ensures c.args.base.now c.requires.base.base c.in-GoesTo.stage c.polls.poll (g.A.Analyst.work c.args.analyst.now) (g.A.Analyst.work c.polls.analyst) h.0
+    let fits = next_fits c.each_full.ensures c.members_add_up.ensures c.args.base.now c.requires.base.base c.in-GoesTo.stage c.polls.poll (total (map g.A.Analyst.work c.args.analysts.now)) (total (map g.A.Analyst.work c.polls.analysts)) h.0
     (λ n a. stands_stage n c.polls.next c.in-GoesTo.stage c.polls.poll _ _ c.in-GoesTo.is (c.polls.invariant.stands n a)) in
     omega (arith, fits)
 
@@ -50,9 +55,9 @@ returns-in_err-next-in-GoesTo-clause-halted g c =
     let h = holds_stage _ _ _ _ c.in-GoesTo.stage c.in-GoesTo.is c.polls.invariant.holds in
     rw (p.1, p.2) (λ n a.
     let st = stands_stage n c.polls.next c.in-GoesTo.stage c.polls.poll _ _ c.in-GoesTo.is (c.polls.invariant.stands n a) in
-    failed c.members_add_up.ensures c.args.base.now n a (record { stop = g.S.Stop.seen c.args.stop.now; work = g.A.Analyst.work c.args.analyst.now }) (record { stop = g.S.Stop.seen c.polls.stop; work = g.A.Analyst.work c.polls.analyst }) _ c.polls.poll
+    failed c.members_add_up.ensures c.args.base.now n a (record { stop = g.S.Stop.seen c.args.stop.now; work = total (map g.A.Analyst.work c.args.analysts.now) }) (record { stop = g.S.Stop.seen c.polls.stop; work = total (map g.A.Analyst.work c.polls.analysts) }) _ c.polls.poll
     c.counted.ensures c.polls.invariant.some c.polls.invariant.asked c.polls.invariant.quiet c.stop.ensures.questions c.in-GoesTo.stage _ h.0 st.0 (c.stop.ensures.counts.stays (λ said. let z : true ≡ false = sym said ∙ c.if-stop.false in cc))
-    (c.in_err-next-in-GoesTo.ensures.leads n c.polls.poll (g.A.Analyst.work c.args.analyst.now) a c.counted.ensures st.0))
+    (c.in_err-next-in-GoesTo.ensures.leads n c.polls.poll (total (map g.A.Analyst.work c.args.analysts.now)) a c.counted.ensures st.0))
 
 pub polls-preserved : goal.polls-preserved
 polls-preserved g c =
@@ -64,7 +69,7 @@ polls-preserved g c =
       holds = still_next c.args.base.now _ _ _ _ h.1 c.in_ok-next-in-GoesTo.ensures.holds;
       stands = λ n a. (
           let st = stands_stage n c.polls.next c.in-GoesTo.stage c.polls.poll _ _ c.in-GoesTo.is (c.polls.invariant.stands n a) in
-          c.in_ok-next-in-GoesTo.ensures.leads n c.polls.poll (g.A.Analyst.work c.args.analyst.now) a c.counted.ensures st.0);
+          c.in_ok-next-in-GoesTo.ensures.leads n c.polls.poll (total (map g.A.Analyst.work c.args.analysts.now)) a c.counted.ensures st.0);
       some = omega arith;
       asked = omega (arith, some, asked, rises);
       quiet = c.stop.ensures.counts.stays (λ said. let z : true ≡ false = sym said ∙ c.if-stop.false in cc) ∙ c.polls.invariant.quiet;
@@ -73,6 +78,7 @@ polls-preserved g c =
       is_open = c.step.ensures.is_open;
       told = c.step.ensures.told ∙ c.polls.invariant.told;
       part = c.step.ensures.part ∙ c.polls.invariant.part;
+      many = c.step.ensures.many ∙ c.polls.invariant.many;
     }
 
 pub returns-in-Ready-clause-ready : goal.returns-in-Ready-clause-ready
@@ -80,6 +86,6 @@ returns-in-Ready-clause-ready g c = holds_ready _ _ _ _ c.in-Ready.staged c.in-R
 
 pub returns-in-Ready-clause-ended : goal.returns-in-Ready-clause-ended
 returns-in-Ready-clause-ended g c = λ n a.
-    ended c.members_add_up.ensures c.args.base.now n a (record { stop = g.S.Stop.seen c.args.stop.now; work = g.A.Analyst.work c.args.analyst.now }) (record { stop = g.S.Stop.seen c.polls.stop; work = g.A.Analyst.work c.polls.analyst }) _ c.polls.poll
+    ended c.members_add_up.ensures c.args.base.now n a (record { stop = g.S.Stop.seen c.args.stop.now; work = total (map g.A.Analyst.work c.args.analysts.now) }) (record { stop = g.S.Stop.seen c.polls.stop; work = total (map g.A.Analyst.work c.polls.analysts) }) _ c.polls.poll
     c.counted.ensures c.polls.invariant.some c.polls.invariant.asked c.polls.invariant.quiet c.stop.ensures.questions c.polls.next c.in-Ready.staged c.in-Ready.is (c.polls.invariant.stands n a)
     (c.stop.ensures.counts.stays (λ said. let z : true ≡ false = sym said ∙ c.if-stop.false in cc))

@@ -1,7 +1,8 @@
-use Rattle.std.proofs.Common.{◌≡◌, ◌+◌, ◌-◌, ◌^◌, ◌≤◌, min, true}
+use Rattle.std.proofs.Common.{◌≡◌, ◌+◌, ◌-◌, ◌^◌, ◌≤◌, min, true, map, length}
 use Rattle.heap_core.specs.Transactions.{IsStaging}
 use Rattle.recheck_run.specs.Extent.{Extent}
 use Rattle.recheck_run.specs.Steps.{AffectsIn, Stands, HoldsNext}
+use Rattle.work_totals.specs.Totals.{total}
 use Rattle.recheck_run.proofs.running.run.Given as goal
 
 -- before a poll: so much is done, and so many polls said no
@@ -11,7 +12,7 @@ invariant-polls g l =
     let seen = g.S.Stop.seen in
     record {
       holds : HoldsNext l.base (meaning l.fn.writer) (meaning l.writer) l.next;
-      stands : (n : Extent) → AffectsIn l.base n → Stands n l.next l.poll (g.A.Analyst.work l.fn.analyst) (g.A.Analyst.work l.analyst);
+      stands : (n : Extent) → AffectsIn l.base n → Stands n l.next l.poll (total (map g.A.Analyst.work l.fn.analysts)) (total (map g.A.Analyst.work l.analysts));
       some : 1 ≤ l.poll;
       asked : (seen l.stop).questions ≡ min ((seen l.fn.stop).questions + (l.poll - 1)) (2 ^ 64 - 1);
       quiet : (seen l.stop).yes_answers ≡ (seen l.fn.stop).yes_answers;
@@ -20,6 +21,7 @@ invariant-polls g l =
       is_open : (meaning l.writer).is_open ≡ true;
       told : g.W.HeapWriter.told l.writer ≡ g.W.HeapWriter.told l.fn.writer;
       part : g.W.HeapWriter.part l.writer ≡ g.W.HeapWriter.part l.fn.writer;
+      many : length l.analysts ≡ length l.fn.analysts;
     }
 
 abbrev pub decreases-polls : goal.decreases-polls

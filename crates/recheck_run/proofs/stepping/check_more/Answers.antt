@@ -4,13 +4,13 @@ use Rattle.recheck_run.proofs.Goes.{batch_goes_on, batch_failed_on, numbers_low,
 use Rattle.recheck_run.proofs.stepping.check_more.Goals as goal
 
 pub check_batch-requires-clause-numbered : goal.check_batch-requires-clause-numbered
-check_batch-requires-clause-numbered g c = c.requires.checking.signed.numbered
+check_batch-requires-clause-numbered g c κs within = c.requires.checking.signed.numbered
 
 pub check_batch-requires-clause-within : goal.check_batch-requires-clause-within
-check_batch-requires-clause-within g c = numbers_low c.args.checking.sources _ c.args.checking.checked c.as_slice-numbers.ensures c.requires.checking.to_check.within
+check_batch-requires-clause-within g c κs within = numbers_low c.args.checking.sources _ c.args.checking.checked c.as_slice-numbers.ensures c.requires.checking.to_check.within
 
 pub check_batch-requires-clause-checked : goal.check_batch-requires-clause-checked
-check_batch-requires-clause-checked g c = checked_begun c.args.checking.sources c.args.checking.signed _ c.args.checking.checked c.args.checking.done c.args.checking.errors.items c.as_slice-numbers.ensures c.requires.checking.errors
+check_batch-requires-clause-checked g c κs within = checked_begun c.args.checking.sources c.args.checking.signed _ c.args.checking.checked c.args.checking.done c.args.checking.errors.items c.as_slice-numbers.ensures c.requires.checking.errors
 
 pub returns-in_err-check_batch-clause-steps : goal.returns-in_err-check_batch-clause-steps
 returns-in_err-check_batch-clause-steps g c =

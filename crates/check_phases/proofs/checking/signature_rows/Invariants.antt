@@ -1,7 +1,0 @@
-use Rattle.std.proofs.Common.{◌≡◌, take}
-use Rattle.program_check.specs.Full.{beside}
-use Rattle.check_phases.specs.Sourced.{program_in}
-use Rattle.check_phases.proofs.checking.signature_rows.Given as goal
-
-abbrev pub invariant-loop-i : goal.invariant-loop-i
-invariant-loop-i l = l.rows ≡ take l.i (beside (program_in l.sources) l.signatures)

@@ -1,4 +1,0 @@
-use Rattle.check_phases.proofs.work.counted.Goals as goal
-
-pub returns : goal.returns
-returns g c = g.met.A.Analyst.bounded c.args.analyst.now

@@ -1,0 +1,8 @@
+use Rattle.std.proofs.Common.{take}
+use Rattle.std.specs.List.{AllZip}
+use Rattle.check_phases.specs.Checking.{IsJobOf}
+use Rattle.recheck_checking.proofs.checking.jobs_for.Given as goal
+
+-- the jobs so far
+abbrev pub invariant-loop-i : goal.invariant-loop-i
+invariant-loop-i l = AllZip (IsJobOf l.sources l.signed.rows) (take l.i l.numbers) l.jobs.items
