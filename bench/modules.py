@@ -3,7 +3,9 @@
 
     bench/modules.py                       300 and 1,000 generated modules, and 300 dense ones of about 180 lines
     bench/modules.py SHAPE COUNT..         modules of one shape alone; SHAPE is generated or dense
-    bench/modules.py top SHAPE COUNT       the ten functions of flowd that take most time, by perf
+    bench/modules.py --workers N,.. [SHAPE COUNT..]     with so many workers each, as 1,2,4: by itself 300 dense modules, 4,096 and
+                                           30 generated ones
+    bench/modules.py top SHAPE COUNT [N]   the ten functions of flowd that take most time, by perf, with N workers
     bench/modules.py write FOLDER SHAPE COUNT [ts]      writes the modules, for TypeScript where ts is said
 
 A generated module has a type that leads to another module's, a value and a function, as those of `flowd --gen` have. A
@@ -24,6 +26,8 @@ TOP = os.path.dirname(os.path.dirname(os.path.abspath(__file__)))
 FLOWD = os.environ.get("FLOWD", f"{TOP}/crates/flowd/out/flowd")
 TSC = ["tsc", "--noEmit", "--strict", "--target", "es2020", "--lib", "es2020", "--skipLibCheck"]
 PARTS = 10  # of a dense module
+MODULES = 1024  # that flowd takes where no word says more
+SMALL, ROUNDS = 100, (3, 20)  # how often a load is timed: of many modules, and of few
 
 
 class Draws:
@@ -138,23 +142,35 @@ def start_of_tsc():
     return taken
 
 
-def compare(shape, count, start):
+def words_of(count, workers=None):
+    """The words of flowd before the folder, for so many modules and workers."""
+    return [*(["--modules", str(count)] if count > MODULES else []), *(["--workers", str(workers)] if workers else [])]
+
+
+def compare(shape, count, start, workers=(None,)):
+    """Times the load with each number of workers, and TypeScript's compiler over the same modules."""
     with tempfile.TemporaryDirectory() as room:
         size, lines = write(f"{room}/js", shape, count, False)
         write(f"{room}/ts", shape, count, True)
         print(f"{shape}: {count} modules, {lines} lines, {size / 1e6:.2f} MB")
-        ours = spent([FLOWD, f"{room}/js"], b"recheck 1: %d parsed, %d checked, 0 errors\n" % (count, count))
-        said("flowd", ours)
+        told, rounds = b"recheck 1: %d parsed, %d checked, 0 errors\n" % (count, count), ROUNDS[count <= SMALL] if workers[0] else 1
+        ours = {}
+        for n in workers:
+            ours[n] = min(spent([FLOWD, *words_of(count, n), f"{room}/js"], told) for _ in range(rounds))
+            said(f"flowd, {n} worker{'s' * (n > 1)}" if n else "flowd", ours[n])
         theirs = spent([*TSC, *sorted(os.listdir(f"{room}/ts"))], b"", cwd=f"{room}/ts")
         said("tsc", theirs)
-        parts = ours[0] / theirs[0], ours[1] / theirs[1], ours[1] / (theirs[1] - start[1]), ours[2] / theirs[2]
+        for n in workers[1:]:
+            print(f"  {n} workers: {ours[workers[0]][0] / ours[n][0]:.2f} times as fast as {workers[0]}", flush=True)
+        best = ours[workers[-1]]
+        parts = best[0] / theirs[0], best[1] / theirs[1], best[1] / (theirs[1] - start[1]), best[2] / theirs[2]
         print("  of TypeScript's: %.3f of the time, %.3f of processors, %.3f without its start, %.3f of the memory" % parts, flush=True)
 
 
-def top(shape, count):
+def top(shape, count, workers=None):
     with tempfile.TemporaryDirectory() as room:
         write(f"{room}/js", shape, count, False)
-        subprocess.run(["perf", "record", "-q", "-o", f"{room}/perf", FLOWD, f"{room}/js"], stdin=subprocess.DEVNULL, check=True)
+        subprocess.run(["perf", "record", "-q", "-o", f"{room}/perf", FLOWD, *words_of(count, workers), f"{room}/js"], stdin=subprocess.DEVNULL, check=True)
         report = ["perf", "report", "-i", f"{room}/perf", "--stdio", "-q", "--sort", "symbol"]
         rows = subprocess.run(report, stdout=subprocess.PIPE, check=True).stdout.decode().splitlines()
         print("\n".join([row for row in rows if row.strip()][:10]))
@@ -164,12 +180,15 @@ def main(words):
     if words[:1] == ["write"]:
         write(words[1], words[2], int(words[3]), words[4:] == ["ts"])
     elif words[:1] == ["top"]:
-        top(words[1], int(words[2]))
+        top(words[1], *map(int, words[2:]))
     else:
+        workers, rows = (None,), [("generated", 300), ("generated", 1000), ("dense", 300)]
+        if words[:1] == ["--workers"]:
+            workers, rows = [int(n) for n in words[1].split(",")], [("dense", 300), ("generated", 4096), ("generated", 30)]
+            words = words[2:]
         start = start_of_tsc()
-        shape, counts = words[:1], [int(count) for count in words[1:]]
-        for row in [(*shape, count) for count in counts] or [("generated", 300), ("generated", 1000), ("dense", 300)]:
-            compare(*row, start)
+        for row in [(words[0], int(count)) for count in words[1:]] or rows:
+            compare(*row, start, workers)
 
 
 if __name__ == "__main__":

@@ -25,7 +25,7 @@ WIDTH = 120
 WHY = {
     1: "the program was not built",
     66: "{folder} can't be listed: it is no folder, may not be read, or has a name that can't be a path",
-    69: "{folder} has too many modules: 1,024 are the most",
+    69: "{folder} has too many modules: 4,096 are the most",
     70: "there was not enough memory to check {folder}",
 }
 
@@ -44,7 +44,7 @@ class Program:
 
     def __init__(self, folder):
         self.folder, pipe = folder, subprocess.PIPE
-        self.flowd = subprocess.Popen([FLOWD, folder], stdin=pipe, stdout=pipe)
+        self.flowd = subprocess.Popen([FLOWD, "--modules=4096", folder], stdin=pipe, stdout=pipe)
         self.load = self.recheck_line()
 
     def say(self, **command):

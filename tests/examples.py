@@ -87,9 +87,9 @@ def folders_that_cannot_be_checked(root):
     write(f"{root}/one/b.js")
     os.truncate(f"{root}/one/b.js", MOST_BYTES + 1)
     expect(checked("one", cwd=root), (1, "", "check.py: one/b.js can't be read\n"))
-    for number in range(1025):
+    for number in range(4097):
         write(f"{root}/many/m{number}.js", b"")
-    expect(checked("many", cwd=root), (LIMIT, "", "check.py: many has too many modules: 1,024 are the most\n"))
+    expect(checked("many", cwd=root), (LIMIT, "", "check.py: many has too many modules: 4,096 are the most\n"))
 
 
 def examples_of_codes():

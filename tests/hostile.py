@@ -1,28 +1,33 @@
 #!/usr/bin/env python3
 """Runs ./flowd on sources that were made to hurt it: as long, as deep and as wide as the limit of a source lets them be.
 
-    tests/hostile.py [WORD]       (only the cases whose name has this word)
+    tests/hostile.py [--more] [WORD]       (only the cases whose name has this word)
 
-Each run must print what the rules say, end by itself, and stay within a bound of time and of memory that goes by the
-bytes that it reads and prints. The last line is 'N passed, M failed'.
+The sources of a case are checked as the folder's, by one worker. With --more they are checked by four, and again where edits bring
+them in; each is checked as a text that isn't saved, too, and types are asked for in it. Each run must print what the rules say, end by itself, and stay within a bound of time and of memory
+that goes by the bytes that it reads and prints. The last line is 'N passed, M failed'.
 """
 
+import json
 import os
+import re
 import resource
 import subprocess
 import sys
 
 sys.path.insert(0, os.path.dirname(os.path.abspath(__file__)))
 import real_folders
-from real_folders import CLEAN, ERRORS, FLOWD, recheck, write
+from real_folders import CLEAN, ERRORS, FLOWD, write
 
 MOST = 1_048_576  # bytes of a source
 DEEPEST = 200  # brackets in one another
-STACK = 1 << 30  # what the thread that does all work asks for
-SECONDS = 20  # of a processor
+MORE = "--more" in sys.argv
+sys.argv = [word for word in sys.argv if word != "--more"]
+THREADS = 4 if MORE else 1  # which work at once, each with a stack and an arena of its own
+STACK, ARENA = 1 << 30, 128 << 20
+SECONDS = 20  # of a processor, for each time that the sources are checked
 START, EACH = 32 << 20, 300  # bytes of memory at the most: those at the start, and those for each byte
 CASES = real_folders.CASES = []
-STATUS = b'{"do":"ask","ask":{"what":"status"}}\n'
 
 
 def case(test):
@@ -30,18 +35,26 @@ def case(test):
     return test
 
 
-def limits():
-    resource.setrlimit(resource.RLIMIT_CPU, (SECONDS, SECONDS))
-    resource.setrlimit(resource.RLIMIT_AS, (STACK + START + EACH * 8 * MOST,) * 2)
+def command(**parts):
+    return json.dumps(parts, ensure_ascii=False).encode() + b"\n"
+
+
+STATUS, RECHECK = command(do="ask", ask={"what": "status"}), command(do="recheck")
+
+
+def limits(times):
+    resource.setrlimit(resource.RLIMIT_CPU, (SECONDS * times,) * 2)
+    resource.setrlimit(resource.RLIMIT_AS, (THREADS * (STACK + ARENA) + START + EACH * 8 * MOST,) * 2)
     resource.setrlimit(resource.RLIMIT_CORE, (0, 0))
 
 
-def run(root, script):
+def run(root, folder, script, times):
     """Runs ./flowd with a script, and returns its status, what it wrote, and the peak of its memory in bytes."""
     with open(f"{root}/script", "wb") as file:
         file.write(script)
     with open(f"{root}/script", "rb") as lines, open(f"{root}/out", "wb") as out:
-        child = subprocess.Popen([FLOWD, f"{root}/d"], stdin=lines, stdout=out, stderr=out, preexec_fn=limits)
+        words = [FLOWD, f"--workers={THREADS}", f"{root}/{folder}"]
+        child = subprocess.Popen(words, stdin=lines, stdout=out, stderr=out, preexec_fn=lambda: limits(times))
         _, status, usage = os.wait4(child.pid, 0)
         child.returncode = os.waitstatus_to_exitcode(status)
     with open(f"{root}/out", "rb") as out:
@@ -52,25 +65,105 @@ def brief(text):
     return text if len(text) < 400 else text[:200] + b" .. " + text[-200:]
 
 
-def expect_told(root, sources, script, status, text):
-    """What ./flowd prints of these modules, and what it takes for that."""
+def place_of(source, at):
+    """The line and the column of a byte of a source."""
+    before = source.encode()[:at]
+    return before.count(b"\n") + 1, len(before[before.rfind(b"\n") + 1 :].decode(errors="ignore")) + 1
+
+
+class Told:
+    """A script, and what is told of it: bytes that are known, and types that are not, each on a line of its own."""
+
+    def __init__(self, text=b""):
+        self.script, self.parts, self.times = b"", [text], 1
+
+    def put(self, script, *parts, times=0):
+        self.script += script
+        self.parts += parts
+        self.times += times
+
+    def check_contents(self, version, name, source, errors):
+        """A text that isn't saved has the errors of its module."""
+        own = [error for error in errors if error.startswith(f"{name}.js:")]
+        asked = command(do="ask", ask={"what": "check-contents", "path": f"{name}.js", "text": source})
+        rows = "".join(f"  {error}\n" for error in own)
+        self.put(asked, f"{version} check-contents {name}.js: {len(own)} errors\n{rows}".encode(), times=1)
+
+    def type_at(self, version, name, place, shown=None):
+        """A type at a place: this one, or any one or none."""
+        asked = command(do="ask", ask={"what": "type-at-pos", "path": f"{name}.js", "line": place[0], "col": place[1]})
+        said = f"{name}.js:{place[0]}:{place[1]}"
+        if shown is None:
+            any_type = f"(?:{version} no expression {re.escape(said)}|{version} type-at-pos {re.escape(said)}: [^\n]+)\n"
+            self.put(asked, re.compile(any_type.encode()), times=1)
+        else:
+            self.put(asked, f"{version} type-at-pos {said}: {shown}\n".encode(), times=1)
+
+    def is_told(self, text):
+        at = 0
+        for part in self.parts:
+            if isinstance(part, bytes):
+                end = at + len(part) if text.startswith(part, at) else None
+            else:
+                found = part.match(text, at)
+                end = found and found.end()
+            if end is None:
+                return False
+            at = end
+        return at == len(text)
+
+    def expect(self, root, folder, sources, status):
+        ended, text, memory = run(root, folder, self.script, self.times)
+        if ended != status or not self.is_told(text):
+            known = b"".join(part if isinstance(part, bytes) else b"(a type)\n" for part in self.parts)
+            raise AssertionError(f"over {folder} it ended with {ended} and printed {brief(text)}, and not with {status} and {brief(known)}")
+        bound = START + EACH * (sum(map(len, sources.values())) + len(self.script) + len(text))
+        if memory > bound:
+            raise AssertionError(f"over {folder} it took {memory} bytes of memory, which is more than {bound}")
+
+
+def status_of(version, errors):
+    rows = "".join(f"  {error}\n" for error in errors)
+    return f"{version} status: {len(errors)} errors\n{rows}".encode()
+
+
+def done(version, modules, errors):
+    return b"recheck %d: %d parsed, %d checked, %d errors\n" % (version, modules, modules, errors)
+
+
+def of_the_folder(root, errors, sources, types):
+    """The folder has the sources; the errors of each by its text, and a type in the middle of each."""
     for name, source in sources.items():
-        if len(source) > MOST:
-            raise AssertionError(f"{name}.js has {len(source)} bytes, which is past the limit")
         write(f"{root}/d/{name}.js", source.encode())
-    ended, told, memory = run(root, script)
-    if (ended, told) != (status, text):
-        raise AssertionError(f"it ended with {ended} and printed {brief(told)}, and not with {status} and {brief(text)}")
-    bound = START + EACH * (sum(map(len, sources.values())) + len(script) + len(text))
-    if memory > bound:
-        raise AssertionError(f"it took {memory} bytes of memory, which is more than {bound}")
+    told = Told(done(1, len(sources), len(errors)))
+    told.put(STATUS, status_of(1, errors))
+    for name, source in sources.items() if MORE else ():
+        told.check_contents(1, name, source, errors)
+        told.type_at(1, name, place_of(source, len(source.encode()) // 2))
+    for name, row, column, shown in types if MORE else ():
+        told.type_at(1, name, (row, column), shown)
+    told.expect(root, "d", sources, ERRORS if errors else CLEAN)
 
 
-def expect(root, errors, **sources):
-    """The errors of these modules, each as PATH:LINE:COLUMN CODE DETAILS."""
-    lines = "".join(f"  {error}\n" for error in errors)
-    told = recheck(len(sources), len(errors)) + f"1 status: {len(errors)} errors\n{lines}".encode()
-    expect_told(root, sources, STATUS, ERRORS if errors else CLEAN, told)
+def of_edits(root, errors, sources):
+    """The folder is empty, and edits bring the sources in; a type at the end of each."""
+    os.makedirs(f"{root}/e", exist_ok=True)
+    told = Told(done(1, 0, 0))
+    told.put(b"".join(command(do="edit", path=f"{name}.js", text=source) for name, source in sources.items()) + RECHECK, done(2, len(sources), len(errors)))
+    told.put(STATUS, status_of(2, errors))
+    for name, source in sources.items():
+        told.type_at(2, name, place_of(source, len(source.encode()) - 1))
+    told.expect(root, "e", sources, ERRORS if errors else CLEAN)
+
+
+def expect(root, errors, types=(), most=MOST, **sources):
+    """The errors of these modules, each as PATH:LINE:COLUMN CODE DETAILS, and types in them, each at a module, a line and a column."""
+    for name, source in sources.items():
+        if len(source.encode()) > most:
+            raise AssertionError(f"{name}.js has {len(source.encode())} bytes, which is past the limit")
+    of_the_folder(root, errors, sources, types)
+    if MORE:
+        of_edits(root, errors, sources)
 
 
 def filled(part, before="", after="", size=MOST):
@@ -96,7 +189,7 @@ def parentheses(root):
 def the_deepest_parentheses(root):
     text = "(" * DEEPEST + "a" + ")" * DEEPEST
     errors = [f"a.js:1:{DEEPEST + 1} cannot-resolve-name a", f"b.js:1:{DEEPEST + 1} parse"]
-    expect(root, errors, a=f"{text};", b=f"({text});")
+    expect(root, errors, [("a", 1, DEEPEST + 1, "any")], a=f"{text};", b=f"({text});")
 
 
 @case
@@ -133,7 +226,7 @@ def conditionals(root):
 def properties_of_properties(root):
     text, times = filled(".a", "a", ";")
     errors = ["a.js:1:1 cannot-resolve-name a", f"b.js:1:{2 * times + 2} parse"]
-    expect(root, errors, a=text, b=text[:-1])
+    expect(root, errors, [("a", 1, 2 * times + 1, "any")], a=text, b=text[:-1])
 
 
 @case
@@ -143,12 +236,14 @@ def calls_and_elements(root):
 
 @case
 def marks_before_a_value(root):
-    expect(root, [], a=filled("!", "const a: boolean = ", "1;")[0])
+    head = "const a: boolean = "
+    expect(root, [], [("a", 1, len(head) + 1, "boolean")], a=filled("!", head, "1;")[0])
 
 
 @case
 def sums(root):
-    expect(root, [], a=filled("+1", "const a: number = 1", ";")[0])
+    text, times = filled("+1", "const a: number = 1", ";")
+    expect(root, [], [("a", 1, len(text) - 2, "number"), ("a", 1, len(text) - 1, "1")], a=text)
 
 
 @case
@@ -223,9 +318,10 @@ def values_of_deep_types(root):
     """Two values of types that are deep in the same way, one assigned to the other."""
     depth = 10_000
     lines = "".join(f"let x{i + 1}=[x{i}];let y{i + 1}=[y{i}];\n" for i in range(depth))
-    shown = cut("Array<" * depth + "number" + ">" * depth)
-    error = f'a.js:{depth + 3}:{len(f"x{depth}=") + 1} incompatible-type "a" {shown}'
-    expect(root, [error], a=f"let x0=1;let y0=2;\n{lines}x{depth}=y{depth};\nx{depth}='a';\n")
+    shown = "Array<" * depth + "number" + ">" * depth
+    place = len(f"x{depth}=") + 1
+    error = f'a.js:{depth + 3}:{place} incompatible-type "a" {cut(shown)}'
+    expect(root, [error], [("a", depth + 2, place, shown)], a=f"let x0=1;let y0=2;\n{lines}x{depth}=y{depth};\nx{depth}='a';\n")
 
 
 # Types that are large, though their source is short.
@@ -257,23 +353,21 @@ def aliases_in_a_row(root):
 @case
 def one_name(root):
     name = "a" * (MOST - 1)
-    expect(root, [f"a.js:1:1 cannot-resolve-name {name}"], a=f"{name};")
+    expect(root, [f"a.js:1:1 cannot-resolve-name {name}"], [("a", 1, MOST - 1, "any")], a=f"{name};")
 
 
 @case
 def one_string(root):
     line = "const a: number = "
     text, times = filled("a", f'{line}"', '";')
-    string = '"' + "a" * times
+    string = '"' + "a" * times + '"'
     errors = [f"a.js:1:{len(line) + 1} incompatible-type {cut(string)} number", "b.js:1:1 bad-token"]
-    expect(root, errors, a=text, b=string)
+    expect(root, errors, [("a", 1, len(line) + 1, string)], a=text, b=string[:-1])
 
 
 @case
 def a_source_past_the_limit(root):
-    write(f"{root}/d/b.js", b" " * (MOST + 1))
-    told = recheck(2, 1) + b"1 status: 1 errors\n  b.js:1:1 source-too-long\n"
-    expect_told(root, {"a": " " * MOST}, STATUS, ERRORS, told)
+    expect(root, ["b.js:1:1 source-too-long"], most=MOST + 1, a=" " * MOST, b=" " * (MOST + 1))
 
 
 @case

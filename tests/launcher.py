@@ -115,12 +115,11 @@ def a_build_that_fails(root):
 
 
 @case
-def what_is_to_come_is_named(root):
-    for words in (["--gen", "4", "--seed", "1"], [root, "--workers"], ["--workers", "0", root]):
-        word = next(it for it in words if it.startswith("--")).encode()
+def what_has_no_effect_yet_is_named(root):
+    told = b"flowd: --lanes is read, and has no effect yet\n"
+    for words, wanted in ((["--lanes", "0", root], told), ([root, "--lanes=17"], told), (["--workers", "0", root], b"")):
         status, out, note = launched(TOP, *words)
-        note = note.replace(NOTE, b"")
-        expect((status, out, note), (BAD_WORDS, USAGE, b"flowd: %s is to come: today the only form is flowd ROOT\n" % word))
+        expect((status, out, note.replace(NOTE, b"")), (BAD_WORDS, USAGE, wanted))
 
 
 @case

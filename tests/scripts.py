@@ -486,7 +486,7 @@ def commands_of_the_readme():
 @case
 def the_examples_print_what_the_readme_shows(root):
     commands = commands_of_the_readme()
-    if len(commands) != 3:
+    if len(commands) != 4:
         raise AssertionError(f"the README shows {len(commands)} commands over the examples")
     for command, printed in commands:
         command, env = command.replace("./flowd", FLOWD), {**os.environ, "FLOWD": FLOWD}
@@ -594,15 +594,15 @@ def a_stack_that_cannot_be_had(root):
 
 @case
 def a_large_stack_takes_no_memory(root):
-    """What waits for a line has the memory that it has touched, and not that of its stack."""
+    """What waits for a line has the memory that it has touched, beside its own file, and not that of its stack."""
     if not os.path.exists("/proc/self/status"):
         raise real_folders.LeftOut("there is no /proc")
     talk = Talk(root)
     talk.expect(recheck(0))
     with open(f"/proc/{talk.flowd.pid}/status", encoding="ascii") as about:
-        sizes = {words[0]: int(words[1]) for words in map(str.split, about) if words[0] in ("VmSize:", "VmRSS:")}
+        sizes = {words[0]: int(words[1]) for words in map(str.split, about) if words[0] in ("VmSize:", "RssAnon:")}
     talk.end(CLEAN)
-    if sizes["VmSize:"] < 1 << 20 or sizes["VmRSS:"] > 8 << 10:
+    if sizes["VmSize:"] < 1 << 20 or sizes["RssAnon:"] > 8 << 10:
         raise AssertionError(f"it has {sizes} kB")
 
 

@@ -14,7 +14,7 @@ use std::alloc::Global;
 /// The analyst of the language: its answers are those of the crates that read, merge and check.
 #[derive(Drop)]
 pub struct FlowAnalyst {
-    alloc: Global,
+    pub(crate) alloc: Global,
     fronts: u64,
     merges: u64,
     checks: u64,

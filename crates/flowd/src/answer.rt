@@ -1,15 +1,21 @@
-ghost use Rattle.std.specs.Prelude.{◌≡◌, map, slice_get, string_bytes, IfSome, Some};
+ghost use Rattle.std.specs.Prelude.{◌≡◌, ℕ, map, slice_get, string_bytes, Some};
 ghost use Rattle.flow_base.specs.declared.outside.LastFault.TheVariants.{Never};
-ghost use Rattle.flowd_top.specs.Words.{root_place};
+ghost use Rattle.command_words.specs.Words.{Says};
+ghost use Rattle.command_words.specs.declared.command.Command as the_command;
+ghost use Rattle.command_words.specs.declared.command.Form.TheVariants as form;
 ghost use Rattle.flowd.specs.Answer.{IsAnswer};
 
 use crate::folder::DirFolder;
 use crate::streams::{StdinSource, StdoutSink};
-use flow_analyst::FlowAnalyst;
+use command_words::{one_command, root_word};
+use core::thread::Stack;
+use flow_analyst::{FlowAnalyst, FlowAnalysts};
 use flow_base::Open;
-use flowd_top::{Status, flowd, root_word};
+use flowd_top::{Status, flowd};
 use std::snapshot::Snapshot;
-use std::thread::{Builder, Promise, Threads};
+use std::sync::Wait;
+use std::thread;
+use std::thread::{Promise, Threads};
 
 // The bytes of the stack of the thread that does all work: 1 GiB. Each level of a type takes some of
 // it where a type is walked, and no source within the limit has a type so deep that it takes all.
@@ -17,9 +23,11 @@ use std::thread::{Builder, Promise, Threads};
 const STACK: usize = 1 << 30;
 
 // The words of the folder that is opened.
+#[tactic(auto, using(crate::proofs::Answering::that_place))]
 fn root_of(words: &[String]) -> &str
-    ensures { IfSome (root_place (map string_bytes words.now)) (λ place. slice_get (map string_bytes words.now) place ≡ Some result.now) }
+    ensures { (c : the_command.Command) (place : ℕ) → Says (map string_bytes words.now) c → c.form ≡ form.Folder place → slice_get (map string_bytes words.now) place ≡ Some result.now }
 {
+    one_command();
     match root_word(words) {
         Some(place) => words[place].as_str(),
         None => ".",
@@ -28,7 +36,7 @@ fn root_of(words: &[String]) -> &str
 
 // The folder of the words.
 fn folder_of<'a>(rt: &'a HostRuntime, words: &'a [String]) -> DirFolder<'a, HostRuntime>
-    ensures root { IfSome (root_place (map string_bytes words.now)) (λ place. slice_get (map string_bytes words.now) place ≡ Some result.root.now) }
+    ensures root { (c : the_command.Command) (place : ℕ) → Says (map string_bytes words.now) c → c.form ≡ form.Folder place → slice_get (map string_bytes words.now) place ≡ Some result.root.now }
     ensures faults { result.faults ≡ 0 }
     ensures last_fault { result.last ≡ Never }
 {
@@ -36,30 +44,24 @@ fn folder_of<'a>(rt: &'a HostRuntime, words: &'a [String]) -> DirFolder<'a, Host
 }
 
 // The run on these words.
-fn answer(rt: &HostRuntime, words: &[String]) -> Status
+fn answer<R: Threads + Wait + Sync>(threads: &R, rt: &HostRuntime, words: &[String]) -> Status
     ensures { IsAnswer (map string_bytes words.now) result }
 {
     let mut folder = folder_of(rt, words);
     let mut script = StdinSource::new(rt.reader());
     let mut out = StdoutSink::new(rt);
     let alloc = rt.alloc();
-    let analyst = FlowAnalyst::new(alloc);
-    flowd(
+    let maker = FlowAnalysts::new(alloc);
+    flowd::<_, _, _, _, _, FlowAnalyst, _>(
+        threads,
         alloc,
         words,
+        &maker,
         &mut folder,
         &mut script,
         &mut out,
         &Open,
-        analyst,
     )
-}
-
-// The same with words of its own.
-fn answer_own(rt: HostRuntime, words: Vec<String>) -> Status
-    ensures { IsAnswer (map string_bytes words.items) result }
-{
-    answer(&rt, words.as_slice())
 }
 
 // The status is what a run on these words answers.
@@ -75,19 +77,35 @@ impl Promise<Status> for Answered {
 /// The run on these words, on a thread with a large stack. Where no such thread can be started it
 /// says so on standard error, and nothing is done.
 #[tactic(auto, using(crate::proofs::Answering::nothing_done))]
-pub fn answer_apart(threads: &impl Threads, rt: &HostRuntime, words: Vec<String>) -> Status
+pub fn answer_apart<R: Threads + Wait + Sync>(
+    threads: &R,
+    rt: &HostRuntime,
+    words: Vec<String>,
+) -> Status
     ensures { IsAnswer (map string_bytes words.items) result }
 {
     let own = *rt;
-    let promise = Answered(Snapshot::of(&words));
-    let started = Builder::new()
-        .stack_size(STACK)
-        .spawn_with(threads, promise, move || answer_own(own, words));
-    match started {
-        Ok(thread) => thread.join(threads),
-        Err(_) => {
-            let _ = rt.eprintln("flowd: no thread with a stack of 1 GiB could be started");
-            Status::NoMemory
-        }
-    }
+    thread::scope(
+        thread::scope_env(),
+        threads,
+        move |scope| -> Status
+            ensures { IsAnswer (map string_bytes words.items) result }
+        {
+            let promise = Answered(Snapshot::of(&words));
+            let started = Stack::new().stack_size(STACK).spawn_scoped_with(
+                scope,
+                promise,
+                move || -> Status
+                    ensures { IsAnswer (map string_bytes words.items) result }
+                { answer(threads, &own, words.as_slice()) },
+            );
+            match started {
+                Ok(child) => child.join(threads),
+                Err(_) => {
+                    let _ = own.eprintln("flowd: no thread with a stack of 1 GiB could be started");
+                    Status::NoMemory
+                }
+            }
+        },
+    )
 }

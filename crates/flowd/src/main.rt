@@ -17,6 +17,7 @@ use flowd_top::Status;
 use std::env;
 use std::io::ErrorKind;
 use std::process::ExitCode;
+use std::sync::Wait;
 use std::thread::Threads;
 
 // The words of the command line, without the program's own name. Where one is not UTF-8 there are
@@ -37,7 +38,7 @@ fn words(rt: &HostRuntime) -> Result<Vec<String>, NoMemory> {
 
 // The status of the run on the words of the command line.
 #[tactic(auto, using(crate::proofs::Answering::nothing_done))]
-fn run(threads: &impl Threads, rt: &HostRuntime) -> Status
+fn run<R: Threads + Wait + Sync>(threads: &R, rt: &HostRuntime) -> Status
     ensures { HasAnswered result }
 {
     match words(rt) {
@@ -47,7 +48,7 @@ fn run(threads: &impl Threads, rt: &HostRuntime) -> Status
 }
 
 // What the process ends with.
-fn exit_code(threads: &impl Threads, rt: &HostRuntime) -> ExitCode
+fn exit_code<R: Threads + Wait + Sync>(threads: &R, rt: &HostRuntime) -> ExitCode
     ensures { EndsWith result }
 {
     ExitCode::from(run(threads, rt).number())

@@ -1,2 +1,2 @@
 pub mod Run
-pub mod Words
+pub mod Statuses

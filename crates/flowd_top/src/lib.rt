@@ -4,9 +4,7 @@
 mod laws;
 mod status;
 mod top;
-mod words;
 
 pub use laws::{a_front_goes_on, one_transcript};
 pub use status::Status;
 pub use top::flowd;
-pub use words::root_word;

@@ -1,53 +1,70 @@
-ghost use Rattle.std.specs.Prelude.{◌≡◌, ◌≤◌, ◌<◌, ◌⊎◌, map, length, string_bytes, Err};
+ghost use Rattle.std.specs.Prelude.{◌≡◌, ◌≤◌, ◌<◌, ◌⊎◌, ℕ, List, map, length, string_bytes, IfOk};
+ghost use Rattle.std.specs.Int.{IsInRange};
 ghost use Rattle.std.specs.List.{AllByRecursion};
 ghost use Rattle.flow_base.specs.Path.{IsNormalPath};
-ghost use Rattle.flow_base.specs.Program.{IsRising};
+ghost use Rattle.flow_base.specs.Program.{Bytes, IsRising};
 ghost use Rattle.flow_base.specs.Causes.{raised, Counts};
 ghost use Rattle.flow_base.specs.Seen.{outside};
 ghost use Rattle.flow_base.specs.declared.outside.LastFault.TheVariants.{Listing};
+ghost use Rattle.command_words.specs.Words.{AreOfCommand};
+ghost use Rattle.command_words.specs.declared.command.Command as the_command;
 ghost use Rattle.script_print.specs.Printed.{files_line};
-ghost use Rattle.flowd_top.specs.Words.{AreOfCommand, MOST_MODULES};
-ghost use Rattle.flowd_top.specs.Run.{Leaves, RunLeaves, WritesLast, status_after};
+ghost use Rattle.script_run.specs.declared.ending.WalkEnd.TheVariants.{Finished};
+ghost use Rattle.flowd_top.specs.Run.{NamesFolder, MakesUp, Leaves, RunLeaves, GeneratedLeaves, WritesLast, status_after};
 
-use crate::words::usage;
-use crate::{Status, root_word};
+use crate::Status;
 use affected_sizes::each_edit_has_sizes;
 use analyst::Analyst;
-use flow_base::{Folder, FolderFault, List, Path, Sink, SinkFault, Source, Turnstile};
+use answers_law::each_has_answer;
+use command_words::{Command, Form, one_command, read_words, usage};
+use flow_base::{Folder, FolderFault, List, NoMemory, Path, Sink, SinkFault, Source, Turnstile};
+use generated_run::{one_generated_run, run_generated};
+use place_analyst::{AnalystMaker, PlaceAnalyst};
 use script_print::files_line;
 use script_run::{Ended, RunFault, WalkEnd, empty_heap, run, write_all};
 use std::alloc::Global;
+use std::sync::Wait;
+use std::thread::Threads;
 
-// The most modules.
-const MOST_MODULES: u32 = 1024;
-
-/// All that the program does: it loads the modules of the folder, and then takes the lines of the
-/// script, edits, rechecks and questions, one after the other. The words are those of the command
-/// without the program's own name. What a line prints is written before the next one is read. The analyst
-/// reads, merges and checks. At each poll of a recheck the turnstile is passed.
+/// All that the program does. The words are those of the command without the program's own name. Where they
+/// name a folder, it loads the modules of the folder, and then takes the lines of the script, edits, rechecks and
+/// questions, one after the other; what a line prints is written before the next one is read. Where they ask for modules
+/// that are made up, it makes these, and rechecks them after each of ten edits. As many analysts as the words say are
+/// made, and all recheck. At each poll of a recheck, and at each question, the turnstile is passed.
 ///
 /// The status says how the run ended. Only want of memory may come without a cause.
 #[tactic(auto, using(crate::proofs::Endings::nothing_left))]
-pub fn flowd<F: Folder, S: Source, K: Sink, T: Turnstile + Sync, A: Analyst + Drop>(
+pub fn flowd<
+    R: Threads + Wait + Sync,
+    F: Folder,
+    S: Source,
+    K: Sink,
+    T: Turnstile + Sync,
+    A: Analyst + PlaceAnalyst + Send + Drop,
+    M: AnalystMaker<A>,
+>(
+    rt: &R,
     alloc: Global,
     words: &[String],
+    maker: &M,
     folder: &mut F,
     script: &mut S,
     out: &mut K,
     turns: &T,
-    analyst: A,
 ) -> Status
     // What was printed is a whole transcript with this status; after a fault of the script all of one up to the last
     // whole line that the script gave, and after one of the sink, and at want of memory, a front of one, with no more read
     // faults than the folder counted. After a fault of the folder nothing was printed.
-    ensures printed { Leaves MOST_MODULES result (map string_bytes words.now)
+    ensures printed { Leaves result (map string_bytes words.now)
         (outside (F.seen folder.old) (S.seen script.old) (K.seen out.old)) (outside (F.seen folder.new) (S.seen script.new) (K.seen out.new)) }
 
-    // Where the words are not of the command, neither the folder nor the script is touched.
+    // Where the words are not of the command, or name no folder, neither the folder nor the script is touched.
     ensures no_command { (AreOfCommand (map string_bytes words.now) → ⊥) →
         (result ≡ Status.Usage) ⊎ (result ≡ Status.SinkFault) ⊎ (result ≡ Status.NoMemory) }
-    ensures no_folder { (AreOfCommand (map string_bytes words.now) → ⊥) → folder.new ≡ folder.old }
-    ensures no_script { (AreOfCommand (map string_bytes words.now) → ⊥) → script.new ≡ script.old }
+    ensures made_up { (c : the_command.Command) (n seed : ℕ) → MakesUp (map string_bytes words.now) c n seed →
+        (result ≡ Status.Clean) ⊎ (result ≡ Status.Errors) ⊎ (result ≡ Status.SinkFault) ⊎ (result ≡ Status.NoMemory) }
+    ensures no_folder { ((c : the_command.Command) → NamesFolder (map string_bytes words.now) c → ⊥) → folder.new ≡ folder.old }
+    ensures no_script { ((c : the_command.Command) → NamesFolder (map string_bytes words.now) c → ⊥) → script.new ≡ script.old }
 
     // Each fault has its cause, and none is passed over: the script and the sink counted one where the status is theirs,
     // and else none. The folder counted one, its listing, where the status is its own; `printed` says how many read faults
@@ -61,9 +78,50 @@ pub fn flowd<F: Folder, S: Source, K: Sink, T: Turnstile + Sync, A: Analyst + Dr
     ensures told { (F.seen folder.new).told ≡ (F.seen folder.old).told }
     ensures folder_later { (F.seen folder.old).faults ≤ (F.seen folder.new).faults }
 {
-    let Some(_root) = root_word(words) else {
+    one_command();
+    each_edit_has_sizes();
+    let Some(command) = read_words(words) else {
         return write_last(out, usage(), Status::Usage);
     };
+    match command.form {
+        Form::Folder { .. } => run_folder(rt, alloc, command, maker, folder, script, out, turns),
+        Form::Generated { modules, seed } => {
+            run_made_up(rt, alloc, command, modules, seed, maker, out, turns)
+        }
+    }
+}
+
+// The run over a folder, for words that tell this command.
+#[tactic(auto, using(crate::proofs::Endings::nothing_left_by))]
+fn run_folder<
+    R: Threads + Wait + Sync,
+    F: Folder,
+    S: Source,
+    K: Sink,
+    T: Turnstile,
+    A: Analyst + PlaceAnalyst + Send + Drop,
+    M: AnalystMaker<A>,
+>(
+    rt: &R,
+    alloc: Global,
+    command: Command,
+    maker: &M,
+    folder: &mut F,
+    script: &mut S,
+    out: &mut K,
+    turns: &T,
+) -> Status
+    requires modules { IsInRange 1 4096 command.modules }
+    requires workers { IsInRange 1 64 command.workers }
+    ensures printed { (words : List Bytes) → NamesFolder words command → Leaves result words
+        (outside (F.seen folder.old) (S.seen script.old) (K.seen out.old)) (outside (F.seen folder.new) (S.seen script.new) (K.seen out.new)) }
+    ensures script_counts { Counts (result ≡ Status.ScriptFault) (S.seen script.old).faults (S.seen script.new).faults }
+    ensures sink_counts { Counts (result ≡ Status.SinkFault) (K.seen out.old).faults (K.seen out.new).faults }
+    ensures folder_fault { result ≡ Status.FolderFault → (F.seen folder.new).faults ≡ raised (F.seen folder.old).faults }
+    ensures listing { result ≡ Status.FolderFault → (F.seen folder.new).last_fault ≡ Listing }
+    ensures told { (F.seen folder.new).told ≡ (F.seen folder.old).told }
+    ensures folder_later { (F.seen folder.old).faults ≤ (F.seen folder.new).faults }
+{
     let listed = match folder.list() {
         Ok(listed) => listed,
         Err(FolderFault::Failed) => return Status::FolderFault,
@@ -71,10 +129,10 @@ pub fn flowd<F: Folder, S: Source, K: Sink, T: Turnstile + Sync, A: Analyst + Dr
     };
     let paths = listed.as_slice();
     see_normal(paths);
-    if listed.len() > MOST_MODULES as usize {
+    if listed.len() > command.modules as usize {
         return refuse_files(alloc, &listed, out);
     }
-    run_over(alloc, paths, analyst, folder, script, out, turns)
+    run_over(rt, alloc, command, paths, maker, folder, script, out, turns)
 }
 
 // Each path is a normal one.
@@ -90,18 +148,30 @@ fn see_normal(paths: &[Path])
 
 // The run over these listed paths.
 #[tactic(auto, using(crate::proofs::Endings::nothing_run))]
-fn run_over<F: Folder, S: Source, K: Sink, T: Turnstile, A: Analyst + Drop>(
+fn run_over<
+    R: Threads + Wait + Sync,
+    F: Folder,
+    S: Source,
+    K: Sink,
+    T: Turnstile,
+    A: Analyst + PlaceAnalyst + Send + Drop,
+    M: AnalystMaker<A>,
+>(
+    rt: &R,
     alloc: Global,
+    command: Command,
     listed: &[Path],
-    analyst: A,
+    maker: &M,
     folder: &mut F,
     script: &mut S,
     out: &mut K,
     turns: &T,
 ) -> Status
+    requires modules { IsInRange 1 4096 command.modules }
+    requires workers { IsInRange 1 64 command.workers }
     requires rising { IsRising listed.now }
-    requires few { length listed.now ≤ MOST_MODULES }
-    ensures leaves { RunLeaves MOST_MODULES listed.now (outside (F.seen folder.old) (S.seen script.old) (K.seen out.old)) (outside (F.seen folder.new) (S.seen script.new) (K.seen out.new)) result }
+    requires few { length listed.now ≤ command.modules }
+    ensures leaves { RunLeaves command.modules listed.now (outside (F.seen folder.old) (S.seen script.old) (K.seen out.old)) (outside (F.seen folder.new) (S.seen script.new) (K.seen out.new)) result }
     ensures no_folder_fault { result ≡ Status.FolderFault → ⊥ }
     ensures script_counts { Counts (result ≡ Status.ScriptFault) (S.seen script.old).faults (S.seen script.new).faults }
     ensures sink_counts { Counts (result ≡ Status.SinkFault) (K.seen out.old).faults (K.seen out.new).faults }
@@ -109,19 +179,16 @@ fn run_over<F: Folder, S: Source, K: Sink, T: Turnstile, A: Analyst + Drop>(
     ensures folder_later { (F.seen folder.old).faults ≤ (F.seen folder.new).faults }
 {
     each_edit_has_sizes();
-    let Ok(heap) = empty_heap(alloc, MOST_MODULES) else {
+    each_has_answer();
+    let modules = command.modules;
+    let Ok(heap) = empty_heap(alloc, modules) else {
+        return Status::NoMemory;
+    };
+    let Ok(analysts) = made(alloc, maker, command.workers) else {
         return Status::NoMemory;
     };
     match run(
-        alloc,
-        heap,
-        MOST_MODULES,
-        listed,
-        analyst,
-        folder,
-        script,
-        out,
-        turns,
+        rt, alloc, heap, modules, listed, analysts, folder, script, out, turns,
     ) {
         Ok(ended) => status_of(ended),
         Err(RunFault::ScriptFault) => Status::ScriptFault,
@@ -130,21 +197,90 @@ fn run_over<F: Folder, S: Source, K: Sink, T: Turnstile, A: Analyst + Drop>(
     }
 }
 
+// The run on so many modules that are made up by a seed.
+fn run_made_up<
+    R: Threads + Wait + Sync,
+    K: Sink,
+    T: Turnstile,
+    A: Analyst + PlaceAnalyst + Send + Drop,
+    M: AnalystMaker<A>,
+>(
+    rt: &R,
+    alloc: Global,
+    command: Command,
+    n: u32,
+    seed: u64,
+    maker: &M,
+    out: &mut K,
+    turns: &T,
+) -> Status
+    requires modules { IsInRange 1 4096 command.modules }
+    requires workers { IsInRange 1 64 command.workers }
+    requires made { IsInRange 1 command.modules n }
+    ensures leaves { GeneratedLeaves command.modules n seed (K.seen out.old).written (K.seen out.new).written result }
+    ensures sink_counts { Counts (result ≡ Status.SinkFault) (K.seen out.old).faults (K.seen out.new).faults }
+{
+    one_generated_run();
+    let Ok(heap) = empty_heap(alloc, command.modules) else {
+        return Status::NoMemory;
+    };
+    let Ok(analysts) = made(alloc, maker, command.workers) else {
+        return Status::NoMemory;
+    };
+    let errors = match run_generated(
+        rt,
+        alloc,
+        heap,
+        command.modules,
+        n,
+        seed,
+        analysts,
+        out,
+        turns,
+    ) {
+        Ok(errors) => errors,
+        Err(RunFault::SinkFault) => return Status::SinkFault,
+        Err(RunFault::NoMemory) => return Status::NoMemory,
+        Err(RunFault::ScriptFault) => unreachable!(),
+    };
+    finished(errors)
+}
+
+// So many analysts.
+fn made<A: Drop, M: AnalystMaker<A>>(
+    alloc: Global,
+    maker: &M,
+    count: u32,
+) -> Result<Vec<A>, NoMemory>
+    ensures { IfOk result (λ analysts. length analysts.items ≡ count) }
+{
+    let mut analysts = Vec::new(alloc);
+    for _ in 0..count {
+        analysts.push(maker.make())?;
+    }
+    Ok(analysts)
+}
+
 // The status of a run that came to its end.
 fn status_of<W: Drop>(ended: Ended<W>) -> Status
     ensures { result ≡ status_after ended.ending ended.errors }
 {
     match ended.ending {
-        WalkEnd::Finished => {
-            if ended.errors == 0 {
-                Status::Clean
-            } else {
-                Status::Errors
-            }
-        }
+        WalkEnd::Finished => finished(ended.errors),
         WalkEnd::BadLine => Status::BadLine,
         WalkEnd::LongLine => Status::Limit,
         WalkEnd::ManyLines => Status::Limit,
+    }
+}
+
+// The status of a run that was not cut short, after which there are so many errors.
+fn finished(errors: u64) -> Status
+    ensures { result ≡ status_after Finished errors }
+{
+    if errors == 0 {
+        Status::Clean
+    } else {
+        Status::Errors
     }
 }
 

@@ -19,3 +19,9 @@ pub trait PlaceAnalyst {
     fn type_at(&self, job: &CheckJob, at: u32) -> Result<Option<FlowType>, NoMemory>
         ensures ty { IfOk result (λ ty. IsTypeIn job.now.path job.now.deps (source_of job.now) (row_at job.now.sigs) at ty) };
 }
+
+/// Makes analysts.
+pub trait AnalystMaker<A> {
+    /// An analyst more. It takes no memory.
+    fn make(&self) -> A;
+}

@@ -5,7 +5,7 @@ ghost use Rattle.place_analyst.specs.Law.{TypesAreRight};
 
 mod analyst;
 
-pub use analyst::PlaceAnalyst;
+pub use analyst::{AnalystMaker, PlaceAnalyst};
 
 /// The type at a place depends on the merged signatures of other modules where its module reaches alone. It is a law, and does
 /// nothing.

@@ -1,5 +1,5 @@
 -- A line says one command at most: a blank one is no JSON text, and an object has one word at the key `do`.
-use Rattle.std.proofs.Common.{◌≡◌, ℕ, ◌==◌, eqb-true, List, [], ◌∷◌, Option, Some, None, refl, sym, ap, ◌∙◌, subst, inl, inr}
+use Rattle.std.proofs.Common.{◌≡◌, ℕ, ◌==◌, eqb-true, List, [], ◌∷◌, Option, Some, None, refl, sym, ap, ◌∙◌, subst, inl, inr, ◌⊎◌}
 use Rattle.std.specs.Prelude.{codes, IsTrue, option_and_then, bytes_eq, if◌then◌else◌}
 use Rattle.std.specs.List.{AllByRecursion}
 use Rattle.std.specs.Option.{option_map}
@@ -13,10 +13,13 @@ use Rattle.serde_json.specs.Data.{Data}
 use Rattle.serde_json.specs.Find.{get}
 use Rattle.serde_json.specs.Read.{read, of_json, max_depth}
 use Rattle.flow_values.specs.Path.{Bytes}
+use Rattle.asks.specs.declared.ask.Ask as the_ask
+use Rattle.ask_line.specs.Asking.{text_at, Asks}
+use Rattle.ask_line.proofs.Deciding.{asks_or_not}
+use Rattle.ask_line.proofs.Words.{same_ask}
 use Rattle.script_line.specs.declared.line.Line.{Line}
 use Rattle.script_line.specs.declared.line.Line.TheVariants.{Blank, Edit, Delete, Touch, Recheck, Ask, End}
-use Rattle.script_line.specs.declared.line.Ask.TheVariants.{Status}
-use Rattle.script_line.specs.Says.{is_blank, text_at, stop_in, Commands, IsBlankLine, Says}
+use Rattle.script_line.specs.Says.{is_blank, stop_in, Commands, IsBlankLine, Says}
 
 -- ---- a blank line is no JSON text
 
@@ -82,8 +85,22 @@ has_word value End is = is
 abbrev edit_by : Option Bytes → Option Bytes → Option Line
 edit_by path text = option_and_then (λ p. option_map (Edit p) text) path
 
+-- what a value asks, if it asks something
+abbrev asked_by : {value : Data} → ((a : the_ask.Ask) × Asks value a) ⊎ ((a : the_ask.Ask) → Asks value a → ⊥) → Option the_ask.Ask
+asked_by (inl asks) = Some asks.0
+asked_by (inr never) = None
+
+abbrev asked_in : Data → Option the_ask.Ask
+asked_in value = asked_by (asks_or_not value)
+
+is_asked : (value : Data) (asked : the_ask.Ask) → Asks value asked → asked_in value ≡ Some asked
+is_asked value asked is = by (asks_or_not value) where
+  by : (o : ((a : the_ask.Ask) × Asks value a) ⊎ ((a : the_ask.Ask) → Asks value a → ⊥)) → asked_by o ≡ Some asked
+  by (inl asks) = ap Some (same_ask value asks.0 asked asks.1 is)
+  by (inr never) = absurd (never asked is)
+
 abbrev ask_by : Option Data → Option Line
-ask_by inner = option_map (λ _. Ask Status) inner
+ask_by inner = option_map Ask (option_and_then asked_in inner)
 
 abbrev pub line_by : Bytes → Data → Option Line
 line_by word value =
@@ -100,7 +117,7 @@ is_by_word value (Edit path text) is = λ i. edit_by (is.1 i) (is.3 i)
 is_by_word value (Delete path) is = ap (option_map Delete) is.1
 is_by_word value (Touch path) is = ap (option_map Touch) is.1
 is_by_word value (Recheck stop) is = ap (option_map Recheck) is.1
-is_by_word value (Ask Status) is = ap ask_by is.1.1
+is_by_word value (Ask asked) is = ap ask_by is.1.1 ∙ ap (option_map Ask) (is_asked is.1.0 asked is.1.2)
 is_by_word value End is = refl
 
 pub same_command : (value : Data) (a b : Line) → Commands value a → Commands value b → a ≡ b

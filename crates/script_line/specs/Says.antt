@@ -2,12 +2,11 @@
 use Rattle.std.specs.Prelude.{◌≡◌, ◌⊎◌, ◌==◌, ◌||◌, ℕ, zero, suc, Bool, All, IsTrue, IsUtf8, Option, Some, None, option_and_then, codes}
 use Rattle.serde_json.specs.Data.{Data}
 use Rattle.serde_json.specs.Read.{read}
-use Rattle.serde_json.specs.Find.{get, as_str, as_number, as_u64}
+use Rattle.serde_json.specs.Find.{get, as_number, as_u64}
 use Rattle.flow_values.specs.Path.{Bytes, IsNormalPath}
+use Rattle.ask_line.specs.Asking.{HasText, Asks}
 use Rattle.script_line.specs.declared.line.Line.{Line}
 use Rattle.script_line.specs.declared.line.Line.TheVariants.{Blank, Edit, Delete, Touch, Recheck, Ask, End}
-use Rattle.script_line.specs.declared.line.Ask.TheVariants.{Status}
-use Rattle.script_line.specs.declared.line.Ask as the_ask
 
 -- space, tab or CR
 abbrev pub is_blank : ℕ → Bool
@@ -16,14 +15,6 @@ is_blank b = b == 32 || b == 9 || b == 13
 -- the value of a JSON text
 abbrev pub IsJson : Bytes → Data → Type 0
 IsJson bytes value = IsUtf8 bytes × (read bytes ≡ Some value)
-
--- the text at a key of an object, where there is one
-abbrev pub text_at : Bytes → Data → Option Bytes
-text_at key value = option_and_then as_str (get key value)
-
--- the object has this text at this key
-abbrev pub HasText : Bytes → Bytes → Data → Type 0
-HasText key text value = text_at key value ≡ Some text
 
 -- the object has nothing at this key
 abbrev pub Lacks : Bytes → Data → Type 0
@@ -43,10 +34,6 @@ stop_by (Some value) = option_and_then poll_of (option_and_then as_u64 (as_numbe
 abbrev pub stop_in : Data → Option ℕ
 stop_in value = stop_by (get (codes "stop") value)
 
--- the object is a question
-abbrev pub Asks : Data → the_ask.Ask → Type 0
-Asks value Status = HasText (codes "what") (codes "status") value
-
 -- the object is a command; keys that are not named are ignored
 abbrev pub Commands : Data → Line → Type 0
 Commands value Blank = ⊥
@@ -55,7 +42,7 @@ Commands value (Edit path text) =
 Commands value (Delete path) = HasText (codes "do") (codes "delete") value × HasText (codes "path") path value × IsNormalPath path
 Commands value (Touch path) = HasText (codes "do") (codes "touch") value × HasText (codes "path") path value × IsNormalPath path
 Commands value (Recheck stop) = HasText (codes "do") (codes "recheck") value × (stop_in value ≡ Some stop) × Lacks (codes "asks") value
-Commands value (Ask ask) = HasText (codes "do") (codes "ask") value × ((inner : Data) × (get (codes "ask") value ≡ Some inner) × Asks inner ask)
+Commands value (Ask asked) = HasText (codes "do") (codes "ask") value × ((inner : Data) × (get (codes "ask") value ≡ Some inner) × Asks inner asked)
 Commands value End = HasText (codes "do") (codes "end") value
 
 -- the line is blank

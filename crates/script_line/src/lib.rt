@@ -6,5 +6,5 @@ mod line;
 mod reading;
 
 pub use laws::one_command;
-pub use line::{Ask, Line, LineFault};
+pub use line::{Line, LineFault};
 pub use reading::read_line;

@@ -1,13 +1,7 @@
 ghost use Rattle.std.specs.Prelude.{◌≡◌};
 
+use asks::Ask;
 use flow_values::{Path, Text};
-
-/// What a script may ask of a version.
-#[derive(Debug, Drop)]
-pub enum Ask {
-    /// The errors of all modules.
-    Status,
-}
 
 /// What a line of a script says.
 #[derive(Debug, Drop)]

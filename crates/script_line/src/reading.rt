@@ -1,14 +1,15 @@
 ghost use Rattle.std.specs.Prelude.{◌≡◌, ◌↔◌, ℕ, List, Some, None, IfOk, IfSome, IfNone, IsTrue, IsErrOf, IsSome, All, codes, option_and_then};
 ghost use Rattle.std.specs.Option.{option_map};
 ghost use Rattle.serde_json.specs.Data.{Data};
-ghost use Rattle.serde_json.specs.Find.{get, as_str, as_number, as_u64};
+ghost use Rattle.serde_json.specs.Find.{get, as_number, as_u64};
 ghost use Rattle.serde_json.specs.View.{view};
-ghost use Rattle.script_line.specs.Says.{is_blank, IsJson, text_at, HasText, Lacks, poll_of, stop_in, Asks, Commands, IsBlankLine, Says};
+ghost use Rattle.ask_line.specs.Asking.{text_at, HasText};
+ghost use Rattle.script_line.specs.Says.{is_blank, IsJson, Lacks, poll_of, stop_in, Commands, IsBlankLine, Says};
 ghost use Rattle.flow_values.specs.Path.{IsNormalPath};
 ghost use Rattle.script_line.specs.declared.line.Line.{Line};
-ghost use Rattle.script_line.specs.declared.line.Ask as the_ask;
 
-use crate::{Ask, Line, LineFault};
+use crate::{Line, LineFault};
+use ask_line::read_ask;
 use flow_values::{NoMemory, Path, PathFault, Text};
 use serde_json::Value;
 use std::alloc::Global;
@@ -106,24 +107,18 @@ fn recheck_of(value: &Value) -> Option<Line>
     }
 }
 
-fn question_of(value: &Value) -> Option<Ask>
-    ensures found { IfSome result (Asks (view value.now)) }
-    ensures none { IfNone result ((a : the_ask.Ask) → Asks (view value.now) a → ⊥) }
-{
-    match text_at(value, "what") {
-        Some("status") => Some(Ask::Status),
-        _ => None,
-    }
-}
-
-fn ask_of(value: &Value) -> Option<Line>
+fn ask_of(alloc: Global, value: &Value) -> Result<Option<Line>, NoMemory>
     requires { HasText (codes "do") (codes "ask") (view value.now) }
-    ensures found { IfSome result (Commands (view value.now)) }
-    ensures none { IfNone result ((l : Line) → Commands (view value.now) l → ⊥) }
+    ensures found { IfOk result (λ line. IfSome line (Commands (view value.now))) }
+    ensures none { IfOk result (λ line. IfNone line ((l : Line) → Commands (view value.now) l → ⊥)) }
 {
-    let inner = value.get("ask")?;
-    let ask = question_of(inner)?;
-    Some(Line::Ask(ask))
+    let Some(inner) = value.get("ask") else {
+        return Ok(None);
+    };
+    let Some(ask) = read_ask(alloc, inner)? else {
+        return Ok(None);
+    };
+    Ok(Some(Line::Ask(ask)))
 }
 
 // The command that an object is.
@@ -136,7 +131,7 @@ fn command_of(alloc: Global, value: &Value) -> Result<Option<Line>, NoMemory>
         Some("delete") => delete_of(alloc, value),
         Some("touch") => touch_of(alloc, value),
         Some("recheck") => Ok(recheck_of(value)),
-        Some("ask") => Ok(ask_of(value)),
+        Some("ask") => ask_of(alloc, value),
         Some("end") => Ok(Some(Line::End)),
         _ => Ok(None),
     }

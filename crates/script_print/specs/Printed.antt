@@ -1,4 +1,4 @@
--- The printed lines, each with its LF.
+-- The printed lines, each with its LF, but for those of answers.
 use Rattle.std.specs.Prelude.{ℕ, ◌++◌, codes}
 use Rattle.std.specs.Fmt.{decimal}
 use Rattle.flow_base.specs.Program.{Bytes}

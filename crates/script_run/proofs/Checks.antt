@@ -1,7 +1,6 @@
--- What is printed of the full check of a program is one.
-use Rattle.std.proofs.Common.{◌≡◌, ℕ, ◌+◌, List, [], ◌∷◌, ◌++◌, length, slice_get, Some, None, refl, sym, ap, ◌∙◌, zero, suc}
-use Rattle.std.specs.Coded.{coded_ℕ, coded_list}
-use Rattle.std.specs.List.{flat_map}
+-- The full check of a program has one number of errors.
+use Rattle.std.proofs.Common.{◌≡◌, ℕ, ◌+◌, List, [], ◌∷◌, length, slice_get, Some, None, refl, sym, ap, ◌∙◌, zero, suc}
+use Rattle.std.specs.Coded.{coded_ℕ}
 use denote.Struct.Props.{≡_prop}
 use mathlib.Core.Logic.{∥∥₁_elim}
 use Rattle.flow_base.specs.Program.{Bytes, Program}
@@ -9,8 +8,8 @@ use Rattle.merged_signatures.specs.Chains.{View}
 use Rattle.errors_by_reach.specs.Seen.{Sigs}
 use Rattle.program_check.specs.Full.{Results, AreResults, IsFull}
 use Rattle.program_check.specs.Law.{AllAlike, OneFull}
-use Rattle.program_check.specs.Status.{error_count, error_line, error_lines, status_line}
-use Rattle.script_run.specs.Checked.{HasErrorCount, IsStatusAnswer}
+use Rattle.program_check.specs.Status.{error_count}
+use Rattle.script_run.specs.Checked.{HasErrorCount}
 
 -- ---- results that are alike
 
@@ -23,16 +22,6 @@ same_count (x ∷ a) (y ∷ b) alike =
     let rest = same_count a b alike.1 in
     λ i. length (first i) + rest i
 
-same_lines : (program : Program) (a b : List Results) → AllAlike a b → error_lines program a ≡ error_lines program b
-same_lines [] a b alike = refl
-same_lines (m ∷ program) [] [] alike = refl
-same_lines (m ∷ program) [] (y ∷ b) alike = absurd alike
-same_lines (m ∷ program) (x ∷ a) [] alike = absurd alike
-same_lines (m ∷ program) (x ∷ a) (y ∷ b) alike =
-    let first = alike.0.errors in
-    let rest = same_lines program a b alike.1 in
-    λ i. flat_map (error_line m.0 m.1) (first i) ++ rest i
-
 -- where two are alike, what stands at a place of one has the errors of what stands there in the other
 pub same_errors : (a b : List Results) (x : ℕ) (r : Results) → AllAlike a b → slice_get b x ≡ Some r → (s : Results) × (slice_get a x ≡ Some s) × (s.errors ≡ r.errors)
 same_errors [] [] x r alike at = absurd (let z : None ≡ Some r = at in cc)
@@ -41,22 +30,14 @@ same_errors (y ∷ a) [] x r alike at = absurd alike
 same_errors (y ∷ a) (z ∷ b) zero r alike at = let is : z ≡ r = (let e : Some z ≡ Some r = at in cc) in (y, refl, alike.0.errors ∙ ap (λ (s : Results). s.errors) is)
 same_errors (y ∷ a) (z ∷ b) (suc x) r alike at = same_errors a b x r alike.1 at
 
--- ---- one answer
+-- ---- one number
 
 module _ (one : OneFull) (program : Program) where
   pub one_count : (m n : ℕ) → HasErrorCount program m → HasErrorCount program n → m ≡ n
   one_count m n first second =
       ∥∥₁_elim first (≡_prop coded_ℕ m n) (λ a. ∥∥₁_elim second (≡_prop coded_ℕ m n) (λ b. a.2 ∙ (same_count a.0 b.0 (one program a.0 b.0 a.1 b.1) ∙ sym b.2)))
 
-  pub one_answer : (version : ℕ) (p q : Bytes) → IsStatusAnswer version program p → IsStatusAnswer version program q → p ≡ q
-  one_answer version p q first second =
-      ∥∥₁_elim first (≡_prop (coded_list coded_ℕ) p q) (λ a. ∥∥₁_elim second (≡_prop (coded_list coded_ℕ) p q) (λ b.
-      let alike = one program a.0 b.0 a.1 b.1 in
-      let count = same_count a.0 b.0 alike in
-      let lines = same_lines program a.0 b.0 alike in
-      a.2 ∙ ((λ i. status_line version (count i) ++ lines i) ∙ sym b.2)))
-
--- ---- some answer
+-- ---- some number
 
 -- a program without modules has no errors
 pub no_errors : HasErrorCount [] 0

@@ -6,12 +6,13 @@ use Rattle.flow_base.specs.Program.{Bytes, Program}
 use Rattle.flow_base.specs.Outside.{WhereTold, appended, HoldsFront}
 use Rattle.full_law.specs.Law.{EachFull}
 use Rattle.affected_sizes.specs.Law.{EachHasSizes}
+use Rattle.answers_law.specs.Law.{EachHasAnswer}
+use Rattle.answer_print.specs.Lines.{answer_lines}
 use Rattle.pending_edits.specs.Pending.{MayBecome, edited}
-use Rattle.program_check.specs.Status.{error_count, status_answer}
+use Rattle.program_check.specs.Status.{error_count}
 use Rattle.pending_edits.specs.declared.edit.Edit.TheVariants.{Put, Touch}
 use Rattle.script_line.specs.declared.line.Line.{Line}
 use Rattle.script_line.specs.declared.line.Line.TheVariants as line
-use Rattle.script_line.specs.declared.line.Ask.TheVariants as ask
 use Rattle.script_line.specs.Says.{Says}
 use Rattle.script_line.proofs.Deciding.{says_or_not}
 use Rattle.script_reader.specs.Lines.{LINE_LIMIT}
@@ -50,7 +51,7 @@ quiet_recheck each told stop s =
       ]
     ]
 
-module _ (each : EachHasSizes) (most : ℕ) (told : Option Program) where
+module _ (each : EachHasSizes) (answer : EachHasAnswer) (most : ℕ) (told : Option Program) where
   quiet_edit : (s : Standing) (path text : Bytes) → (t : Standing) × (printed : Bytes) × Turns most told (line.Edit path text) s t 0 printed
   quiet_edit s path text = elim (cases_lt most (modules_counted (with_edit s path (Put text)))) [
     | inl over ↦ (_, _, refuses s path text over)
@@ -69,7 +70,7 @@ module _ (each : EachHasSizes) (most : ℕ) (told : Option Program) where
   quiet_turn (line.Delete path) goes_on s = (_, _, deletes s path)
   quiet_turn (line.Touch path) goes_on s = quiet_touch s path
   quiet_turn (line.Recheck stop) goes_on s = let recheck = quiet_recheck each told stop s in (_, _, rechecks s recheck.0 stop 0 recheck.1 recheck.2)
-  quiet_turn (line.Ask ask.Status) goes_on s = let full = each_full each s.program in (_, _, answers s (status_answer s.version s.program full.0) ∣ (full.0, full.1, refl) ∣₁)
+  quiet_turn (line.Ask asked) goes_on s = let is = answer s.program asked in (s, answer_lines s.version asked is.0, answers s asked is.0 is.1)
   quiet_turn line.End goes_on s = absurd (goes_on refl)
 
   end_or_not : (said : Line) → (said ≡ line.End) ⊎ (said ≡ line.End → ⊥)

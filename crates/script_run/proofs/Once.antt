@@ -12,6 +12,8 @@ use Rattle.check_values.specs.Rows.{Rows}
 use Rattle.pending_edits.specs.Pending.{MayBecome, edited}
 use Rattle.pending_edits.specs.declared.edit.Edit.{Edit}
 use Rattle.program_check.specs.Law.{OneFull}
+use Rattle.answers_law.specs.Law.{OneAnswer, EachHasAnswer}
+use Rattle.answer_print.specs.Lines.{answer_lines}
 use Rattle.script_line.specs.declared.line.Line.{Line}
 use Rattle.script_line.specs.declared.line.Line.TheVariants as line
 use Rattle.script_line.specs.Says.{Says}
@@ -21,7 +23,7 @@ use Rattle.script_reader.specs.Lines.{LINE_LIMIT}
 use Rattle.script_run.specs.Checked.{HasErrorCount}
 use Rattle.script_run.specs.declared.ending.WalkEnd.{WalkEnd}
 use Rattle.script_run.specs.Transcript.{Standing, MOST_LINES, GoesThrough, ComesTo, Rechecks, done, cancelled, cannot_read, Turns, blank, edits, refuses, touches, refuses_touch, deletes, rechecks, answers, Walked, loads, goes, Ends, no_line, end_line, bad, long, many, last_line, IsRun, IsQuietRun}
-use Rattle.script_run.proofs.Checks.{one_count, one_answer}
+use Rattle.script_run.proofs.Checks.{one_count}
 use Rattle.script_run.proofs.Completing.{some_run}
 
 -- two walks stand at one place, and have printed the same
@@ -87,7 +89,7 @@ module _ (one : OneFull) (sized : HaveOneSize) (folder : Program) where
   same_recheck (cancelled s a parsed checked polls comes some within) (cannot_read s' path touched) quiet still = absurd (omega arith)
   same_recheck (cannot_read s path touched) other quiet still = absurd (omega arith)
 
-  module _ (most : ℕ) where
+  module _ (one_answer : OneAnswer) (most : ℕ) where
     same_turn : {said : Line} {s t u : Standing} {f g : ℕ} {p q : Bytes} → Turns most (Some folder) said s t f p → Turns most (Some folder) said s u g q → f ≡ 0 → g ≡ 0 → Same t u p q
     same_turn (blank s) (blank s') quiet still = (refl, refl)
     same_turn (edits s path text few) (edits s' path' text' few') quiet still = (refl, refl)
@@ -100,7 +102,7 @@ module _ (one : OneFull) (sized : HaveOneSize) (folder : Program) where
     same_turn (refuses_touch s path over) (refuses_touch s' path' over') quiet still = (refl, refl)
     same_turn (deletes s path) (deletes s' path') quiet still = (refl, refl)
     same_turn (rechecks s t stop f p recheck) (rechecks s' u stop' g q other) quiet still = same_recheck recheck other quiet still
-    same_turn (answers s p answer) (answers s' q answer') quiet still = (refl, one_answer one s.program s.version p q answer answer')
+    same_turn (answers s asked a is) (answers s' asked' b is') quiet still = (refl, ap (answer_lines s.version asked) (one_answer s.program asked a b is is'))
 
     turn_at : (said said' : Line) (s s' t u : Standing) (f g : ℕ) (p q : Bytes) → said' ≡ said → s' ≡ s → Turns most (Some folder) said s t f p → Turns most (Some folder) said' s' u g q → f ≡ 0 → g ≡ 0 → Same t u p q
     turn_at said said' s s' t u f g p q same there turn other quiet still =
@@ -140,7 +142,7 @@ turn_goes_on (touches s path few) is = absurd (cc (is))
 turn_goes_on (refuses_touch s path over) is = absurd (cc (is))
 turn_goes_on (deletes s path) is = absurd (cc (is))
 turn_goes_on (rechecks s t stop f p recheck) is = absurd (cc (is))
-turn_goes_on (answers s p answer) is = absurd (cc (is))
+turn_goes_on (answers s asked answer has) is = absurd (cc (is))
 
 passes_at : (n k : ℕ) (bytes b : Bytes) → k ≡ n → bytes ≡ b → Passes n bytes → Passes k b
 passes_at n k bytes b place same passes = subst (λ m. Passes m b) (sym place) (subst (Passes n) same passes)
@@ -193,13 +195,13 @@ same_end n rest how how' (many b r past) (many b' r' past') = refl
 
 -- ---- runs
 
-pub some_quiet_run : EachHasSizes → (most : ℕ) (folder : Program) (listed lines : List Bytes) → (printed : Bytes) × (how : WalkEnd) × (program : Program) × (version : ℕ) × IsQuietRun most folder listed lines printed how program version
-some_quiet_run each most folder listed lines =
-    let run = some_run each most (Some folder) listed (Some lines) in
+pub some_quiet_run : EachHasSizes → EachHasAnswer → (most : ℕ) (folder : Program) (listed lines : List Bytes) → (printed : Bytes) × (how : WalkEnd) × (program : Program) × (version : ℕ) × IsQuietRun most folder listed lines printed how program version
+some_quiet_run each answer most folder listed lines =
+    let run = some_run each answer most (Some folder) listed (Some lines) in
     let on = run.3 in
     (run.2 ++ on.more, on.how, on.program, on.version, subst (λ f. IsRun most (Some folder) listed (Some lines) f (run.2 ++ on.more) on.how on.program on.version) run.1 on.run)
 
-module _ (one : OneFull) (sized : HaveOneSize) (most : ℕ) (folder : Program) (listed lines : List Bytes) where
+module _ (one : OneFull) (sized : HaveOneSize) (one_answer : OneAnswer) (most : ℕ) (folder : Program) (listed lines : List Bytes) where
   as_long : (p q : Bytes) (h k : WalkEnd) (a b : Program) (v w : ℕ) → (run : IsQuietRun most folder listed lines p h a v) → (other : IsQuietRun most folder listed lines q k b w) → length run.taken ≡ length other.taken
   as_long p q h k a b v w run other = elim (cases_lt (length run.taken) (length other.taken)) [
     | inl shorter ↦ absurd (no_earlier run.taken run.rest other.taken other.rest h (sym run.lines ∙ other.lines) shorter run.ends other.walk)
@@ -216,7 +218,7 @@ module _ (one : OneFull) (sized : HaveOneSize) (most : ℕ) (folder : Program) (
       sym (take_at run.taken run.rest (length run.taken) refl) ∙ ap (take (length run.taken)) (sym run.lines ∙ other.lines) ∙ take_at other.taken other.rest (length run.taken) (sym as_far) in
       let rest : run.rest ≡ other.rest =
       sym (drop_at run.taken run.rest (length run.taken) refl) ∙ ap (drop (length run.taken)) (sym run.lines ∙ other.lines) ∙ drop_at other.taken other.rest (length run.taken) (sym as_far) in
-      let walk = same_walk one sized folder most listed run.walk other.walk taken refl refl in
+      let walk = same_walk one sized folder one_answer most listed run.walk other.walk taken refl refl in
       let how : h ≡ k = same_end (length run.taken) run.rest h k run.ends (subst (λ r. Ends (length run.taken) r k) (sym rest) (subst (λ n. Ends n other.rest k) (sym as_far) other.ends)) in (
         run.prints ∙ printed run.before other.before (length run.taken) (length other.taken) h k walk.1 as_far how ∙ sym other.prints,
         how,

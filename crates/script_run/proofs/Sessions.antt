@@ -1,8 +1,8 @@
 -- A heap of modules and the edits that wait, as the walk sees them.
-use Rattle.std.proofs.Common.{◌≡◌, ◌⊎◌, ℕ, zero, suc, ◌+◌, ◌^◌, ◌<◌, ◌≤◌, List, [], ◌∷◌, ◌++◌, length, Some, None, refl, sym, ap, ◌∙◌, subst, arith, inl, inr}
+use Rattle.std.proofs.Common.{◌≡◌, ◌⊎◌, ℕ, zero, suc, ◌+◌, ◌^◌, ◌<◌, ◌≤◌, List, [], ◌∷◌, length, Some, None, refl, sym, ap, ◌∙◌, subst, arith, inl, inr}
 use Rattle.std.specs.Prelude.{slice_get, Result, Ok, Err, IfOk, OnOk, OnErr}
 use Rattle.std.specs.Coded.{coded_list}
-use Rattle.std.specs.List.{AllByRecursion, flat_map}
+use Rattle.std.specs.List.{AllByRecursion}
 use denote.Struct.Props.{≡_prop}
 use mathlib.Core.Logic.{∥∥₁_elim, ∥∥₁_map}
 use Rattle.std.proofs.lemmas.Bool.Decides.{leb_tells}
@@ -19,7 +19,9 @@ use Rattle.check_values.specs.declared.root.RootRow.{RootRow}
 use Rattle.check_values.specs.declared.root.Root.{Root}
 use Rattle.program_check.specs.Full.{Results, IsFull}
 use Rattle.program_check.specs.Law.{OneFull}
-use Rattle.program_check.specs.Status.{error_count, error_line, error_lines, status_line}
+use Rattle.program_check.specs.Status.{error_count}
+use Rattle.asks.specs.declared.ask.Ask.{Ask}
+use Rattle.answer_print.specs.Lines.{answer_lines}
 use Rattle.payloads.specs.Entities.{errors_entity}
 use Rattle.payloads.specs.State.{program_of, IsRoot, fits, payload_at, payload_in, StandsIn}
 use Rattle.payloads.proofs.Places.{stand_here}
@@ -43,10 +45,9 @@ use Rattle.affected_sizes.specs.Sizes.{AreSizes}
 use Rattle.script_print.specs.Printed.{done_line, cancelled_line, fault_line, refused_line}
 use Rattle.script_line.specs.declared.line.Line.{Line}
 use Rattle.script_line.specs.declared.line.Line.TheVariants as line
-use Rattle.script_line.specs.declared.line.Ask.TheVariants as ask
-use Rattle.script_run.specs.Checked.{HasErrorCount, IsStatusAnswer}
+use Rattle.script_run.specs.Checked.{HasErrorCount}
 use Rattle.script_run.specs.Transcript.{Standing, start, to_touch, with_edit, modules_counted, GoesThrough, ComesTo, Rechecks, done, cancelled, cannot_read, Turns, blank, edits, refuses, touches, refuses_touch, deletes, rechecks, answers}
-use Rattle.script_run.specs.Session.{modules_of, modules_in, program_in, program_with, Held, held, standing_of, standing_in, IsEmptyHeap, faults_of, faults_in, faults_at, count_in, lines_in, HasPlace, recheck_state, StopsAt, HasEnded, HasRechecked, HasTurned, HasEdited, HasDeleted, Limits, Prints, PrintsEdit}
+use Rattle.script_run.specs.Session.{modules_of, modules_in, program_in, program_with, Held, held, standing_of, standing_in, IsEmptyHeap, faults_of, faults_in, faults_at, count_in, HasPlace, recheck_state, StopsAt, HasEnded, HasRechecked, HasTurned, HasEdited, HasDeleted, Limits, Prints, PrintsAnswer, PrintsEdit}
 use Rattle.script_run.proofs.Checks.{same_errors, each_module}
 
 -- ---- counts
@@ -94,15 +95,6 @@ count_by state (m ∷ ms) (r ∷ rs) have =
     let rest = count_by state ms rs have.1 in
     λ i. length (first i) + rest i
 
-lines_by : (state : List Payload) (ms : List RootRow) (rs : List Results) → HaveErrors state ms rs → lines_in state ms ≡ error_lines (program_with ms) rs
-lines_by state [] [] have = refl
-lines_by state [] (r ∷ rs) have = absurd have
-lines_by state (m ∷ ms) [] have = absurd have
-lines_by state (m ∷ ms) (r ∷ rs) have =
-    let first = have.0 in
-    let rest = lines_by state ms rs have.1 in
-    λ i. flat_map (error_line m.path m.text) (first i) ++ rest i
-
 many_in : (ms : List RootRow) → length (program_with ms) ≡ length ms
 many_in [] = refl
 many_in (m ∷ ms) = ap (λ n. suc n) (many_in ms)
@@ -136,35 +128,6 @@ module _ (one : OneFull) (state : List Payload) (fit : (0 < length state) × All
     pub counted : (root : Payload) (modules : List RootRow) → slice_get state 0 ≡ Some root → modules ≡ modules_of root → count ≡ count_in state modules → HasErrorCount (program_in state) count
     counted root modules first same is =
         subst (λ ms. HasErrorCount (program_with ms) count) (sym (first_modules state root first)) (count_of_root root first (is ∙ ap (count_in state) same))
-
-  module _ (version : ℕ) (text : Bytes) where
-    answer_of_root : (root : Payload) → slice_get state 0 ≡ Some root → text ≡ status_line version (count_in state (modules_of root)) ++ lines_in state (modules_of root)
-        → IsStatusAnswer version (program_with (modules_of root)) text
-    answer_of_root payload.Absent first is = absurd (fit.1 payload.Absent first 0 payload.Absent first)
-    answer_of_root (payload.Parse parse) first is = absurd (fit.1 (payload.Parse parse) first 0 (payload.Parse parse) first)
-    answer_of_root (payload.Deps deps) first is = absurd (fit.1 (payload.Deps deps) first 0 (payload.Deps deps) first)
-    answer_of_root (payload.Sig sig) first is = absurd (fit.1 (payload.Sig sig) first 0 (payload.Sig sig) first)
-    answer_of_root (payload.Errs errs) first is = absurd (fit.1 (payload.Errs errs) first 0 (payload.Errs errs) first)
-    answer_of_root (payload.Root root) first is =
-        let here = fit.1 (payload.Root root) first 0 (payload.Root root) first in
-        ∥∥₁_map here.1 (λ (stood : StandsIn root 0 (payload.Root root)).
-        let have = have_errors one state root here.0 (λ e x at. (fit.1 (payload.Root root) first e x at).1) stood.0 stood.1 in
-        let count = count_by state root.modules stood.0 have in
-        let lines = lines_by state root.modules stood.0 have in
-        (stood.0, stood.1, is ∙ (λ i. status_line version (count i) ++ lines i)))
-
-    pub answered : (root : Payload) (modules : List RootRow) → slice_get state 0 ≡ Some root → modules ≡ modules_of root → text ≡ status_line version (count_in state modules) ++ lines_in state modules
-        → IsStatusAnswer version (program_in state) text
-    answered root modules first same is =
-        subst (λ ms. IsStatusAnswer version (program_with ms) text) (sym (first_modules state root first))
-        (answer_of_root root first (is ∙ ap (λ ms. status_line version (count_in state ms) ++ lines_in state ms) same))
-
--- the answer by a heap is that of a session over it
-pub status_there : {T E : Type 0} (r : Result T E) (text : T → Bytes) (m n : Meaning Payload) (w : Pending) (h : Held) → held m w ≡ h → n ≡ m → IfOk r (λ t. IsStatusAnswer n.version (program_in n.committed) (text t))
-    → IfOk r (λ t. IsStatusAnswer (standing_in h).version (standing_in h).program (text t))
-status_there (Ok t) text m n w h at same answer =
-    subst (λ (k : Held). IsStatusAnswer (standing_in k).version (standing_in k).program (text t)) at (subst (λ (k : Meaning Payload). IsStatusAnswer k.version (program_in k.committed) (text t)) same answer)
-status_there (Err e) text m n w h at same answer = tt
 
 -- ---- the places of the errors
 
@@ -404,7 +367,8 @@ pub turned_recheck : (most : ℕ) (said : Line) (stop : ℕ) (s s' : Standing) (
 turned_recheck most said stop s s' text printed before now is same recheck =
     of_turn most said (line.Recheck stop) s s' text printed recheck.faults before now is same (rechecks s s' stop recheck.faults text recheck.rechecks) recheck.counted
 
-pub turned_status : (most : ℕ) (said : Line) (s : Standing) (printed : Bytes) (now : FolderSeen) → now.faults < 2 ^ 64 → said ≡ line.Ask ask.Status → IsStatusAnswer s.version s.program printed
-    → HasTurned most said s s printed now now
-turned_status most said s printed now bounded is answer =
-    of_turn most said (line.Ask ask.Status) s s printed printed 0 now now is refl (answers s printed answer) (rose_none now.faults now.faults bounded refl)
+pub turned_ask : (most : ℕ) (said : Line) (asked : Ask) (s s' : Standing) (printed : Bytes) (now : FolderSeen) → now.faults < 2 ^ 64 → said ≡ line.Ask asked → s' ≡ s → PrintsAnswer s.version s.program asked printed
+    → HasTurned most said s s' printed now now
+turned_ask most said asked s s' printed now bounded is same answer =
+    of_turn most said (line.Ask asked) s s' (answer_lines s.version asked answer.0) printed 0 now now is answer.2
+    (subst (λ t. Turns most now.told (line.Ask asked) s t 0 (answer_lines s.version asked answer.0)) (sym same) (answers s asked answer.0 answer.1)) (rose_none now.faults now.faults bounded refl)

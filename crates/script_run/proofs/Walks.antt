@@ -7,6 +7,7 @@ use Rattle.flow_base.specs.Causes.{RoseBy}
 use Rattle.flow_base.specs.Outside.{WhereTold, appended, HoldsFront}
 use Rattle.flow_base.specs.Seen.{FolderSeen, SourceSeen, SinkSeen, Outside}
 use Rattle.affected_sizes.specs.Law.{EachHasSizes}
+use Rattle.answers_law.specs.Law.{EachHasAnswer}
 use Rattle.script_line.specs.declared.line.Line.{Line}
 use Rattle.script_reader.specs.Lines.{lines_left, TakesLine}
 use Rattle.script_run.specs.Checked.{HasErrorCount}
@@ -48,7 +49,7 @@ turn_version (touches s path few) = omega arith
 turn_version (refuses_touch s path many) = omega arith
 turn_version (deletes s path) = omega arith
 turn_version (rechecks s t stop f printed recheck) = recheck_version recheck
-turn_version (answers s answer is) = omega arith
+turn_version (answers s asked answer is) = omega arith
 
 -- ---- errors
 
@@ -69,7 +70,7 @@ turn_counts (touches s path few) before = before
 turn_counts (refuses_touch s path many) before = before
 turn_counts (deletes s path) before = before
 turn_counts (rechecks s t stop f printed recheck) before = recheck_counts recheck before
-turn_counts (answers s answer is) before = before
+turn_counts (answers s asked answer is) before = before
 
 pub walk_counts : {most : ℕ} {told : Option Program} {listed taken : List Bytes} {s : Standing} {f : ℕ} {printed : Bytes} → Walked most told listed taken s f printed → SomeCount s
 walk_counts (loads s f printed load) = recheck_counts load (0, no_errors)
@@ -236,9 +237,9 @@ module _ (most : ℕ) (listed : List Bytes) (before : WalkState) (source : Sourc
       front_of_run how count.0 now.standing.program now.standing.version (outside_at now source') (finishes left n mid now source' how count.0 counts walked closes)
 
   -- a front of what was printed up to a line
-  front_so_far : EachHasSizes → (now : Outside) (faults : ℕ) (printed : Bytes) → IsRunSoFar most before.folder.told listed lines faults printed → HoldsFront before.out.written now.out.written printed
+  front_so_far : EachHasSizes → EachHasAnswer → (now : Outside) (faults : ℕ) (printed : Bytes) → IsRunSoFar most before.folder.told listed lines faults printed → HoldsFront before.out.written now.out.written printed
       → RoseByAtLeast faults before.folder.faults now.folder.faults → HasFront most listed first now
-  front_so_far each now faults printed run front counted = let on = goes_on each most before.folder.told listed lines faults printed run in record {
+  front_so_far each answer now faults printed run front counted = let on = goes_on each answer most before.folder.told listed lines faults printed run in record {
     read_faults = faults;
     printed = printed ++ on.more;
     how = on.how;
@@ -249,18 +250,18 @@ module _ (most : ℕ) (listed : List Bytes) (before : WalkState) (source : Sourc
     counted = counted;
   }
 
-  pub front_of_walk : EachHasSizes → (left : Option (List Bytes)) (n : ℕ) (mid : WalkState) (now : Outside) → now.out.written ≡ mid.out.written → mid.folder.faults ≤ now.folder.faults → HasWalked most listed lines left n before mid
+  pub front_of_walk : EachHasSizes → EachHasAnswer → (left : Option (List Bytes)) (n : ℕ) (mid : WalkState) (now : Outside) → now.out.written ≡ mid.out.written → mid.folder.faults ≤ now.folder.faults → HasWalked most listed lines left n before mid
       → HasFront most listed first now
-  front_of_walk each left n mid now same later walked =
-      front_so_far each now walked.read_faults walked.printed (so_far_of most listed lines before left n mid walked) (front_all before.out.written now.out.written walked.printed (same ∙ walked.written))
+  front_of_walk each answer left n mid now same later walked =
+      front_so_far each answer now walked.read_faults walked.printed (so_far_of most listed lines before left n mid walked) (front_all before.out.written now.out.written walked.printed (same ∙ walked.written))
       (rose_more walked.read_faults before.folder.faults mid.folder.faults now.folder.faults walked.counted later)
 
-  front_of_turn : EachHasSizes → (left left' : Option (List Bytes)) (n : ℕ) (mid : WalkState) (now : Outside) (said : Line) → mid.folder.told ≡ before.folder.told → mid.folder.faults ≤ now.folder.faults
+  front_of_turn : EachHasSizes → EachHasAnswer → (left left' : Option (List Bytes)) (n : ℕ) (mid : WalkState) (now : Outside) (said : Line) → mid.folder.told ≡ before.folder.told → mid.folder.faults ≤ now.folder.faults
       → HasWalked most listed lines left n before mid → IsTaken said n left left' → BreaksOff most said mid now.folder now.out.written → HasFront most listed first now
-  front_of_turn each left left' n mid now said told later walked is (unsaid same) = front_of_walk each left n mid now same later walked
-  front_of_turn each left left' n mid now said told later walked is (begun s printed turned front) =
+  front_of_turn each answer left left' n mid now said told later walked is (unsaid same) = front_of_walk each answer left n mid now same later walked
+  front_of_turn each answer left left' n mid now said told later walked is (begun s printed turned front) =
       let rest = some_rest left' in
-      front_so_far each now (walked.read_faults + turned.faults) (walked.printed ++ printed) (record {
+      front_so_far each answer now (walked.read_faults + turned.faults) (walked.printed ++ printed) (record {
         taken = walked.lines ++ is.bytes ∷ [];
         rest = rest.0;
         lines = told_lines lines left' (walked.lines ++ is.bytes ∷ []) rest.0 (one_more lines left left' walked.lines is.bytes walked.leaves is.takes) rest.1;
@@ -272,11 +273,11 @@ module _ (most : ℕ) (listed : List Bytes) (before : WalkState) (source : Sourc
       (rose_least (walked.read_faults + turned.faults) before.folder.faults now.folder.faults
       (rose_both walked.read_faults turned.faults before.folder.faults mid.folder.faults now.folder.faults walked.counted turned.counted))
 
-  pub front_of_break : EachHasSizes → (left : Option (List Bytes)) (n : ℕ) (mid : WalkState) (now : Outside) → mid.folder.told ≡ before.folder.told → mid.folder.faults ≤ now.folder.faults → HasWalked most listed lines left n before mid
+  pub front_of_break : EachHasSizes → EachHasAnswer → (left : Option (List Bytes)) (n : ℕ) (mid : WalkState) (now : Outside) → mid.folder.told ≡ before.folder.told → mid.folder.faults ≤ now.folder.faults → HasWalked most listed lines left n before mid
       → Breaks most n left mid now.folder now.out.written → HasFront most listed first now
-  front_of_break each left n mid now told later walked (silent same) = front_of_walk each left n mid now same later walked
-  front_of_break each left n mid now told later walked (in_turn said left' is off) = front_of_turn each left left' n mid now said told later walked is off
-  front_of_break each left n mid now told later walked (in_end how end front) = record {
+  front_of_break each answer left n mid now told later walked (silent same) = front_of_walk each answer left n mid now same later walked
+  front_of_break each answer left n mid now told later walked (in_turn said left' is off) = front_of_turn each answer left left' n mid now said told later walked is off
+  front_of_break each answer left n mid now told later walked (in_end how end front) = record {
     read_faults = walked.read_faults;
     printed = walked.printed ++ last_line (n + 1) how;
     how = how;
@@ -287,8 +288,8 @@ module _ (most : ℕ) (listed : List Bytes) (before : WalkState) (source : Sourc
     counted = rose_more walked.read_faults before.folder.faults mid.folder.faults now.folder.faults walked.counted later;
   }
 
-  pub front_of_load : EachHasSizes → (now : Outside) → before.standing ≡ start listed → before.folder.faults ≤ now.folder.faults → BreaksLoad before now.folder now.out.written → HasFront most listed first now
-  front_of_load each now is later (unsaid_load same) = let run = some_run each most before.folder.told listed lines in let on = run.3 in record {
+  pub front_of_load : EachHasSizes → EachHasAnswer → (now : Outside) → before.standing ≡ start listed → before.folder.faults ≤ now.folder.faults → BreaksLoad before now.folder now.out.written → HasFront most listed first now
+  front_of_load each answer now is later (unsaid_load same) = let run = some_run each answer most before.folder.told listed lines in let on = run.3 in record {
     read_faults = run.0;
     printed = run.2 ++ on.more;
     how = on.how;
@@ -298,9 +299,9 @@ module _ (most : ℕ) (listed : List Bytes) (before : WalkState) (source : Sourc
     front = front_none before.out.written now.out.written (run.2 ++ on.more) same;
     counted = omega (arith, later, run.1);
   }
-  front_of_load each now is later (begun_load s printed load front) =
+  front_of_load each answer now is later (begun_load s printed load front) =
       let rest = some_rest lines in
-      front_so_far each now load.faults printed (record {
+      front_so_far each answer now load.faults printed (record {
         taken = [];
         rest = rest.0;
         lines = rest.1;

@@ -1,7 +1,6 @@
 -- What a heap of modules and the edits that wait are to the walk.
-use Rattle.std.specs.Prelude.{◌≡◌, ◌<◌, ◌⊎◌, ℕ, ◌+◌, ◌^◌, ◌≤◌, Bool, false, List, [], ◌∷◌, ◌++◌, length, slice_get, Option, Some, None, Result, Ok, Err, refl}
+use Rattle.std.specs.Prelude.{◌≡◌, ◌<◌, ◌⊎◌, ℕ, ◌+◌, ◌^◌, ◌≤◌, Bool, false, List, [], ◌∷◌, length, slice_get, Option, Some, None, Result, Ok, Err, refl}
 use Rattle.std.specs.Coded.{Coded, code_by, coded×, coded_ℕ, coded_bool, coded_list}
-use Rattle.std.specs.List.{flat_map}
 use Rattle.flow_base.specs.Causes.{RoseBy}
 use Rattle.flow_base.specs.Program.{Bytes, Program}
 use Rattle.flow_base.specs.Seen.{FolderSeen}
@@ -9,7 +8,6 @@ use Rattle.check_values.specs.Roots.{paths_of_rows}
 use Rattle.check_values.specs.declared.faults.Fault.{Fault}
 use Rattle.check_values.specs.declared.root.RootRow.{RootRow}
 use Rattle.heap_core.specs.Meaning.{Meaning, AllFit, IsSound}
-use Rattle.program_check.specs.Status.{error_line}
 use Rattle.payloads.specs.Entities.{errors_entity}
 use Rattle.payloads.specs.State.{program_of}
 use Rattle.payloads.specs.contracts.payload.Payload as payload_type
@@ -30,6 +28,9 @@ use Rattle.script_run.specs.Transcript.{Standing, with_edit, modules_counted, Re
 use Rattle.script_print.specs.Printed.{done_line, cancelled_line, fault_line, refused_line}
 use Rattle.stops.specs.Asked.{StopSeen, yes_answers_by}
 use Rattle.analyst.specs.Work.{Work}
+use Rattle.asks.specs.declared.ask.Ask.{Ask}
+use Rattle.answers_law.specs.Answers.{Answered, IsAnswer}
+use Rattle.answer_print.specs.Lines.{answer_lines}
 
 -- the modules of a root
 abbrev pub modules_of : Payload → List RootRow
@@ -144,11 +145,6 @@ abbrev pub count_in : List Payload → List RootRow → ℕ
 count_in state [] = 0
 count_in state (m ∷ ms) = length (faults_at state m.row) + count_in state ms
 
--- the lines of the faults of all modules
-abbrev pub lines_in : List Payload → List RootRow → Bytes
-lines_in state [] = []
-lines_in state (m ∷ ms) = flat_map (error_line m.path m.text) (faults_at state m.row) ++ lines_in state ms
-
 -- the errors of a module have a place in the state, and it has a number
 pub record HasPlace (state : List Payload) (m : RootRow) : Type 0 where
   pub numbered : errors_entity m.row < 2 ^ 32
@@ -208,6 +204,10 @@ Prints (outcome.Done version parsed checked errors) now line = line ≡ done_lin
 Prints (outcome.Cancelled poll) now line = (poll < 2 ^ 64) × (line ≡ cancelled_line poll now)
 Prints (outcome.ReadFault path) now line = line ≡ fault_line path now
 Prints outcome.NoMemory now line = ⊥
+
+-- what is asked of a version of a program prints this
+abbrev pub PrintsAnswer : ℕ → Program → Ask → Bytes → Type 0
+PrintsAnswer version program asked printed = (answer : Answered) × IsAnswer program asked answer × (printed ≡ answer_lines version asked answer)
 
 -- what an edit prints
 abbrev pub PrintsEdit : {T : Type 0} → Result T EditFault → Bytes → Type 0

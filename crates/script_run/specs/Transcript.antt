@@ -7,6 +7,9 @@ use Rattle.flow_base.specs.Program.{Bytes, Program, paths_of, IsRising}
 use Rattle.flow_base.specs.Outside.{WhereTold}
 use Rattle.check_values.specs.Rows.{Rows}
 use Rattle.affected_sizes.specs.Sizes.{AreSizes}
+use Rattle.asks.specs.declared.ask.Ask.{Ask}
+use Rattle.answers_law.specs.Answers.{Answered, IsAnswer}
+use Rattle.answer_print.specs.Lines.{answer_lines}
 use Rattle.pending_edits.specs.Pending as pending
 use Rattle.pending_edits.specs.Pending.{MayBecome, IsTouched}
 use Rattle.pending_edits.specs.Counting.{counted}
@@ -14,11 +17,10 @@ use Rattle.pending_edits.specs.declared.edit.Edit.{Edit}
 use Rattle.pending_edits.specs.declared.edit.Edit.TheVariants.{Put, Touch, Delete}
 use Rattle.script_line.specs.declared.line.Line.{Line}
 use Rattle.script_line.specs.declared.line.Line.TheVariants as line
-use Rattle.script_line.specs.declared.line.Ask.TheVariants as ask
 use Rattle.script_line.specs.Says.{Says}
 use Rattle.script_reader.specs.Lines.{LINE_LIMIT}
 use Rattle.script_print.specs.Printed.{done_line, cancelled_line, fault_line, refused_line, bad_line, long_line, many_lines}
-use Rattle.script_run.specs.Checked.{HasErrorCount, IsStatusAnswer}
+use Rattle.script_run.specs.Checked.{HasErrorCount}
 use Rattle.script_run.specs.declared.ending.WalkEnd.{WalkEnd}
 use Rattle.script_run.specs.declared.ending.WalkEnd.TheVariants as ending
 
@@ -84,7 +86,7 @@ pub data Turns (most : ℕ) (told : Option Program) : Line → Standing → Stan
       Turns most told (line.Touch path) s s 0 (refused_line (modules_counted (with_edit s path Touch)))
   deletes : (s : Standing) (path : Bytes) → Turns most told (line.Delete path) s (with_edit s path Delete) 0 []
   rechecks : (s s' : Standing) (stop faults : ℕ) (printed : Bytes) → Rechecks told stop s s' faults printed → Turns most told (line.Recheck stop) s s' faults printed
-  answers : (s : Standing) (answer : Bytes) → IsStatusAnswer s.version s.program answer → Turns most told (line.Ask ask.Status) s s 0 answer
+  answers : (s : Standing) (asked : Ask) (answer : Answered) → IsAnswer s.program asked answer → Turns most told (line.Ask asked) s s 0 (answer_lines s.version asked answer)
 
 -- The load was done and these lines of the script were taken, one after the other: where the walk stands, how many read faults there
 -- were, and what was printed.

@@ -11,6 +11,7 @@ pub fn a_front_goes_on()
         IsRunSoFar most told listed script faults printed → GoesOn most told listed script faults printed }
 {
     affected_sizes::each_edit_has_sizes();
+    answers_law::each_has_answer();
 }
 
 /// Where the folder and the script tell their content, there is a run without a read fault, and one only.
@@ -23,4 +24,6 @@ pub fn one_quiet_run()
     affected_sizes::each_edit_has_sizes();
     affected_sizes::one_size_each();
     program_check::one_full();
+    answers_law::each_has_answer();
+    answers_law::one_answer();
 }

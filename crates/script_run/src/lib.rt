@@ -1,6 +1,7 @@
 //! A run with a script: the load, and then edits, rechecks and questions, one line after the other.
 #![tactic(auto)]
 
+mod answering;
 mod command;
 mod committed;
 mod ending;
@@ -15,5 +16,6 @@ mod walk;
 pub use ending::{Ended, RunFault, WalkEnd};
 pub use laws::{a_front_goes_on, one_quiet_run};
 pub use opening::empty_heap;
+pub use session::Session;
 pub use sinks::write_all;
 pub use walk::run;

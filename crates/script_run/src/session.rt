@@ -1,35 +1,42 @@
 ghost use Rattle.std.specs.Prelude.{◌≡◌, ◌+◌, ◌<◌, ◌≤◌, ◌^◌, length, string_bytes, IfOk};
 ghost use Rattle.flow_base.specs.Program.{IsRising};
 ghost use Rattle.pending_edits.specs.declared.edit.Edit.TheVariants.{Put, Touch};
-ghost use Rattle.script_run.specs.Checked.{HasErrorCount, IsStatusAnswer};
+ghost use Rattle.script_run.specs.Checked.{HasErrorCount};
 ghost use Rattle.script_run.specs.Transcript.{start};
-ghost use Rattle.script_run.specs.Session.{IsEmptyHeap, standing_in, Prints, PrintsEdit, HasEdited, HasDeleted, HasRechecked, HasTurned};
+ghost use Rattle.script_run.specs.Session.{IsEmptyHeap, standing_in, Prints, PrintsAnswer, PrintsEdit, HasEdited, HasDeleted, HasRechecked, HasTurned};
 
+use crate::answering::answer_text;
 use crate::committed::Committed;
-use crate::errors::{count_errors, status_answer};
+use crate::errors::count_errors;
 use crate::waiting::{delete_path, put_text, recheck_edited, touch_path, touched};
 use analyst::Analyst;
-use flow_base::{Folder, List, NoMemory, Path, Text, Turnstile};
+use asks::Ask;
+use flow_base::{Folder, NoMemory, Path, Point, Text, Turnstile};
 use heap_core::HeapWriter;
 use payloads::Payload;
 use pending_edits::{EditFault, Edits};
+use place_analyst::PlaceAnalyst;
 use recheck_run::Outcome;
-use script_line::{Ask, Line};
+use script_line::Line;
 use script_print::{cancelled_line, done_line, fault_line, refused_line};
 use std::alloc::Global;
 use std::marker::Model;
+use std::sync::Wait;
+use std::thread::Threads;
 
 /// The heap of modules, the edits that wait for the next recheck, and who checks. Contracts see what the
 /// heap means and the edits.
 #[derive(Drop)]
-pub struct Session<W: HeapWriter<Payload> + Drop, A: Analyst + Drop> {
+pub struct Session<W: HeapWriter<Payload> + Drop, A: Analyst + PlaceAnalyst + Send + Drop> {
     alloc: Global,
     heap: W,
     edits: Edits,
-    analyst: A,
+    analysts: Vec<A>,
 }
 
-impl<W: HeapWriter<Payload> + Drop, A: Analyst + Drop> Model for Session<W, A> {
+impl<W: HeapWriter<Payload> + Drop, A: Analyst + PlaceAnalyst + Send + Drop> Model
+    for Session<W, A> {
+    ghost use Rattle.std.specs.Prelude.{◌<◌, length};
     ghost use Rattle.script_run.specs.Session.{Held, held, held_code, IsReady};
 
     ghost Value = { Held };
@@ -38,23 +45,28 @@ impl<W: HeapWriter<Payload> + Drop, A: Analyst + Drop> Model for Session<W, A> {
 
     ghost view = { λ s. held (W.meaning s.heap) s.edits };
 
-    ghost invariant = { λ s. IsReady (held (W.meaning s.heap) s.edits) };
+    ghost invariant = { λ s. IsReady (held (W.meaning s.heap) s.edits) × (0 < length s.analysts.items) };
 }
 
-impl<W: HeapWriter<Payload> + Drop, A: Analyst + Drop> Session<W, A> {
+impl<W: HeapWriter<Payload> + Drop, A: Analyst + PlaceAnalyst + Send + Drop> Session<W, A> {
     /// The empty program at version 0, for so many modules, and these paths, which rise, to be read by
-    /// the first recheck.
-    #[tactic(auto, using(crate::proofs::Sessions::begins_empty, crate::proofs::PendingEdits::ready_empty))]
+    /// the first recheck. All analysts recheck, and the first answers.
+    ///
+    /// # Errors
+    ///
+    /// `NoMemory` where memory is refused.
+    #[tactic(auto, using(crate::proofs::Sessions::begins_empty))]
     pub fn open(
         alloc: Global,
         heap: W,
         modules: u32,
         listed: &[Path],
-        analyst: A,
+        analysts: Vec<A>,
     ) -> Result<Session<W, A>, NoMemory>
         requires empty { IsEmptyHeap (W.meaning heap) modules }
         requires rising { IsRising listed.now }
         requires few { length listed.now ≤ modules }
+        requires some { 0 < length analysts.items }
         ensures standing { IfOk result (λ session. standing_in session ≡ start listed.now) }
         ensures modules { IfOk result (λ session. session.waiting.capacity ≡ modules) }
     {
@@ -63,14 +75,19 @@ impl<W: HeapWriter<Payload> + Drop, A: Analyst + Drop> Session<W, A> {
             alloc,
             heap,
             edits,
-            analyst,
+            analysts,
         })
     }
 
     /// Rechecks, and gives the line that this prints. It stops at this poll, counted from 1, where it
     /// comes to it, and with 0 at none. At each poll it passes the turnstile.
-    pub fn recheck<F: Folder, T: Turnstile>(
+    ///
+    /// # Errors
+    ///
+    /// `NoMemory` where memory is refused.
+    pub fn recheck<R: Threads + Wait + Sync, F: Folder, T: Turnstile>(
         &mut self,
+        rt: &R,
         stop: u64,
         folder: &mut F,
         turns: &T,
@@ -82,19 +99,24 @@ impl<W: HeapWriter<Payload> + Drop, A: Analyst + Drop> Session<W, A> {
         ensures later { (F.seen folder.old).faults ≤ (F.seen folder.new).faults }
     {
         let outcome = recheck_edited(
+            rt,
             self.alloc,
             &mut self.heap,
             &mut self.edits,
             stop,
             folder,
             turns,
-            &mut self.analyst,
+            self.analysts.as_mut_slice(),
         );
         Ok(outcome_line(self.alloc, &outcome, self.heap.version())?)
     }
 
     /// Puts an edit to the others, and gives what this prints: nothing, or that it was refused.
-    fn edit(&mut self, path: Path, text: Text) -> Result<Vec<u8>, NoMemory>
+    ///
+    /// # Errors
+    ///
+    /// `NoMemory` where memory is refused.
+    pub fn edit(&mut self, path: Path, text: Text) -> Result<Vec<u8>, NoMemory>
         ensures edited { IfOk result (λ printed. HasEdited self.old.waiting.capacity path (Put text) (standing_in self.old) (standing_in self.new) printed.items) }
         ensures modules { self.new.waiting.capacity ≡ self.old.waiting.capacity }
     {
@@ -122,14 +144,23 @@ impl<W: HeapWriter<Payload> + Drop, A: Analyst + Drop> Session<W, A> {
         Ok(Vec::new(self.alloc))
     }
 
-    /// The answer to a question for the status.
-    fn status(&self) -> Result<Vec<u8>, NoMemory>
-        ensures { IfOk result (λ text. IsStatusAnswer (standing_in self.now).version (standing_in self.now).program text.items) }
+    /// Answers what is asked of the committed program, and gives what this prints. It passes the
+    /// turnstile, as the first of its asks.
+    fn ask<T: Turnstile>(&mut self, turns: &T, ask: &Ask) -> Result<Vec<u8>, NoMemory>
+        ensures answered { IfOk result (λ printed. PrintsAnswer (standing_in self.old).version (standing_in self.old).program ask.now printed.items) }
+        ensures same { self.new ≡ self.old }
     {
-        status_answer(self.alloc, &mut Committed::of(&self.heap))
+        turns.at(Point::Ask(0));
+        let mut committed = Committed::of(&self.heap);
+        let text = answer_text(self.alloc, &mut committed, &mut self.analysts[0], ask)?;
+        Ok(Vec::from_slice(self.alloc, text.as_bytes())?)
     }
 
     /// The number of errors of the committed program.
+    ///
+    /// # Errors
+    ///
+    /// `NoMemory` where memory is refused.
     pub fn errors(&self) -> Result<u64, NoMemory>
         ensures { IfOk result (HasErrorCount (standing_in self.now).program) }
     {
@@ -137,8 +168,13 @@ impl<W: HeapWriter<Payload> + Drop, A: Analyst + Drop> Session<W, A> {
     }
 
     /// Answers a line that does not end the script, and gives what this prints.
-    pub fn turn<F: Folder, T: Turnstile>(
+    ///
+    /// # Errors
+    ///
+    /// `NoMemory` where memory is refused.
+    pub fn turn<R: Threads + Wait + Sync, F: Folder, T: Turnstile>(
         &mut self,
+        rt: &R,
         folder: &mut F,
         turns: &T,
         line: Line,
@@ -155,8 +191,8 @@ impl<W: HeapWriter<Payload> + Drop, A: Analyst + Drop> Session<W, A> {
             Line::Edit { path, text } => self.edit(path, text),
             Line::Delete { path } => self.delete(path),
             Line::Touch { path } => self.touch(path),
-            Line::Recheck { stop } => Ok(self.recheck(stop, folder, turns)?.into_bytes()),
-            Line::Ask(Ask::Status) => self.status(),
+            Line::Recheck { stop } => Ok(self.recheck(rt, stop, folder, turns)?.into_bytes()),
+            Line::Ask(ask) => self.ask(turns, &ask),
             Line::End => unreachable!(),
         }
     }

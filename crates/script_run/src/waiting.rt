@@ -1,5 +1,5 @@
 //! The edits that wait for the next recheck, beside a heap.
-ghost use Rattle.std.specs.Prelude.{◌≡◌, ◌≤◌, ◌<◌, ◌+◌, ◌^◌, [], false, length, IfOk, OnOk, OnErr};
+ghost use Rattle.std.specs.Prelude.{◌≡◌, ◌≤◌, ◌<◌, ◌+◌, ◌^◌, [], false, length, map, IfOk, OnOk, OnErr};
 ghost use Rattle.flow_base.specs.Program.{paths_of as paths_in};
 ghost use Rattle.flow_values.specs.Path.{IsRising};
 ghost use Rattle.check_values.specs.Roots.{paths_of};
@@ -8,6 +8,7 @@ ghost use Rattle.pending_edits.specs.Counting.{counted, StandsOn};
 ghost use Rattle.pending_edits.specs.declared.edit.Edit.TheVariants.{Put, Touch, Delete};
 ghost use Rattle.recheck_run.specs.Recheck.{HasRoom, Commits, CountsReads};
 ghost use Rattle.script_run.specs.Transcript.{to_touch};
+ghost use Rattle.work_totals.specs.Totals.{total};
 ghost use Rattle.script_run.specs.Session.{StandOnCommitted, AreFew, CountsNoMore, StandsStill, HasEnded, Limits, held, program_in};
 
 use crate::committed::Committed;
@@ -20,6 +21,8 @@ use payloads::Payload;
 use pending_edits::{EditFault, Edits};
 use recheck_run::{Outcome, recheck};
 use std::alloc::Global;
+use std::sync::Wait;
+use std::thread::Threads;
 use stops::StopAt;
 
 // Puts a path to those that are to be read, where the modules are then no more than there may be.
@@ -150,21 +153,29 @@ pub(crate) fn delete_path(edits: &mut Edits, path: Path) -> Result<(), NoMemory>
 
 /// Rechecks, and stops at this poll, counted from 1, where it comes to it; with 0 it goes through all
 /// polls. At each it passes the turnstile. The edits stand on the program that is then committed.
-pub(crate) fn recheck_edited<W: HeapWriter<Payload>, F: Folder, T: Turnstile, A: Analyst>(
+pub(crate) fn recheck_edited<
+    R: Threads + Wait + Sync,
+    W: HeapWriter<Payload>,
+    F: Folder,
+    T: Turnstile,
+    A: Analyst + Send,
+>(
+    rt: &R,
     alloc: Global,
     heap: &mut W,
     edits: &mut Edits,
     stop: u64,
     folder: &mut F,
     turns: &T,
-    analyst: &mut A,
+    analysts: &mut [A],
 ) -> Outcome
+    requires some { 0 < length analysts.old }
     requires closed { (W.meaning heap.old).is_open ≡ false }
     requires version { (W.meaning heap.old).version + 1 < 2 ^ 31 }
     requires room { HasRoom (W.meaning heap.old) edits.old.capacity }
     requires few { AreFew (W.meaning heap.old) edits.old }
     requires stands { StandOnCommitted (W.meaning heap.old) edits.old }
-    ensures ended { HasEnded stop (F.seen folder.old) (F.seen folder.new) (held (W.meaning heap.old) edits.old) (held (W.meaning heap.new) edits.new) (A.work analyst.old) (A.work analyst.new) result }
+    ensures ended { HasEnded stop (F.seen folder.old) (F.seen folder.new) (held (W.meaning heap.old) edits.old) (held (W.meaning heap.new) edits.new) (total (map A.work analysts.old)) (total (map A.work analysts.new)) result }
     ensures closed { (W.meaning heap.new).is_open ≡ false }
     ensures room { HasRoom (W.meaning heap.new) edits.new.capacity }
     ensures few { AreFew (W.meaning heap.new) edits.new }
@@ -173,7 +184,8 @@ pub(crate) fn recheck_edited<W: HeapWriter<Payload>, F: Folder, T: Turnstile, A:
     ensures told { (F.seen folder.new).told ≡ (F.seen folder.old).told }
     ensures later { (F.seen folder.old).faults ≤ (F.seen folder.new).faults }
     ensures reads { CountsReads (F.seen folder.old) (F.seen folder.new) result }
+    ensures many { length analysts.new ≡ length analysts.old }
 {
     let mut asked = StopAt::new(stop);
-    recheck(alloc, heap, edits, folder, &mut asked, turns, analyst)
+    recheck(rt, alloc, heap, edits, folder, &mut asked, turns, analysts)
 }

@@ -15,17 +15,22 @@ use crate::sinks::write_all;
 use crate::{Ended, RunFault, WalkEnd};
 use affected_sizes::each_edit_has_sizes;
 use analyst::Analyst;
+use answers_law::each_has_answer;
 use flow_base::{Folder, Path, Sink, SinkFault, Source, Turnstile};
 use heap_core::HeapWriter;
 use payloads::Payload;
+use place_analyst::PlaceAnalyst;
 use script_line::Line;
 use script_reader::LineReader;
 use std::alloc::Global;
+use std::sync::Wait;
+use std::thread::Threads;
 
 /// The load of these paths, which rise, into a heap for so many modules that has none, and then the
-/// script line by line. What a line prints is written before the next one is read. At each poll of a
-/// recheck the turnstile is passed. The heap is given back as the walk leaves it, with the program and
-/// the version at which it ended.
+/// script line by line. What a line prints is written before the next one is read. All analysts recheck,
+/// and the first answers what is asked. At each poll of a recheck, and at each ask, the turnstile is
+/// passed. The heap is given back as the walk leaves it, with the program and the version at which it
+/// ended.
 ///
 /// # Errors
 ///
@@ -34,18 +39,20 @@ use std::alloc::Global;
 /// and what they print is written; after the others a front of what a whole run prints, with no more read faults than
 /// the folder counted.
 pub fn run<
+    R: Threads + Wait + Sync,
     W: HeapWriter<Payload> + Drop,
     F: Folder,
     S: Source,
     K: Sink,
     T: Turnstile,
-    A: Analyst + Drop,
+    A: Analyst + PlaceAnalyst + Send + Drop,
 >(
+    rt: &R,
     alloc: Global,
     heap: W,
     modules: u32,
     listed: &[Path],
-    analyst: A,
+    analysts: Vec<A>,
     folder: &mut F,
     script: &mut S,
     out: &mut K,
@@ -54,6 +61,7 @@ pub fn run<
     requires empty { IsEmptyHeap (W.meaning heap) modules }
     requires rising { IsRising listed.now }
     requires few { length listed.now ≤ modules }
+    requires some { 0 < length analysts.items }
     ensures ended { IfOk result (λ ended. HasRun modules listed.now ended.ending ended.errors (program_in (W.meaning ended.heap).committed) (W.meaning ended.heap).version
         (outside (F.seen folder.old) (S.seen script.old) (K.seen out.old)) (outside (F.seen folder.new) (S.seen script.new) (K.seen out.new))) }
     ensures stopped { IsErrOf result RunFault.ScriptFault → HasStopped modules listed.now
@@ -66,11 +74,15 @@ pub fn run<
     ensures later { (F.seen folder.old).faults ≤ (F.seen folder.new).faults }
 {
     each_edit_has_sizes();
-    let mut session = load(alloc, heap, modules, listed, analyst, folder, out, turns)?;
+    each_has_answer();
+    let mut session = load(
+        rt, alloc, heap, modules, listed, analysts, folder, out, turns,
+    )?;
     let mut reader = LineReader::new(alloc)?;
     let mut taken = 0;
     loop {
         match step(
+            rt,
             alloc,
             taken,
             &mut session,
@@ -96,12 +108,20 @@ pub fn run<
 
 // The load: the first recheck, and its line.
 #[tactic(auto, using(crate::proofs::Walks::loaded_from))]
-fn load<W: HeapWriter<Payload> + Drop, F: Folder, K: Sink, T: Turnstile, A: Analyst + Drop>(
+fn load<
+    R: Threads + Wait + Sync,
+    W: HeapWriter<Payload> + Drop,
+    F: Folder,
+    K: Sink,
+    T: Turnstile,
+    A: Analyst + PlaceAnalyst + Send + Drop,
+>(
+    rt: &R,
     alloc: Global,
     heap: W,
     modules: u32,
     listed: &[Path],
-    analyst: A,
+    analysts: Vec<A>,
     folder: &mut F,
     out: &mut K,
     turns: &T,
@@ -109,6 +129,7 @@ fn load<W: HeapWriter<Payload> + Drop, F: Folder, K: Sink, T: Turnstile, A: Anal
     requires empty { IsEmptyHeap (W.meaning heap) modules }
     requires rising { IsRising listed.now }
     requires few { length listed.now ≤ modules }
+    requires some { 0 < length analysts.items }
     ensures loaded { IfOk result (λ session. HasLoaded (walk_state (start listed.now) (F.seen folder.old) (K.seen out.old)) (walk_state (standing_in session) (F.seen folder.new) (K.seen out.new))) }
     ensures modules { IfOk result (λ session. session.waiting.capacity ≡ modules) }
     ensures front { OnErr result (BreaksLoad (walk_state (start listed.now) (F.seen folder.old) (K.seen out.old)) (F.seen folder.new) (K.seen out.new).written) }
@@ -117,8 +138,8 @@ fn load<W: HeapWriter<Payload> + Drop, F: Folder, K: Sink, T: Turnstile, A: Anal
     ensures told { (F.seen folder.new).told ≡ (F.seen folder.old).told }
     ensures later { (F.seen folder.old).faults ≤ (F.seen folder.new).faults }
 {
-    let mut session = Session::open(alloc, heap, modules, listed, analyst)?;
-    let line = session.recheck(0, folder, turns)?;
+    let mut session = Session::open(alloc, heap, modules, listed, analysts)?;
+    let line = session.recheck(rt, 0, folder, turns)?;
     print(out, line.as_bytes())?;
     Ok(session)
 }
@@ -126,13 +147,15 @@ fn load<W: HeapWriter<Payload> + Drop, F: Folder, K: Sink, T: Turnstile, A: Anal
 // Takes the next line of a script of which so many were taken, and answers it. Where the walk ends
 // there, it prints its last line, and tells how it ended.
 fn step<
+    R: Threads + Wait + Sync,
     W: HeapWriter<Payload> + Drop,
     F: Folder,
     S: Source,
     K: Sink,
     T: Turnstile,
-    A: Analyst + Drop,
+    A: Analyst + PlaceAnalyst + Send + Drop,
 >(
+    rt: &R,
     alloc: Global,
     taken: u32,
     session: &mut Session<W, A>,
@@ -161,7 +184,7 @@ fn step<
 {
     match read_command(alloc, taken, reader, script)? {
         Command::Takes(line) => {
-            answer(session, folder, out, turns, line)?;
+            answer(rt, session, folder, out, turns, line)?;
             Ok(None)
         }
         Command::Ends(ending) => {
@@ -172,7 +195,15 @@ fn step<
 }
 
 // Answers a line that does not end the script.
-fn answer<W: HeapWriter<Payload> + Drop, F: Folder, K: Sink, T: Turnstile, A: Analyst + Drop>(
+fn answer<
+    R: Threads + Wait + Sync,
+    W: HeapWriter<Payload> + Drop,
+    F: Folder,
+    K: Sink,
+    T: Turnstile,
+    A: Analyst + PlaceAnalyst + Send + Drop,
+>(
+    rt: &R,
     session: &mut Session<W, A>,
     folder: &mut F,
     out: &mut K,
@@ -189,7 +220,7 @@ fn answer<W: HeapWriter<Payload> + Drop, F: Folder, K: Sink, T: Turnstile, A: An
     ensures told { (F.seen folder.new).told ≡ (F.seen folder.old).told }
     ensures later { (F.seen folder.old).faults ≤ (F.seen folder.new).faults }
 {
-    let printed = session.turn(folder, turns, line)?;
+    let printed = session.turn(rt, folder, turns, line)?;
     print(out, printed.as_slice())
 }
 

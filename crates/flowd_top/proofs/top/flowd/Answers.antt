@@ -1,12 +1,9 @@
-use Rattle.std.proofs.Common.{List, rules, arith, map, refl, subst}
+use Rattle.std.proofs.Common.{map, refl, rules, subst}
 use Rattle.std.specs.Prelude.{string_bytes}
-use Rattle.std.proofs.lemmas.Grind.{common_steps}
-use Rattle.flow_base.specs.Program.{Bytes}
 use Rattle.flow_base.specs.Seen.{outside}
-use Rattle.flowd_top.specs.Run.{WritesLast, RunLeaves}
-use Rattle.flowd_top.specs.Words.{MOST_MODULES}
+use Rattle.flowd_top.specs.Run.{WritesLast}
 use Rattle.flowd_top.specs.declared.status.Status.TheVariants.{Usage}
-use Rattle.flowd_top.proofs.Endings.{usage_leaves, refused_leaves, run_leaves}
+use Rattle.flowd_top.proofs.Endings.{usage_leaves, one_form, made_up_leaves}
 use Rattle.flowd_top.proofs.top.flowd.Goals as goal
 
 pub returns-in_default-clause-printed : goal.returns-in_default-clause-printed
@@ -15,22 +12,23 @@ returns-in_default-clause-printed g c =
     let script = g.S.Source.seen c.args.script.now in
     let out = g.K.Sink.seen c.args.out.now in
     let out' = g.K.Sink.seen c.write_last.new.out in
-    usage_leaves MOST_MODULES (map string_bytes c.args.words.now) (outside folder script out) (outside folder script out') c.write_last.result (search rules)
+    usage_leaves (map string_bytes c.args.words.now) (outside folder script out) (outside folder script out') c.write_last.result (search rules)
     (g.met.F.Folder.bounded c.args.folder.now) refl (subst (λ bytes. WritesLast out.written out'.written bytes Usage c.write_last.result) c.usage.ensures c.write_last.ensures.writes)
 
-pub returns-then-len-clause-printed : goal.returns-then-len-clause-printed
-returns-then-len-clause-printed g c =
-    let script = g.S.Source.seen c.args.script.now in
-    refused_leaves MOST_MODULES (map string_bytes c.args.words.now) (outside (g.F.Folder.seen c.args.folder.now) script (g.K.Sink.seen c.args.out.now))
-    (outside (g.F.Folder.seen c.list.new.self) script (g.K.Sink.seen c.refuse_files.new.out)) c.refuse_files.result c.in-Ok.listed
-    (search rules) (search rules) c.in-Ok.ensures.rising c.in-Ok.ensures.paths (first_of (search rules, grind (arith, common_steps)))
-    (g.met.F.Folder.bounded c.args.folder.now) (c.in-Ok.ensures.counts.stays (search rules)) c.refuse_files.ensures.writes
+pub returns-in-Folder-clause-made_up : goal.returns-in-Folder-clause-made_up
+returns-in-Folder-clause-made_up g c = λ d n seed makes.
+    absurd (one_form (map string_bytes c.args.words.now) c.in-Some.command d c.in-Folder.place n seed c.one_command.ensures.one c.in-Some.ensures.says c.in-Folder.is makes)
 
-pub returns-clause-printed : goal.returns-clause-printed
-returns-clause-printed g c =
-    run_leaves MOST_MODULES (map string_bytes c.args.words.now) (g.F.Folder.seen c.args.folder.now) (g.F.Folder.seen c.list.new.self) (g.S.Source.seen c.args.script.now) (g.K.Sink.seen c.args.out.now)
-    (outside (g.F.Folder.seen c.run_over.new.folder) (g.S.Source.seen c.run_over.new.script) (g.K.Sink.seen c.run_over.new.out)) c.run_over.result c.in-Ok.listed
-    (search rules) (search rules) c.in-Ok.ensures.rising c.in-Ok.ensures.paths (first_of (search rules, grind (arith, common_steps)))
-    c.list.ensures.told (c.in-Ok.ensures.counts.stays (search rules)) (c.in-Ok.ensures.counts.keeps (search rules))
-    (subst (λ (listed : List Bytes). RunLeaves MOST_MODULES listed (outside (g.F.Folder.seen c.list.new.self) (g.S.Source.seen c.args.script.now) (g.K.Sink.seen c.args.out.now))
-    (outside (g.F.Folder.seen c.run_over.new.folder) (g.S.Source.seen c.run_over.new.script) (g.K.Sink.seen c.run_over.new.out)) c.run_over.result) c.as_slice-paths.ensures c.run_over.ensures.leaves)
+pub returns-in-Folder-clause-no_folder : goal.returns-in-Folder-clause-no_folder
+returns-in-Folder-clause-no_folder g c = λ never. absurd (never c.in-Some.command (c.in-Folder.place, c.in-Some.ensures.says, c.in-Folder.is))
+
+pub returns-in-Folder-clause-no_script : goal.returns-in-Folder-clause-no_script
+returns-in-Folder-clause-no_script g c = λ never. absurd (never c.in-Some.command (c.in-Folder.place, c.in-Some.ensures.says, c.in-Folder.is))
+
+pub returns-in-Generated-clause-printed : goal.returns-in-Generated-clause-printed
+returns-in-Generated-clause-printed g c =
+    let folder = g.F.Folder.seen c.args.folder.now in
+    let script = g.S.Source.seen c.args.script.now in
+    made_up_leaves (map string_bytes c.args.words.now) (outside folder script (g.K.Sink.seen c.args.out.now)) (outside folder script (g.K.Sink.seen c.run_made_up.new.out))
+    c.in-Some.command c.in-Generated.modules c.in-Generated.seed c.run_made_up.result (c.in-Some.ensures.says, c.in-Generated.is) c.each_edit_has_sizes.ensures (g.met.F.Folder.bounded c.args.folder.now) refl
+    c.run_made_up.ensures.leaves

@@ -5,7 +5,7 @@ use Rattle.script_run.proofs.PendingEdits.{few_there, few_after, stand_after}
 use Rattle.script_run.proofs.waiting.recheck_edited.Goals as goal
 
 pub recheck-requires-clause-counted : goal.recheck-requires-clause-counted
-recheck-requires-clause-counted g c = few_there (g.W.HeapWriter.meaning c.args.heap.now) c.args.edits.now c.requires.few
+recheck-requires-clause-counted g c κs within = few_there (g.W.HeapWriter.meaning c.args.heap.now) c.args.edits.now c.requires.few
 
 pub returns-clause-ended : goal.returns-clause-ended
 returns-clause-ended g c =

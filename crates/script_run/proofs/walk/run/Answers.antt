@@ -11,7 +11,7 @@ use Rattle.script_run.proofs.walk.run.Goals as goal
 pub returns-in_err-session-clause-front : goal.returns-in_err-session-clause-front
 returns-in_err-session-clause-front g c =
     on_err c.from_residual.result _
-    (front_of_load c.args.modules c.args.listed.now (walk_state (start c.args.listed.now) (g.F.Folder.seen c.args.folder.now) (g.K.Sink.seen c.args.out.now)) (g.S.Source.seen c.args.script.now) c.each_edit_has_sizes.ensures
+    (front_of_load c.args.modules c.args.listed.now (walk_state (start c.args.listed.now) (g.F.Folder.seen c.args.folder.now) (g.K.Sink.seen c.args.out.now)) (g.S.Source.seen c.args.script.now) c.each_edit_has_sizes.ensures c.each_has_answer.ensures
     (outside (g.F.Folder.seen c.load.new.folder) (g.S.Source.seen c.args.script.now) (g.K.Sink.seen c.load.new.out)) refl c.load.ensures.later c.in_err-session.ensures.front)
 
 pub returns-in_err-reader-clause-front : goal.returns-in_err-reader-clause-front
@@ -20,7 +20,7 @@ returns-in_err-reader-clause-front g c =
     let now = walk_state (standing_in c.in_ok-session.session) (g.F.Folder.seen c.load.new.folder) (g.K.Sink.seen c.load.new.out) in
     let source = g.S.Source.seen c.args.script.now in
     on_err c.from_residual-in_err-reader.result _
-    (front_of_walk c.args.modules c.args.listed.now before source c.each_edit_has_sizes.ensures (lines_left [] source.left) 0 now (outside now.folder source now.out) refl (omega arith)
+    (front_of_walk c.args.modules c.args.listed.now before source c.each_edit_has_sizes.ensures c.each_has_answer.ensures (lines_left [] source.left) 0 now (outside now.folder source now.out) refl (omega arith)
     (begin c.args.modules c.args.listed.now (lines_left [] source.left) before now refl c.in_ok-session.ensures.loaded))
 
 pub loop-reader-init : goal.loop-reader-init
@@ -57,7 +57,7 @@ returns-in_err-ending-clause-front g c =
     let mid = walk_state (standing_in c.loop-reader.session) (g.F.Folder.seen c.loop-reader.folder) (g.K.Sink.seen c.loop-reader.out) in
     let now = outside (g.F.Folder.seen c.step.new.folder) (g.S.Source.seen c.step.new.script) (g.K.Sink.seen c.step.new.out) in
     on_err c.from_residual-in_err-ending.result _
-    (front_of_break c.args.modules c.args.listed.now before (g.S.Source.seen c.args.script.now) c.each_edit_has_sizes.ensures (lines_left c.loop-reader.reader (g.S.Source.seen c.loop-reader.script).left) c.loop-reader.taken mid now
+    (front_of_break c.args.modules c.args.listed.now before (g.S.Source.seen c.args.script.now) c.each_edit_has_sizes.ensures c.each_has_answer.ensures (lines_left c.loop-reader.reader (g.S.Source.seen c.loop-reader.script).left) c.loop-reader.taken mid now
     c.loop-reader.invariant.told c.step.ensures.later c.loop-reader.invariant.walked
     (subst (λ m. Breaks m c.loop-reader.taken (lines_left c.loop-reader.reader (g.S.Source.seen c.loop-reader.script).left) mid now.folder now.out.written) c.loop-reader.invariant.modules c.in_err-ending.ensures.breaks))
 

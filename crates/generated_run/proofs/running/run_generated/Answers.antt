@@ -1,0 +1,62 @@
+use Rattle.std.proofs.Common.{refl, ◌∙◌, arith}
+use Rattle.script_run.specs.Session.{standing_in}
+use Rattle.script_run.proofs.Walks.{on_err}
+use Rattle.generated_run.specs.Steps.{HasDone, HasBegun}
+use Rattle.generated_run.proofs.InOrder.{is_folder, made_distinct, as_many}
+use Rattle.generated_run.proofs.Parts.{all_rounds, not_begun, load_stops, edits_stop, line_stops, count_stops, has_generated}
+use Rattle.generated_run.proofs.running.run_generated.Goals as goal
+
+pub returns-in_err-generated-clause-front : goal.returns-in_err-generated-clause-front
+returns-in_err-generated-clause-front g c = on_err c.from_residual.result _ (not_begun c.each_edit_has_sizes.ensures c.args.modules c.args.n c.args.seed c.requires.made.1 _ _ refl)
+
+pub returns-in_err-folder-clause-front : goal.returns-in_err-folder-clause-front
+returns-in_err-folder-clause-front g c = on_err c.from_residual-in_err-folder.result _ (not_begun c.each_edit_has_sizes.ensures c.args.modules c.args.n c.args.seed c.requires.made.1 _ _ refl)
+
+pub returns-in_err-listed-clause-front : goal.returns-in_err-listed-clause-front
+returns-in_err-listed-clause-front g c = on_err c.from_residual-in_err-listed.result _ (not_begun c.each_edit_has_sizes.ensures c.args.modules c.args.n c.args.seed c.requires.made.1 _ _ refl)
+
+pub folder_of-requires : goal.folder_of-requires
+folder_of-requires g c = made_distinct c.args.n c.args.seed c.in_ok-generated.generated.modules c.requires.made.1 c.in_ok-generated.ensures.modules
+
+pub load-requires-clause-few : goal.load-requires-clause-few
+load-requires-clause-few g c κs within =
+    let whole = is_folder c.args.n c.args.seed c.in_ok-generated.generated.modules c.in_ok-folder.folder c.in_ok-folder.folder c.in_ok-generated.ensures.modules refl c.in_ok-folder.ensures.whole c.in_ok-folder.ensures.rising in
+    let many = as_many c.args.n c.args.seed c.in_ok-folder.folder c.as_slice-paths.result.now (c.as_slice-paths.ensures ∙ c.in_ok-listed.ensures.paths) whole in
+    omega (arith, many, c.requires.few)
+
+pub returns-in_err-session-clause-front : goal.returns-in_err-session-clause-front
+returns-in_err-session-clause-front g c =
+    on_err c.from_residual-in_err-session.result _
+    (load_stops c.each_edit_has_sizes.ensures c.args.modules c.args.n c.args.seed c.paths_in.new.folder
+    (is_folder c.args.n c.args.seed c.in_ok-generated.generated.modules c.in_ok-folder.folder c.paths_in.new.folder c.in_ok-generated.ensures.modules c.paths_in.ensures.same c.in_ok-folder.ensures.whole c.in_ok-folder.ensures.rising) _ _ c.in_err-session.ensures.front)
+
+pub returns-in_err-put_and_check_all-clause-front : goal.returns-in_err-put_and_check_all-clause-front
+returns-in_err-put_and_check_all-clause-front g c =
+    on_err c.from_residual-in_err-put_and_check_all.result _
+    (edits_stop c.each_edit_has_sizes.ensures c.args.modules c.args.n c.args.seed c.paths_in.new.folder
+    (is_folder c.args.n c.args.seed c.in_ok-generated.generated.modules c.in_ok-folder.folder c.paths_in.new.folder c.in_ok-generated.ensures.modules c.paths_in.ensures.same c.in_ok-folder.ensures.whole c.in_ok-folder.ensures.rising) (standing_in c.in_ok-session.session) (g.K.Sink.seen c.args.out.now).written (g.K.Sink.seen c.load.new.out).written (g.K.Sink.seen c.put_and_check_all.new.out).written c.in_ok-session.ensures.loaded
+    (all_rounds (λ Prints. HasBegun Prints (g.K.Sink.seen c.load.new.out).written (g.K.Sink.seen c.put_and_check_all.new.out).written) c.args.modules c.args.n c.args.seed c.in_ok-session.session.waiting.capacity c.paths_in.new.folder c.load.new.folder c.as_slice-edits.result.now (standing_in c.in_ok-session.session)
+    c.in_ok-session.ensures.modules c.load.ensures.same (c.as_slice-edits.ensures ∙ c.in_ok-generated.ensures.edits) c.in_err-put_and_check_all.ensures.front))
+
+pub returns-in_err-close-clause-front : goal.returns-in_err-close-clause-front
+returns-in_err-close-clause-front g c =
+    on_err c.from_residual-in_err-close.result _
+    (line_stops c.each_edit_has_sizes.ensures c.args.modules c.args.n c.args.seed c.paths_in.new.folder
+    (is_folder c.args.n c.args.seed c.in_ok-generated.generated.modules c.in_ok-folder.folder c.paths_in.new.folder c.in_ok-generated.ensures.modules c.paths_in.ensures.same c.in_ok-folder.ensures.whole c.in_ok-folder.ensures.rising) (standing_in c.in_ok-session.session) (standing_in c.put_and_check_all.new.session) (g.K.Sink.seen c.args.out.now).written (g.K.Sink.seen c.load.new.out).written (g.K.Sink.seen c.put_and_check_all.new.out).written (g.K.Sink.seen c.close.new.out).written c.in_ok-session.ensures.loaded
+    (all_rounds (λ Prints. HasDone Prints (standing_in c.put_and_check_all.new.session) (g.K.Sink.seen c.load.new.out).written (g.K.Sink.seen c.put_and_check_all.new.out).written) c.args.modules c.args.n c.args.seed c.in_ok-session.session.waiting.capacity c.paths_in.new.folder c.load.new.folder c.as_slice-edits.result.now (standing_in c.in_ok-session.session)
+    c.in_ok-session.ensures.modules c.load.ensures.same (c.as_slice-edits.ensures ∙ c.in_ok-generated.ensures.edits) c.in_ok-put_and_check_all.ensures.goes) c.close.ensures.front)
+
+pub returns-in_err-errors-clause-front : goal.returns-in_err-errors-clause-front
+returns-in_err-errors-clause-front g c =
+    on_err c.from_residual-in_err-errors.result _
+    (count_stops c.each_edit_has_sizes.ensures c.args.modules c.args.n c.args.seed c.paths_in.new.folder
+    (is_folder c.args.n c.args.seed c.in_ok-generated.generated.modules c.in_ok-folder.folder c.paths_in.new.folder c.in_ok-generated.ensures.modules c.paths_in.ensures.same c.in_ok-folder.ensures.whole c.in_ok-folder.ensures.rising) (standing_in c.in_ok-session.session) (standing_in c.put_and_check_all.new.session) (g.K.Sink.seen c.args.out.now).written (g.K.Sink.seen c.load.new.out).written (g.K.Sink.seen c.put_and_check_all.new.out).written (g.K.Sink.seen c.close.new.out).written c.in_ok-session.ensures.loaded
+    (all_rounds (λ Prints. HasDone Prints (standing_in c.put_and_check_all.new.session) (g.K.Sink.seen c.load.new.out).written (g.K.Sink.seen c.put_and_check_all.new.out).written) c.args.modules c.args.n c.args.seed c.in_ok-session.session.waiting.capacity c.paths_in.new.folder c.load.new.folder c.as_slice-edits.result.now (standing_in c.in_ok-session.session)
+    c.in_ok-session.ensures.modules c.load.ensures.same (c.as_slice-edits.ensures ∙ c.in_ok-generated.ensures.edits) c.in_ok-put_and_check_all.ensures.goes) c.in_ok-close.ensures.ok)
+
+pub returns-clause-generated : goal.returns-clause-generated
+returns-clause-generated g c =
+    has_generated c.each_edit_has_sizes.ensures c.args.modules c.args.n c.args.seed c.paths_in.new.folder
+    (is_folder c.args.n c.args.seed c.in_ok-generated.generated.modules c.in_ok-folder.folder c.paths_in.new.folder c.in_ok-generated.ensures.modules c.paths_in.ensures.same c.in_ok-folder.ensures.whole c.in_ok-folder.ensures.rising) (standing_in c.in_ok-session.session) (standing_in c.put_and_check_all.new.session) (g.K.Sink.seen c.args.out.now).written (g.K.Sink.seen c.load.new.out).written (g.K.Sink.seen c.put_and_check_all.new.out).written (g.K.Sink.seen c.close.new.out).written c.in_ok-session.ensures.loaded
+    (all_rounds (λ Prints. HasDone Prints (standing_in c.put_and_check_all.new.session) (g.K.Sink.seen c.load.new.out).written (g.K.Sink.seen c.put_and_check_all.new.out).written) c.args.modules c.args.n c.args.seed c.in_ok-session.session.waiting.capacity c.paths_in.new.folder c.load.new.folder c.as_slice-edits.result.now (standing_in c.in_ok-session.session)
+    c.in_ok-session.ensures.modules c.load.ensures.same (c.as_slice-edits.ensures ∙ c.in_ok-generated.ensures.edits) c.in_ok-put_and_check_all.ensures.goes) c.in_ok-errors.field-0 c.in_ok-close.ensures.ok c.in_ok-errors.ensures

@@ -1,2 +1,0 @@
-pub mod ErrorLines
-pub mod Steps
