@@ -13,7 +13,7 @@ use Rattle.ask_line.specs.Asking.{text_at, HasText, Asks}
 use Rattle.ask_line.proofs.Deciding.{OrNot, both, alike, each_or_not, true_or_not, bytes_or_not, utf8_or_not, normal_or_not, asks_or_not}
 use Rattle.script_line.specs.declared.line.Line.{Line}
 use Rattle.script_line.specs.declared.line.Line.TheVariants.{Blank, Edit, Delete, Touch, Recheck, Ask, End}
-use Rattle.script_line.specs.Says.{is_blank, stop_in, IsJson, HasBeside, Commands, IsBlankLine, IsCommand, asks_beside, MOST_ASKS, Says, SaysTooMany, SaysNothing}
+use Rattle.script_line.specs.Says.{is_blank, stop_in, HasBeside, Commands, IsBlankLine, IsCommand, asks_beside, MOST_ASKS, Says, SaysTooMany, SaysNothing}
 use Rattle.script_line.proofs.Questions.{SomeOrNone, beside_or_none}
 use Rattle.script_line.proofs.Commanding.{do_word, has_word, line_by, is_by_word}
 use Rattle.script_line.proofs.Nothing.{says_nothing}
