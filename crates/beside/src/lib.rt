@@ -4,7 +4,9 @@
 
 mod asking;
 mod rechecking;
+mod server;
 mod together;
 
 pub use asking::Told;
+pub use server::Server;
 pub use together::beside;
