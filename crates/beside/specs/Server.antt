@@ -11,7 +11,7 @@ use Rattle.entity_heap.specs.Lanes.{visit_in}
 use Rattle.entity_heap.specs.Writers.{plan_in, meaning_in}
 use Rattle.beside.specs.Beside.{IsServer, AnswersFrom}
 use Rattle.beside.specs.Uses.{LaneUse}
-use Rattle.beside.specs.declared.server.Server.{Server}
+use Rattle.beside.specs.declared.serving.Server.{Server}
 
 -- it has the writer of its heap, and all the lanes in their order
 abbrev pub IsRunning : Server → Type 0
@@ -42,9 +42,10 @@ module _ {G : Ghosts Payload} where
     pub history : (plan_in new).history ≡ (plan_in old).history
     pub made : (plan_in new).made ≡ (plan_in old).made
 
+module _ {P : Type 0} {G : Ghosts P} where
   -- what the lanes have answered, which is what they have pinned
-  abbrev pub use_of : Lane Payload G → LaneUse
+  abbrev pub use_of : Lane P G → LaneUse
   use_of l = record { pins = (visit_in l).pins; last = (visit_in l).seen }
 
-  abbrev pub uses_of : List (Lane Payload G) → List LaneUse
+  abbrev pub uses_of : List (Lane P G) → List LaneUse
   uses_of lanes = map use_of lanes
