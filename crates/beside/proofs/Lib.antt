@@ -1,3 +1,5 @@
 pub mod Crossing
+pub mod Moments
 pub mod Moving
+pub mod Served
 pub mod Uses
