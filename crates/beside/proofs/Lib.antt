@@ -1,4 +1,5 @@
 pub mod Crossing
+pub mod Done
 pub mod Moments
 pub mod Moving
 pub mod Served

@@ -1,5 +1,5 @@
 -- What was answered on lanes, by what they have pinned and seen.
-use Rattle.std.proofs.Common.{◌≡◌, ◌⊎◌, inl, inr, ⊎_elim, ℕ, zero, suc, ◌+◌, ◌-◌, ◌^◌, ◌<◌, ◌≤◌, List, [], ◌∷◌, ◌++◌, length, map, set, slice_get, refl, sym, ap, ◌∙◌, subst, arith, Some, None}
+use Rattle.std.proofs.Common.{◌≡◌, ◌⊎◌, inl, inr, ⊎_elim, ℕ, zero, suc, ◌+◌, ◌-◌, ◌^◌, ◌<◌, ◌≤◌, List, [], ◌∷◌, ◌++◌, length, map, set, get_or, slice_get, refl, sym, ap, ◌∙◌, subst, arith, Some, None}
 use Rattle.std.proofs.lemmas.Bool.{cases_lt}
 use Rattle.heap_core.specs.Meaning.{Meaning}
 use Rattle.heap_core.specs.declared.traits.Program.{Ghosts}
@@ -74,27 +74,57 @@ module _ {P A Q X : Type 0} {G : Ghosts P} (works : Q → X → A → A → Type
 
 module _ {P : Type 0} {G : Ghosts P} where
   -- lanes that may answer so many more may pin so often
-  pub may_pin : (asks : ℕ) (lanes : List (Lane P G)) → MayAnswer asks (uses_of lanes) → (k : ℕ) (l : Lane P G) → slice_get lanes k ≡ Some l → (visit_in l).pins + asks < 2 ^ 27
-  may_pin asks lanes may k l at = all_there (λ u. u.pins + asks < 2 ^ 27) (uses_of lanes) k (use_of l) may (map_get use_of lanes k l at)
+  pub may_pin : (asks : ℕ) (lanes now : List (Lane P G)) → lanes ≡ now → MayAnswer asks (uses_of lanes) → (k : ℕ) (l : Lane P G) → slice_get now k ≡ Some l → (visit_in l).pins + asks < 2 ^ 27
+  may_pin asks lanes now same may k l at = all_there (λ u. u.pins + asks < 2 ^ 27) (uses_of lanes) k (use_of l) may (map_get use_of lanes k l (ap (λ (ls : List (Lane P G)). slice_get ls k) same ∙ at))
 
   -- ---- the first lane alone
 
-  -- it has answered one ask more
-  pub first_uses : (lanes : List (Lane P G)) (m : Lane P G) (v : ℕ) → 0 < length lanes → ((l : Lane P G) → slice_get lanes 0 ≡ Some l → use_of m ≡ use_after (use_of l) (v ∷ [])) → uses_of (set lanes 0 m) ≡ lanes_after (uses_of lanes) (v ∷ [])
-  first_uses [] m v some one = absurd (omega arith)
-  first_uses (l ∷ lanes) m v some one = ap (λ (u : LaneUse). u ∷ uses_of lanes) (one l refl) ∙ sym (lanes_one (use_of l) (uses_of lanes) v)
+  set_long : (lanes : List (Lane P G)) (m : Lane P G) → length (set lanes 0 m) ≡ length lanes
+  set_long [] m = refl
+  set_long (l ∷ lanes) m = refl
+
+  set_uses : (lanes : List (Lane P G)) (l m : Lane P G) (v : ℕ) → slice_get lanes 0 ≡ Some l → use_of m ≡ use_after (use_of l) (v ∷ []) → uses_of (set lanes 0 m) ≡ lanes_after (uses_of lanes) (v ∷ [])
+  set_uses [] l m v at once = absurd (let z : None ≡ Some l = at in cc)
+  set_uses (x ∷ lanes) l m v at once =
+      let z : Some x ≡ Some l = at in let e : x ≡ l = cc in
+      ap (λ (u : LaneUse). u ∷ uses_of lanes) (once ∙ ap (λ (y : Lane P G). use_after (use_of y) (v ∷ [])) (sym e)) ∙ sym (lanes_one (use_of x) (uses_of lanes) v)
+
+  set_lanes : (h : Heap P) (lanes : List (Lane P G)) (l m : Lane P G) → slice_get lanes 0 ≡ Some l → IsLaneOf h m → (visit_in m).number ≡ (visit_in l).number → AreLanesOf h lanes → AreLanesOf h (set lanes 0 m)
+  set_lanes h [] l m at of number all k x there = absurd (let z : None ≡ Some l = at in cc)
+  set_lanes h (y ∷ lanes) l m at of number all zero x there = let z : Some m ≡ Some x = there in let e : m ≡ x = cc in subst (λ (w : Lane P G). IsLaneOf h w × ((visit_in w).number ≡ 0)) e (of, number ∙ (all 0 l at).1)
+  set_lanes h (y ∷ lanes) l m at of number all (suc k) x there = all (suc k) x there
+
+  -- it is there
+  pub first_there : (items lanes : List (Lane P G)) (l : Lane P G) → items ≡ lanes → 0 < length lanes → l ≡ get_or items 0 l → slice_get lanes 0 ≡ Some l
+  first_there items lanes l is some here = there lanes some (subst (λ (ls : List (Lane P G)). l ≡ get_or ls 0 l) is here)
+    where
+      there : (lanes : List (Lane P G)) → 0 < length lanes → l ≡ get_or lanes 0 l → slice_get lanes 0 ≡ Some l
+      there [] some here = absurd (omega arith)
+      there (x ∷ lanes) some here = ap (λ (y : Lane P G). Some y) (sym here)
+
+  -- another one stands in its place
+  pub first_set : (items lanes new : List (Lane P G)) (m : Lane P G) → items ≡ lanes → new ≡ set items 0 m → new ≡ set lanes 0 m
+  first_set items lanes new m is set_is = set_is ∙ ap (λ (ls : List (Lane P G)). set ls 0 m) is
+
+  module _ (lanes new : List (Lane P G)) (l m : Lane P G) (is : new ≡ set lanes 0 m) (at : slice_get lanes 0 ≡ Some l) where
+    -- they are as many
+    pub first_long : length new ≡ length lanes
+    first_long = ap (λ (ls : List (Lane P G)). length ls) is ∙ set_long lanes m
+
+    -- it has answered one ask more
+    pub first_uses : (v : ℕ) → use_of m ≡ use_after (use_of l) (v ∷ []) → uses_of new ≡ lanes_after (uses_of lanes) (v ∷ [])
+    first_uses v once = ap uses_of is ∙ set_uses lanes l m v at once
+
+    -- it is the same lane
+    pub first_lanes : (h : Heap P) → IsLaneOf h m → (visit_in m).number ≡ (visit_in l).number → AreLanesOf h lanes → AreLanesOf h new
+    first_lanes h of number all = subst (λ (ls : List (Lane P G)). AreLanesOf h ls) (sym is) (set_lanes h lanes l m at of number all)
 
   -- from a version that it doesn't know a later one of
-  pub first_rises : (lanes : List (Lane P G)) (v : ℕ) → ((l : Lane P G) → slice_get lanes 0 ≡ Some l → (visit_in l).seen ≤ v) → NoneFalls (uses_of lanes) (v ∷ [])
-  first_rises lanes v low zero u at = let o = get_map use_of lanes 0 u at in (subst (λ (w : LaneUse). w.last ≤ v) o.2 (low o.0 o.1), tt)
-  first_rises lanes v low (suc k) u at = tt
-
-  -- it is the same lane
-  pub first_lanes : (h : Heap P) (lanes : List (Lane P G)) (m : Lane P G) → 0 < length lanes → IsLaneOf h m → ((l : Lane P G) → slice_get lanes 0 ≡ Some l → (visit_in m).number ≡ (visit_in l).number) → AreLanesOf h lanes → AreLanesOf h (set lanes 0 m)
-  first_lanes h [] m some of number all k x at = absurd (omega arith)
-  first_lanes h (l ∷ lanes) m some of number all zero x at =
-      let z : Some m ≡ Some x = at in let e : m ≡ x = cc in subst (λ (y : Lane P G). IsLaneOf h y × ((visit_in y).number ≡ 0)) e (of, number l refl ∙ (all 0 l refl).1)
-  first_lanes h (l ∷ lanes) m some of number all (suc k) x at = all (suc k) x at
+  pub first_rises : (lanes : List (Lane P G)) (l : Lane P G) (v : ℕ) → slice_get lanes 0 ≡ Some l → (visit_in l).seen ≤ v → NoneFalls (uses_of lanes) (v ∷ [])
+  first_rises lanes l v at low zero u there =
+      let o = get_map use_of lanes 0 u there in let e : o.0 ≡ l = same_some (slice_get lanes 0) o.0 l o.1 at in
+      (subst (λ (w : LaneUse). w.last ≤ v) o.2 (subst (λ (y : Lane P G). (visit_in y).seen ≤ v) (sym e) low), tt)
+  first_rises lanes l v at low (suc k) u there = tt
 
 -- ---- versions and their states
 
