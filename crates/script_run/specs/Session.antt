@@ -20,13 +20,13 @@ use Rattle.pending_edits.specs.declared.edit.Edit.{Edit}
 use Rattle.pending_edits.specs.declared.edit.Edit.TheVariants.{Delete}
 use Rattle.pending_edits.specs.declared.edit.EditFault.{EditFault}
 use Rattle.pending_edits.specs.declared.edit.EditFault.TheVariants.{TooManyModules, NoMemory}
-use Rattle.recheck_run.specs.Recheck.{Commits, HasRoom, RecheckState, Rechecked}
-use Rattle.recheck_run.specs.declared.outcome.Outcome.{Outcome}
-use Rattle.recheck_run.specs.declared.outcome.Outcome.TheVariants as outcome
+use Rattle.beside.specs.Recheck.{Commits, HasRoom, RecheckState, Rechecked}
+use Rattle.beside.specs.Outcome.{Outcome}
+use Rattle.beside.specs.Outcome.TheVariants as outcome
 use Rattle.beside.specs.Uses.{LaneUse, lane_use_code, new_lane}
 use Rattle.beside.specs.Server.{IsRunning, uses_of}
 use Rattle.beside.specs.declared.server.Server.{Server}
-use Rattle.entity_heap.specs.Writers.{meaning_in}
+use Rattle.beside.specs.Writers.{meaning_in}
 use Rattle.script_line.specs.declared.line.Line.{Line}
 use Rattle.script_line.specs.declared.line.Line.TheVariants as line
 use Rattle.script_run.specs.Transcript.{Standing, with_edit, after_asks, modules_counted, RechecksBeside, Turns}
@@ -36,7 +36,7 @@ use Rattle.analyst.specs.Work.{Work}
 use Rattle.asks.specs.declared.ask.Ask.{Ask}
 use Rattle.asks.specs.declared.answer.AskFault.TheVariants as ask_fault
 use Rattle.heap_answers.specs.States.{Answers}
-use Rattle.lane_asks.specs.declared.told.Told.{Told}
+use Rattle.beside.specs.Told.{Told}
 use Rattle.answers_law.specs.Answers.{Answered, IsAnswer}
 use Rattle.answer_print.specs.Lines.{answer_lines}
 

@@ -5,7 +5,7 @@ ghost use Rattle.flow_base.specs.Causes.{Counts};
 ghost use Rattle.flow_base.specs.Seen.{outside};
 ghost use Rattle.script_reader.specs.Lines.{bytes_left, lines_left, TakesFront, BreaksLine};
 ghost use Rattle.script_run.specs.Transcript.{start, last_line};
-ghost use Rattle.entity_heap.specs.Writers.{meaning_in};
+ghost use Rattle.beside.specs.Writers.{meaning_in};
 ghost use Rattle.script_line.specs.Says.{MOST_ASKS};
 ghost use Rattle.beside.specs.Uses.{MayAnswer};
 ghost use Rattle.beside.specs.Server.{uses_of};
