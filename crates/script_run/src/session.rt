@@ -5,8 +5,8 @@ ghost use Rattle.beside.specs.Writers.{meaning_in};
 ghost use Rattle.beside.specs.Uses.{MayAnswer};
 ghost use Rattle.beside.specs.Server.{uses_of};
 ghost use Rattle.script_run.specs.Checked.{HasErrorCount};
-ghost use Rattle.script_run.specs.Transcript.{start};
-ghost use Rattle.script_run.specs.Session.{IsNewServer, IsIdle, standing_in, asks_of, Prints, PrintsEdit, HasAsked, HasEdited, HasDeleted, HasRechecked, HasTurned};
+ghost use Rattle.script_run.specs.Transcript.{start, asks_of};
+ghost use Rattle.script_run.specs.Session.{IsNewServer, IsIdle, standing_in, Prints, PrintsEdit, HasAsked, HasEdited, HasDeleted, HasRechecked, HasTurned};
 
 use crate::answering::{print_told, told_text};
 use crate::committed::Committed;
