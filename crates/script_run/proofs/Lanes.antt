@@ -1,5 +1,5 @@
 -- What the lanes answer beside a recheck.
-use Rattle.std.proofs.Common.{◌≡◌, ℕ, ◌+◌, ◌≤◌, List, [], ◌∷◌, ◌++◌, length, Option, refl, sym, ap, ◌∙◌, subst, arith, inl, inr, ◌⊎◌}
+use Rattle.std.proofs.Common.{◌≡◌, ℕ, suc, ◌+◌, ◌≤◌, List, [], ◌∷◌, ◌++◌, length, Option, refl, sym, ap, ◌∙◌, subst, arith, inl, inr, ◌⊎◌}
 use Rattle.std.specs.List.{AllByRecursion}
 use Rattle.std.proofs.lemmas.List.{append-nil, length-replicate}
 use Rattle.flow_base.specs.Program.{Bytes, Program}
@@ -41,7 +41,7 @@ pub answers_long : (s t : Standing) (asks : List Ask) (versions : List ℕ) (pri
 answers_long s t [] [] printed answered = refl
 answers_long s t [] (version ∷ versions) printed answered = absurd answered
 answers_long s t (asked ∷ asks) [] printed answered = absurd answered
-answers_long s t (asked ∷ asks) (version ∷ versions) printed (answer, rest, one, others, is) = ap (λ n. n + 1) (answers_long s t asks versions rest others)
+answers_long s t (asked ∷ asks) (version ∷ versions) printed (answer, rest, one, others, is) = ap suc (answers_long s t asks versions rest others)
 
 -- where nothing is asked, nothing is answered
 pub no_answers : (s t : Standing) (versions : List ℕ) (printed : Bytes) → AnswersBeside s t [] versions printed → (versions ≡ []) × (printed ≡ [])
