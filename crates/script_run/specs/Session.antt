@@ -25,7 +25,7 @@ use Rattle.beside.specs.Outcome.{Outcome}
 use Rattle.beside.specs.Outcome.TheVariants as outcome
 use Rattle.beside.specs.Uses.{LaneUse, lane_use_code, new_lane}
 use Rattle.beside.specs.Server.{IsRunning, uses_of}
-use Rattle.beside.specs.declared.server.Server.{Server}
+use Rattle.beside.specs.declared.serving.Server.{Server}
 use Rattle.beside.specs.Writers.{meaning_in}
 use Rattle.script_line.specs.declared.line.Line.{Line}
 use Rattle.script_run.specs.Transcript.{Standing, with_edit, after_asks, modules_counted, RechecksBeside, Turns}
