@@ -160,13 +160,14 @@ breaks_end most next how taken lines lines' before folder held is reads front = 
 
 -- ---- the walk
 
-module _ (most lanes : ℕ) (listed : List Bytes) (script : Option (List Bytes)) (before : WalkState) where
-  -- the load is a recheck from the start
-  load_of : (first now : WalkState) (loaded : HasLoaded first now) → first.standing ≡ start listed lanes → Rechecks first.folder.told 0 (start listed lanes) now.standing loaded.load.faults loaded.printed
-  load_of first now loaded is =
-      nothing_beside first.folder.told 0 (start listed lanes) now.standing loaded.load.faults loaded.printed
-      (subst (λ s. RechecksBeside first.folder.told 0 [] s now.standing loaded.load.faults loaded.printed) is loaded.load.rechecks)
+-- the load is a recheck from the start
+load_of : (listed : List Bytes) (lanes : ℕ) (first now : WalkState) (loaded : HasLoaded first now) → first.standing ≡ start listed lanes
+    → Rechecks first.folder.told 0 (start listed lanes) now.standing loaded.load.faults loaded.printed
+load_of listed lanes first now loaded is =
+    nothing_beside first.folder.told 0 (start listed lanes) now.standing loaded.load.faults loaded.printed
+    (subst (λ s. RechecksBeside first.folder.told 0 [] s now.standing loaded.load.faults loaded.printed) is loaded.load.rechecks)
 
+module _ (most lanes : ℕ) (listed : List Bytes) (script : Option (List Bytes)) (before : WalkState) where
   pub begin : (now : WalkState) → before.standing ≡ start listed lanes → HasLoaded before now → HasWalked most lanes listed script script 0 before now
   begin now is loaded = record {
     lines = [];
@@ -174,11 +175,11 @@ module _ (most lanes : ℕ) (listed : List Bytes) (script : Option (List Bytes))
     leaves = unchanged script;
     read_faults = loaded.load.faults;
     printed = loaded.printed;
-    walk = loads now.standing loaded.load.faults loaded.printed (load_of before now loaded is);
+    walk = loads now.standing loaded.load.faults loaded.printed (load_of listed lanes before now loaded is);
     written = loaded.written;
     counted = loaded.load.counted;
-    version = omega (arith, recheck_version (load_of before now loaded is));
-    answered = subst (AnsweredAtMost (MOST_ASKS * 0)) (sym (recheck_lanes (load_of before now loaded is))) (new_at_most lanes (MOST_ASKS * 0));
+    version = omega (arith, recheck_version (load_of listed lanes before now loaded is));
+    answered = subst (AnsweredAtMost (MOST_ASKS * 0)) (sym (recheck_lanes (load_of listed lanes before now loaded is))) (new_at_most lanes (MOST_ASKS * 0));
   }
 
   pub more : (left left' : Option (List Bytes)) (n : ℕ) (mid now : WalkState) → mid.folder.told ≡ before.folder.told → HasWalked most lanes listed script left n before mid → Takes most n left left' mid now
