@@ -67,9 +67,12 @@ more_answered n bytes said s t says turn few =
 pub may_answer_line : (n : ℕ) (s : Standing) → n ≤ MOST_LINES → HaveAnswered n s → MayAnswer MOST_ASKS s.lanes
 may_answer_line n s few answered = may_answer (MOST_ASKS * n) MOST_ASKS s.lanes answered (omega (arith, few))
 
--- and what a line asks
-pub may_answer_asks : (bytes : Bytes) (said : Line) (lanes : List LaneUse) → Says bytes said → MayAnswer MOST_ASKS lanes → MayAnswer (length (asks_of said)) lanes
-may_answer_asks bytes said lanes says may = may_answer_fewer MOST_ASKS (length (asks_of said)) lanes (asks_within bytes said says) may
+-- and what the next line asks
+pub may_take : (next : Command) (said : Line) (taken : ℕ) (lines lines' : Option (List Bytes)) (lanes : List LaneUse) → next ≡ command.Takes said → Reads next taken lines lines' → MayAnswer MOST_ASKS lanes
+    → MayAnswer (length (asks_of said)) lanes
+may_take next said taken lines lines' lanes is reads may =
+    let it : IsTaken said taken lines lines' = subst (λ n. Reads n taken lines lines') is reads in
+    may_answer_fewer MOST_ASKS (length (asks_of said)) lanes (asks_within it.bytes said it.says) may
 
 -- ---- errors
 
