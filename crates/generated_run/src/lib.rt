@@ -9,3 +9,4 @@ mod turns;
 
 pub use laws::one_generated_run;
 pub use running::run_generated;
+pub use script_run::{Ended, RunFault, Server, WalkEnd, open_server, run, write_all};
