@@ -1,1 +1,3 @@
 pub mod Beside
+pub mod Server
+pub mod Uses
