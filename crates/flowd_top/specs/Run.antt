@@ -11,7 +11,7 @@ use Rattle.command_words.specs.declared.command.Form.TheVariants.{Folder, Genera
 use Rattle.entity_heap.specs.Writers.{meaning_in}
 use Rattle.beside.specs.Uses.{LaneUse}
 use Rattle.beside.specs.Server.{IsRunning, uses_of}
-use Rattle.beside.specs.declared.server.Server.{Server}
+use Rattle.beside.specs.declared.serving.Server.{Server}
 use Rattle.script_print.specs.Printed.{files_line}
 use Rattle.script_run.specs.declared.ending.WalkEnd.{WalkEnd}
 use Rattle.script_run.specs.declared.ending.WalkEnd.TheVariants as ending
@@ -65,10 +65,9 @@ abbrev pub EndsAlike : Option RunEnd → Option RunEnd → Type 0
 EndsAlike (Some x) (Some y) = (x.program ≡ y.program) × (x.version ≡ y.version)
 EndsAlike x y = x ≡ y
 
--- A server on which a run ended here: it has the writer and all lanes of one heap, and no transaction is open.
+-- a server on which a run ended here: it has the writer and all lanes of one heap, and no transaction is open
 pub record IsLeft (end : RunEnd) (server : Server) : Type 0 where
-  pub running : IsRunning server
-  pub closed : (meaning_in server.writer).is_open ≡ false
+  pub idle : IsIdle server
   pub ended : end_of server ≡ end
 
 -- the server of a run is kept, if it was not cut short

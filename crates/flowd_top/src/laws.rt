@@ -12,8 +12,7 @@ pub fn a_front_goes_on()
     ensures { (words : List Bytes) (c : Command) (told : Option Program) (script : Option (List Bytes)) (listed : List Bytes) (faults : ℕ) (printed : Bytes) →
         NamesFolder words c → MayList told listed → length listed ≤ c.modules → IsRunSoFar c.modules c.lanes told listed script faults printed → GoesOnTo words told script faults printed }
 {
-    affected_sizes::each_edit_has_sizes();
-    answers_law::each_has_answer();
+    generated_run::a_front_goes_on();
 }
 
 /// Where the folder and the script tell their content, and the folder may list its paths, there is a
@@ -28,10 +27,8 @@ pub fn one_transcript()
         IsTranscript words (Some folder) (Some script) 0 p h x → IsTranscript words (Some folder) (Some script) 0 q k y → (h ≡ k) × EndsAlike x y }
 {
     affected_sizes::each_edit_has_sizes();
-    affected_sizes::one_size_each();
     program_check::one_full();
-    answers_law::each_has_answer();
-    answers_law::one_answer();
     command_words::one_command();
+    generated_run::one_quiet_run();
     generated_run::one_generated_run();
 }

@@ -297,8 +297,7 @@ fn made<A: Drop, M: AnalystMaker<A>>(
 
 // The status of a run that came to its end. Its server is kept where it was not cut short.
 fn finish(ended: Ended, kept: &mut Option<Server>) -> Status
-    requires running { IsRunning ended.server }
-    requires closed { (meaning_in ended.server.writer).is_open ≡ false }
+    requires idle { IsIdle ended.server }
     requires kept { kept.old ≡ None }
     ensures status { result ≡ status_after ended.ending ended.errors }
     ensures kept { Keeps (left_after ended.ending (end_of ended.server)) kept.new }

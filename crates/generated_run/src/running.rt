@@ -2,9 +2,9 @@ ghost use Rattle.std.specs.Prelude.{◌≡◌, ◌≤◌, ◌<◌, length, IfOk,
 ghost use Rattle.std.specs.Int.{IsInRange};
 ghost use Rattle.flow_base.specs.Causes.{Counts};
 ghost use Rattle.entity_heap.specs.Writers.{meaning_in};
-ghost use Rattle.beside.specs.Server.{IsRunning, uses_of};
+ghost use Rattle.beside.specs.Server.{uses_of};
 ghost use Rattle.script_run.specs.declared.ending.WalkEnd.TheVariants.{Finished};
-ghost use Rattle.script_run.specs.Session.{IsNewServer, program_in};
+ghost use Rattle.script_run.specs.Session.{IsNewServer, IsIdle, program_in};
 ghost use Rattle.generated_run.specs.Run.{HasGenerated, HasGeneratedFront};
 
 use crate::folders::{folder_of, paths_in};
@@ -12,10 +12,11 @@ use crate::printing::close;
 use crate::turns::{load, put_and_check_all};
 use affected_sizes::each_edit_has_sizes;
 use analyst::Analyst;
+use beside::Server;
 use flow_base::{Sink, Turnstile};
 use generator::generate;
 use place_analyst::PlaceAnalyst;
-use script_run::{Ended, RunFault, Server, WalkEnd};
+use script_run::{Ended, RunFault, WalkEnd};
 use std::alloc::Global;
 use std::sync::Wait;
 use std::thread::Threads;
@@ -46,17 +47,15 @@ pub fn run_generated<
     out: &mut K,
     turns: &T,
 ) -> Result<Ended, RunFault>
-    requires new { IsNewServer server modules (length server.lanes) }
+    requires new { IsNewServer server modules (length askers.items) }
     requires made { IsInRange 1 4096 n }
     requires few { n ≤ modules }
     requires some { 0 < length analysts.items }
-    requires askers { length askers.items ≡ length server.lanes }
     ensures finished { IfOk result (λ ended. ended.ending ≡ Finished) }
-    ensures generated { IfOk result (λ ended. HasGenerated modules (length server.lanes) n seed ended.errors (program_in (meaning_in ended.server.writer).committed) (meaning_in ended.server.writer).version (uses_of ended.server.lanes)
+    ensures generated { IfOk result (λ ended. HasGenerated modules (length askers.items) n seed ended.errors (program_in (meaning_in ended.server.writer).committed) (meaning_in ended.server.writer).version (uses_of ended.server.lanes)
         (K.seen out.old).written (K.seen out.new).written) }
-    ensures server { IfOk result (λ ended. IsRunning ended.server) }
-    ensures closed { IfOk result (λ ended. (meaning_in ended.server.writer).is_open ≡ false) }
-    ensures front { OnErr result (HasGeneratedFront modules (length server.lanes) n seed (K.seen out.old).written (K.seen out.new).written) }
+    ensures idle { IfOk result (λ ended. IsIdle ended.server × (length ended.server.lanes ≡ length askers.items)) }
+    ensures front { OnErr result (HasGeneratedFront modules (length askers.items) n seed (K.seen out.old).written (K.seen out.new).written) }
     ensures counts { Counts (IsErrOf result RunFault.SinkFault) (K.seen out.old).faults (K.seen out.new).faults }
     ensures no_script { IsErrOf result RunFault.ScriptFault → ⊥ }
 {

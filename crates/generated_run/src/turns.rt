@@ -1,19 +1,21 @@
 //! The load, and turns behind it.
-ghost use Rattle.std.specs.Prelude.{◌≡◌, ◌≤◌, ◌<◌, ◌+◌, ◌^◌, length, IfOk, OnOk, OnErr, IsErrOf};
+ghost use Rattle.std.specs.Prelude.{◌≡◌, ◌≤◌, ◌<◌, ◌+◌, ◌^◌, length, replicate, IfOk, OnOk, OnErr, IsErrOf};
 ghost use Rattle.std.specs.List.{flat_map};
 ghost use Rattle.flow_base.specs.Program.{IsRising, paths_of};
 ghost use Rattle.flow_base.specs.Causes.{Counts};
-ghost use Rattle.script_run.specs.Session.{IsNewServer, MayPinMore, asks_of, standing_in};
+ghost use Rattle.beside.specs.Uses.{new_lane, MayAnswer};
+ghost use Rattle.script_run.specs.Session.{IsNewServer, asks_of, standing_in};
 ghost use Rattle.generated_run.specs.Run.{put_and_check, Goes};
 ghost use Rattle.generated_run.specs.Steps.{HasDone, HasBegun, Loads, TakesTurn, BreaksOff};
 
 use crate::printing::print;
 use affected_sizes::each_edit_has_sizes;
 use analyst::Analyst;
+use beside::Server;
 use flow_base::{List, MemFolder, Path, Sink, Text, Turnstile};
 use place_analyst::PlaceAnalyst;
 use script_line::Line;
-use script_run::{RunFault, Server, Session};
+use script_run::{RunFault, Session};
 use std::alloc::Global;
 use std::sync::Wait;
 use std::thread::Threads;
@@ -40,17 +42,16 @@ pub(crate) fn load<
     out: &mut K,
     turns: &T,
 ) -> Result<Session<A>, RunFault>
-    requires new { IsNewServer server modules (length server.lanes) }
+    requires new { IsNewServer server modules (length askers.items) }
     requires listed { listed.now ≡ paths_of folder.old }
     requires rising { IsRising listed.now }
     requires few { length listed.now ≤ modules }
     requires some { 0 < length analysts.items }
-    requires askers { length askers.items ≡ length server.lanes }
-    ensures loaded { IfOk result (λ session. HasDone (Loads (length server.lanes) folder.old) (standing_in session) (K.seen out.old).written (K.seen out.new).written) }
+    ensures loaded { IfOk result (λ session. HasDone (Loads (length askers.items) folder.old) (standing_in session) (K.seen out.old).written (K.seen out.new).written) }
     ensures version { IfOk result (λ session. session.heap.version ≤ 1) }
-    ensures pins { IfOk result (λ session. MayPinMore 0 session.lanes) }
+    ensures lanes { IfOk result (λ session. session.lanes ≡ replicate (length askers.items) new_lane) }
     ensures modules { IfOk result (λ session. session.waiting.capacity ≡ modules) }
-    ensures front { OnErr result (HasBegun (Loads (length server.lanes) folder.old) (K.seen out.old).written (K.seen out.new).written) }
+    ensures front { OnErr result (HasBegun (Loads (length askers.items) folder.old) (K.seen out.old).written (K.seen out.new).written) }
     ensures counts { Counts (IsErrOf result RunFault.SinkFault) (K.seen out.old).faults (K.seen out.new).faults }
     ensures no_script { IsErrOf result RunFault.ScriptFault → ⊥ }
     ensures same { folder.new ≡ folder.old }
@@ -77,7 +78,7 @@ fn turn<
     line: Line,
 ) -> Result<(), RunFault>
     requires version { session.old.heap.version + 1 < 2 ^ 31 }
-    requires pins { MayPinMore (length (asks_of line)) session.old.lanes }
+    requires pins { MayAnswer (length (asks_of line)) session.old.lanes }
     requires goes_on { line ≡ Line.End → ⊥ }
     ensures turned { OnOk result (HasDone (TakesTurn session.old.waiting.capacity folder.old line (standing_in session.old)) (standing_in session.new) (K.seen out.old).written (K.seen out.new).written) }
     ensures breaks { OnErr result (BreaksOff session.old.waiting.capacity folder.old line (standing_in session.old) (K.seen out.old).written (K.seen out.new).written) }
@@ -107,11 +108,11 @@ fn put_and_check<
     text: Text,
 ) -> Result<(), RunFault>
     requires version { session.old.heap.version + 1 < 2 ^ 31 }
-    requires pins { MayPinMore 0 session.old.lanes }
+    requires pins { MayAnswer 0 session.old.lanes }
     ensures goes { OnOk result (HasDone (Goes session.old.waiting.capacity folder.old (put_and_check (path, text)) (standing_in session.old)) (standing_in session.new) (K.seen out.old).written (K.seen out.new).written) }
     ensures front { OnErr result (HasBegun (Goes session.old.waiting.capacity folder.old (put_and_check (path, text)) (standing_in session.old)) (K.seen out.old).written (K.seen out.new).written) }
     ensures version { OnOk result (session.new.heap.version ≤ session.old.heap.version + 1) }
-    ensures pins { OnOk result (MayPinMore 0 session.new.lanes) }
+    ensures lanes { OnOk result (session.new.lanes ≡ session.old.lanes) }
     ensures modules { session.new.waiting.capacity ≡ session.old.waiting.capacity }
     ensures counts { Counts (IsErrOf result RunFault.SinkFault) (K.seen out.old).faults (K.seen out.new).faults }
     ensures no_script { IsErrOf result RunFault.ScriptFault → ⊥ }
@@ -150,8 +151,9 @@ pub(crate) fn put_and_check_all<
     edits: &[(Path, Text)],
 ) -> Result<(), RunFault>
     requires version { session.old.heap.version + length edits.now < 2 ^ 31 }
-    requires pins { MayPinMore 0 session.old.lanes }
+    requires pins { MayAnswer 0 session.old.lanes }
     ensures goes { OnOk result (HasDone (Goes session.old.waiting.capacity folder.old (flat_map put_and_check edits.now) (standing_in session.old)) (standing_in session.new) (K.seen out.old).written (K.seen out.new).written) }
+    ensures lanes { OnOk result (session.new.lanes ≡ session.old.lanes) }
     ensures front { OnErr result (HasBegun (Goes session.old.waiting.capacity folder.old (flat_map put_and_check edits.now) (standing_in session.old)) (K.seen out.old).written (K.seen out.new).written) }
     ensures counts { Counts (IsErrOf result RunFault.SinkFault) (K.seen out.old).faults (K.seen out.new).faults }
     ensures no_script { IsErrOf result RunFault.ScriptFault → ⊥ }
