@@ -8,7 +8,7 @@ use Rattle.flow_base.specs.Seen.{Outside}
 use Rattle.command_words.specs.Words.{Says, AreOfCommand, usage_line}
 use Rattle.command_words.specs.declared.command.Command.{Command}
 use Rattle.command_words.specs.declared.command.Form.TheVariants.{Folder, Generated}
-use Rattle.entity_heap.specs.Writers.{meaning_in}
+use Rattle.beside.specs.Writers.{meaning_in}
 use Rattle.beside.specs.Uses.{LaneUse}
 use Rattle.beside.specs.Server.{IsRunning, uses_of}
 use Rattle.beside.specs.declared.serving.Server.{Server}

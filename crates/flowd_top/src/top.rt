@@ -6,7 +6,7 @@ ghost use Rattle.flow_base.specs.Program.{Bytes, IsRising};
 ghost use Rattle.flow_base.specs.Causes.{raised, Counts};
 ghost use Rattle.flow_base.specs.Seen.{outside};
 ghost use Rattle.flow_base.specs.declared.outside.LastFault.TheVariants.{Listing};
-ghost use Rattle.entity_heap.specs.Writers.{meaning_in};
+ghost use Rattle.beside.specs.Writers.{meaning_in};
 ghost use Rattle.beside.specs.Server.{IsRunning};
 ghost use Rattle.command_words.specs.Words.{AreOfCommand, Says};
 ghost use Rattle.command_words.specs.declared.command.Command as the_command;

@@ -5,6 +5,7 @@ pub mod Completing
 pub mod EmptyHeaps
 pub mod Fronts
 pub mod Givens
+pub mod Lanes
 pub mod Once
 pub mod PendingEdits
 pub mod Sessions

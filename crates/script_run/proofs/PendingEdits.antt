@@ -27,9 +27,9 @@ use Rattle.pending_edits.specs.declared.edit.Edit.TheVariants.{Touch, Delete}
 use Rattle.pending_edits.specs.declared.edit.EditFault.{EditFault}
 use Rattle.pending_edits.specs.declared.edit.EditFault.TheVariants.{TooManyModules, NoMemory}
 use Rattle.edited_root.proofs.Rooted.{few_modules}
-use Rattle.recheck_run.specs.Recheck.{Commits, HasRoom, RecheckState, Rechecked}
-use Rattle.recheck_run.specs.declared.outcome.Outcome.{Outcome}
-use Rattle.recheck_run.specs.declared.outcome.Outcome.TheVariants as outcome
+use Rattle.beside.specs.Recheck.{Commits, HasRoom, RecheckState, Rechecked}
+use Rattle.beside.specs.Outcome.{Outcome}
+use Rattle.beside.specs.Outcome.TheVariants as outcome
 use Rattle.script_run.specs.Transcript.{to_touch}
 use Rattle.script_run.specs.Session.{modules_in, program_in, program_with, held, StandOnCommitted, AreFew, CountsNoMore, StandsStill, IsReady, IsEmptyHeap, Limits}
 use Rattle.script_run.proofs.Sessions.{first_modules}

@@ -35,11 +35,11 @@ use Rattle.pending_edits.specs.declared.edit.EditFault.{EditFault}
 use Rattle.pending_edits.specs.declared.edit.EditFault.TheVariants.{TooManyModules, NoMemory}
 use Rattle.stops.specs.Asked.{StopSeen, yes_answers_by}
 use Rattle.analyst.specs.Work.{Work}
-use Rattle.recheck_run.specs.Extent.{Extent, Affects, polls}
-use Rattle.recheck_run.specs.Recheck.{Commits, RecheckState, Rechecked, CountsReads}
-use Rattle.recheck_run.specs.Recheck as recheck_run
-use Rattle.recheck_run.specs.declared.outcome.Outcome.{Outcome}
-use Rattle.recheck_run.specs.declared.outcome.Outcome.TheVariants as outcome
+use Rattle.beside.specs.Extent.{Extent, Affects, polls}
+use Rattle.beside.specs.Recheck.{Commits, RecheckState, Rechecked, CountsReads}
+use Rattle.beside.specs.Recheck as rechecking
+use Rattle.beside.specs.Outcome.{Outcome}
+use Rattle.beside.specs.Outcome.TheVariants as outcome
 use Rattle.affected_sizes.specs.Polls.{AreBatches}
 use Rattle.affected_sizes.specs.Sizes.{AreSizes}
 use Rattle.script_print.specs.Printed.{done_line, cancelled_line, fault_line, refused_line}
@@ -256,7 +256,7 @@ begins_empty m modules waiting listed empty is =
 -- a recheck of the heap is one of the walk
 module _ (stop : ℕ) (fits : stop < 2 ^ 64) (before now : RecheckState) (stops : StopsAt stop before.stop now.stop) (bounded : before.folder.faults < 2 ^ 64) where
   -- the edit of the committed program is one of the walk's
-  comes_to : (old new : Root) (n : Extent) → recheck_run.Edits before old new n → ComesTo before.folder.told (standing_of before.heap before.edits) (program_of new) n.parsed n.checked (polls n)
+  comes_to : (old new : Root) (n : Extent) → rechecking.Edits before old new n → ComesTo before.folder.told (standing_of before.heap before.edits) (program_of new) n.parsed n.checked (polls n)
   comes_to old new n is =
       let was = sym (committed_program before.heap old is.was) in
       record {
