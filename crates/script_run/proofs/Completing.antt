@@ -101,18 +101,21 @@ quiet_beside : EachHasSizes → EachHasAnswer → (told : Option Program) (stop 
 quiet_beside each answer told stop asks s low =
     let recheck = quiet_recheck each told stop s in
     let versions : List ℕ = replicate (length asks) s.version in
-    let answered = all_answered answer s recheck.0 asks in
-    (after_asks recheck.0 versions, recheck.1 ++ answered.0, record {
-      next = recheck.0;
-      line = recheck.1;
-      rechecks = recheck.2;
-      versions = versions;
-      answered = answered.0;
-      answers = answered.1;
-      falls_not = same_falls s.lanes s.version versions low (all_same (length asks) s.version);
-      leads = refl;
-      prints = refl;
-    })
+    let answered = all_answered answer s recheck.0 asks in (
+      after_asks recheck.0 versions,
+      recheck.1 ++ answered.0,
+      record {
+        next = recheck.0;
+        line = recheck.1;
+        rechecks = recheck.2;
+        versions = versions;
+        answered = answered.0;
+        answers = answered.1;
+        falls_not = same_falls s.lanes s.version versions low (all_same (length asks) s.version);
+        leads = refl;
+        prints = refl;
+      },
+    )
 
 module _ (each : EachHasSizes) (answer : EachHasAnswer) (most : ℕ) (told : Option Program) where
   quiet_edit : (s : Standing) (path text : Bytes) → (t : Standing) × (printed : Bytes) × Turns most told (line.Edit path text) s t 0 printed

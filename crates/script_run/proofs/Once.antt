@@ -131,15 +131,18 @@ module _ (one : OneFull) (sized : HaveOneSize) (folder : Program) where
         ap (λ (x : Standing). x.program) beside.leads ∙ (next.0.0 ∙ ap (λ (x : Standing). x.program) (sym other.leads)),
         ap (λ (x : Standing). x.version) beside.leads ∙ (next.0.1 ∙ ap (λ (x : Standing). x.version) (sym other.leads)),
         ap (λ (x : Standing). x.waiting) beside.leads ∙ (next.0.2 ∙ ap (λ (x : Standing). x.waiting) (sym other.leads)),
-      ) in
-      (alike', λ lanes none.
-      let here = no_asks_answers s beside.next asks beside.versions beside.answered none beside.answers in
-      let there = no_asks_answers s' other.next asks other.versions other.answered none other.answers in
-      let before : beside.next.lanes ≡ other.next.lanes = recheck_lanes beside.rechecks ∙ (lanes ∙ sym (recheck_lanes other.rechecks)) in
-      let versions : beside.versions ≡ other.versions = here.0 ∙ sym there.0 in
-      let answered : beside.answered ≡ other.answered = here.1 ∙ sym there.1 in
-      (ap (λ (x : Standing). x.lanes) beside.leads ∙ ((λ i. lanes_after (before i) (versions i)) ∙ ap (λ (x : Standing). x.lanes) (sym other.leads)),
-      beside.prints ∙ ((λ i. next.1 i ++ answered i) ∙ sym other.prints)))
+      ) in (
+        alike',
+        λ lanes none.
+            let here = no_asks_answers s beside.next asks beside.versions beside.answered none beside.answers in
+            let there = no_asks_answers s' other.next asks other.versions other.answered none other.answers in
+            let before : beside.next.lanes ≡ other.next.lanes = recheck_lanes beside.rechecks ∙ (lanes ∙ sym (recheck_lanes other.rechecks)) in
+            let versions : beside.versions ≡ other.versions = here.0 ∙ sym there.0 in
+            let answered : beside.answered ≡ other.answered = here.1 ∙ sym there.1 in (
+              ap (λ (x : Standing). x.lanes) beside.leads ∙ ((λ i. lanes_after (before i) (versions i)) ∙ ap (λ (x : Standing). x.lanes) (sym other.leads)),
+              beside.prints ∙ ((λ i. next.1 i ++ answered i) ∙ sym other.prints),
+            ),
+      )
 
   module _ (one_answer : OneAnswer) (most : ℕ) where
     same_turn : {said : Line} {s s' t u : Standing} {f g : ℕ} {p q : Bytes} → Turns most (Some folder) said s t f p → Turns most (Some folder) said s' u g q → AreAlike s s' → f ≡ 0 → g ≡ 0
@@ -177,11 +180,13 @@ module _ (one : OneFull) (sized : HaveOneSize) (folder : Program) where
           let lists = same_from_push xs ys bytes bytes' same in
           let there = same_walk walk walk' lists.0 (omega arith) (omega arith) in
           let word : said' ≡ said = same_line bytes said' said (subst (λ b. Says b said') (sym lists.1) says') says in
-          let next = turn_at said said' s t s' t' more_f more_g more_p more_q word there.0 turn turn' (omega arith) (omega arith) in
-          (next.0, λ none.
-          let before = there.1 (all_left (λ (b : Bytes). (l : Line) → Says b l → asks_beside l ≡ []) xs (bytes ∷ []) none) in
-          let here = next.1 before.0 (all_seam (λ (b : Bytes). (l : Line) → Says b l → asks_beside l ≡ []) xs bytes [] none said says) in
-          (here.0, both p q more_p more_q before.1 here.1)) where
+          let next = turn_at said said' s t s' t' more_f more_g more_p more_q word there.0 turn turn' (omega arith) (omega arith) in (
+            next.0,
+            λ none.
+                let before = there.1 (all_left (λ (b : Bytes). (l : Line) → Says b l → asks_beside l ≡ []) xs (bytes ∷ []) none) in
+                let here = next.1 before.0 (all_seam (λ (b : Bytes). (l : Line) → Says b l → asks_beside l ≡ []) xs bytes [] none said says) in
+                (here.0, both p q more_p more_q before.1 here.1),
+          ) where
             both : (a b c d : Bytes) → a ≡ b → c ≡ d → a ++ c ≡ b ++ d
             both a b c d first second = cc
 

@@ -134,6 +134,7 @@ pub record IsEmptyHeap (m : Meaning Payload) (modules : ℕ) : Type 0 where
 pub record IsNewServer (server : Server) (modules lanes : ℕ) : Type 0 where
   pub running : IsRunning server
   pub empty : IsEmptyHeap (meaning_in server.writer) modules
+  pub many : length server.lanes ≡ lanes
   pub uses : uses_of server.lanes ≡ replicate lanes new_lane
 
 -- a server on which no transaction is open

@@ -189,7 +189,7 @@ pub(crate) fn recheck_edited<
     requires pins { MayAnswer (length asks.now) (uses_of server.old.lanes) }
     ensures running { IsRunning server.new }
     ensures ready { IsReady (held_by server.new edits.new) }
-    ensures many { (length server.new.lanes ≡ length server.old.lanes) × (length analysts.new ≡ length analysts.old) × (length askers.new ≡ length askers.old) }
+    ensures many { length server.new.lanes ≡ length server.old.lanes }
     ensures capacity { edits.new.capacity ≡ edits.old.capacity }
     ensures told { (F.seen folder.new).told ≡ (F.seen folder.old).told }
     ensures later { (F.seen folder.old).faults ≤ (F.seen folder.new).faults }
