@@ -1,4 +1,9 @@
 //! Tests of calls below the program. Each tells by lines what came.
+ghost use Rattle.std.specs.Prelude.{◌≡◌, ◌∷◌, [], ◌<◌, ◌≤◌, IfOk, length};
+ghost use Rattle.pending_edits.specs.Counting.{counted, StandsOn};
+ghost use Rattle.check_values.specs.Roots.{paths_of};
+ghost use Rattle.run_cases.specs.Heaps.{IsEmpty};
+
 use crate::cases::path_of;
 use crate::meeting::{Meeting, MeetingAnalyst, MeetingAnalysts, PATHS, Rule, SOURCES};
 use crate::outside::TestFolder;
@@ -54,7 +59,9 @@ fn analysts<'a>(
     alloc: Global,
     meeting: &'a Meeting,
     many: usize,
-) -> Result<Vec<MeetingAnalyst<'a>>, NoMemory> {
+) -> Result<Vec<MeetingAnalyst<'a>>, NoMemory>
+    ensures { IfOk result (λ all. length all.items ≡ many) }
+{
     let maker = MeetingAnalysts {
         inner: FlowAnalysts::new(alloc),
         meeting,
@@ -89,7 +96,7 @@ fn no_deps(alloc: Global) -> Result<Shared<Deps>, NoMemory> {
     Shared::new(alloc, Deps { rows })
 }
 
-fn merge_job(alloc: Global, path: &str, source: &str) -> Result<MergeJob, NoMemory> {
+fn job_of_merge(alloc: Global, path: &str, source: &str) -> Result<MergeJob, NoMemory> {
     let parse = source_front::front(alloc, source.as_bytes())?;
     let mut members = List::new(alloc);
     members.push(MergeMember {
@@ -101,7 +108,7 @@ fn merge_job(alloc: Global, path: &str, source: &str) -> Result<MergeJob, NoMemo
     Ok(MergeJob { members, outside })
 }
 
-fn check_job(alloc: Global, path: &str, source: &str) -> Result<CheckJob, NoMemory> {
+fn job_of_check(alloc: Global, path: &str, source: &str) -> Result<CheckJob, NoMemory> {
     let parse = source_front::front(alloc, source.as_bytes())?;
     Ok(CheckJob {
         path: path_of(alloc, path)?,
@@ -115,7 +122,7 @@ fn check_job(alloc: Global, path: &str, source: &str) -> Result<CheckJob, NoMemo
 fn merge_jobs(alloc: Global) -> Result<List<MergeJob>, NoMemory> {
     let mut all = List::new(alloc);
     for (path, source) in PATHS.iter().zip(&SOURCES) {
-        all.push(merge_job(alloc, path, source)?)?;
+        all.push(job_of_merge(alloc, path, source)?)?;
     }
     Ok(all)
 }
@@ -123,7 +130,7 @@ fn merge_jobs(alloc: Global) -> Result<List<MergeJob>, NoMemory> {
 fn check_jobs(alloc: Global) -> Result<List<CheckJob>, NoMemory> {
     let mut all = List::new(alloc);
     for (path, source) in PATHS.iter().zip(&SOURCES) {
-        all.push(check_job(alloc, path, source)?)?;
+        all.push(job_of_check(alloc, path, source)?)?;
     }
     Ok(all)
 }
@@ -211,8 +218,8 @@ fn results<R: Threads + Wait + Sync>(
     let meeting = Meeting::new(Rule::Open);
     let mut all = analysts(alloc, &meeting, many)?;
     let texts = [Text::from_bytes(alloc, BAD.as_bytes())?];
-    let merges = [merge_job(alloc, "a.js", BAD)?];
-    let checks = [check_job(alloc, "a.js", BAD)?];
+    let merges = [job_of_merge(alloc, "a.js", BAD)?];
+    let checks = [job_of_check(alloc, "a.js", BAD)?];
     Ok(Results {
         parses: run_fronts(rt, alloc, all.as_mut_slice(), &texts)?,
         signatures: run_merges(rt, alloc, all.as_mut_slice(), &merges)?,
@@ -300,7 +307,9 @@ fn write_outcome(out: &mut String, outcome: &Outcome) -> Result<(), NoMemory> {
 }
 
 // A heap for three modules that has none.
-fn empty_heap(alloc: Global) -> Result<PlainHeap<Payload>, NoMemory> {
+fn empty_heap(alloc: Global) -> Result<PlainHeap<Payload>, NoMemory>
+    ensures { IfOk result (λ heap. IsEmpty (⟦<PlainHeap<Payload> as HeapWriter<Payload>>⟧.meaning heap)) }
+{
     let root = Root {
         modules: List::new(alloc),
     };
@@ -309,14 +318,26 @@ fn empty_heap(alloc: Global) -> Result<PlainHeap<Payload>, NoMemory> {
     PlainHeap::open(alloc, 13, root, absent)
 }
 
-fn rechecked<R: Threads + Wait + Sync>(
-    rt: &R,
-    alloc: Global,
-    folder: &mut TestFolder,
-    many: usize,
-    out: &mut String,
-) -> Result<PlainHeap<Payload>, NoMemory> {
-    let mut heap = empty_heap(alloc)?;
+// A module more is to be read.
+fn touch(edits: &mut Edits, root: &Root, path: Path) -> Result<(), NoMemory>
+    requires root { root.now.modules ≡ [] }
+    requires capacity { edits.old.capacity ≡ 3 }
+    requires stands { StandsOn [] edits.old }
+    ensures capacity { edits.new.capacity ≡ 3 }
+    ensures stands { StandsOn [] edits.new }
+    ensures few { IfOk result (λ _. counted [] edits.new.edits ≤ 3) }
+{
+    match edits.touch(root, path) {
+        Ok(()) => Ok(()),
+        Err(EditFault::TooManyModules { .. } | EditFault::NoMemory) => Err(NoMemory),
+    }
+}
+
+// All paths of a folder are to be read.
+fn touched(alloc: Global, folder: &mut TestFolder) -> Result<Edits, NoMemory>
+    ensures capacity { IfOk result (λ edits. edits.capacity ≡ 3) }
+    ensures few { IfOk result (λ edits. counted [] edits.edits ≤ 3) }
+{
     let root = Root {
         modules: List::new(alloc),
     };
@@ -325,9 +346,27 @@ fn rechecked<R: Threads + Wait + Sync>(
         Ok(paths) => paths,
         Err(FolderFault::Failed | FolderFault::NoMemory) => return Err(NoMemory),
     };
-    for path in paths.as_slice() {
-        touch(&mut edits, &root, path.share()?)?;
+    let paths = paths.as_slice();
+    for i in 0..paths.len() {
+        touch(&mut edits, &root, paths[i].share()?)?;
     }
+    Ok(edits)
+}
+
+// So many analysts recheck a program without modules, to which those of a folder come.
+#[tactic(auto, using(crate::proofs::Heaps::few))]
+fn rechecked<R: Threads + Wait + Sync>(
+    rt: &R,
+    alloc: Global,
+    folder: &mut TestFolder,
+    many: usize,
+    out: &mut String,
+) -> Result<PlainHeap<Payload>, NoMemory>
+    requires { 0 < many }
+    ensures { IfOk result (λ heap. length (⟦<PlainHeap<Payload> as HeapWriter<Payload>>⟧.meaning heap).committed ≡ 13) }
+{
+    let mut heap = empty_heap(alloc)?;
+    let mut edits = touched(alloc, folder)?;
     let meeting = Meeting::new(Rule::Open);
     let mut all = analysts(alloc, &meeting, many)?;
     let mut stop = StopAt::new(0);
@@ -344,13 +383,6 @@ fn rechecked<R: Threads + Wait + Sync>(
     write!(out, "{many}: ")?;
     write_outcome(out, &outcome)?;
     Ok(heap)
-}
-
-fn touch(edits: &mut Edits, root: &Root, path: Path) -> Result<(), NoMemory> {
-    match edits.touch(root, path) {
-        Ok(()) => Ok(()),
-        Err(EditFault::TooManyModules { .. } | EditFault::NoMemory) => Err(NoMemory),
-    }
 }
 
 fn rechecks<R: Threads + Wait + Sync>(
@@ -449,7 +481,9 @@ fn lists(
     first: &[u32],
     second: &[u32],
     third: &[u32],
-) -> Result<List<List<u32>>, NoMemory> {
+) -> Result<List<List<u32>>, NoMemory>
+    ensures { IfOk result (λ all. all ≡ first.now ∷ second.now ∷ third.now ∷ []) }
+{
     let mut all = List::new(alloc);
     all.push(List::from_slice(alloc, first)?)?;
     all.push(List::from_slice(alloc, second)?)?;
@@ -490,38 +524,57 @@ fn write_edit(out: &mut String, edit: Result<(), EditFault>) -> Result<(), NoMem
     Ok(())
 }
 
-fn row(alloc: Global, path: &str, row: u32) -> Result<RootRow, NoMemory> {
-    Ok(RootRow {
-        path: path_of(alloc, path)?,
-        row,
+// A program of one module.
+fn one_module(alloc: Global) -> Result<Root, NoMemory>
+    ensures { IfOk result (λ root. length root.modules ≡ 1) }
+{
+    let mut modules = List::new(alloc);
+    modules.push(RootRow {
+        path: path_of(alloc, "a.js")?,
+        row: 0,
         text: Text::from_bytes(alloc, b"")?,
-    })
+    })?;
+    Ok(Root { modules })
 }
 
-// Two modules may be there, and are. One more is refused until one of them is deleted.
+// An edit that makes a path a module, or a touch that does.
+fn put(
+    edits: &mut Edits,
+    alloc: Global,
+    root: &Root,
+    path: &str,
+    out: &mut String,
+) -> Result<(), NoMemory>
+    requires one { length root.now.modules ≡ 1 }
+    requires stands { StandsOn (paths_of root.now) edits.old }
+    ensures stands { StandsOn (paths_of root.now) edits.new }
+{
+    let put = edits.put(root, path_of(alloc, path)?, Text::from_bytes(alloc, b"")?);
+    write_edit(out, put)
+}
+
+fn touch_one(
+    edits: &mut Edits,
+    alloc: Global,
+    root: &Root,
+    path: &str,
+    out: &mut String,
+) -> Result<(), NoMemory>
+    requires one { length root.now.modules ≡ 1 }
+    requires stands { StandsOn (paths_of root.now) edits.old }
+    ensures stands { StandsOn (paths_of root.now) edits.new }
+{
+    let touched = edits.touch(root, path_of(alloc, path)?);
+    write_edit(out, touched)
+}
+
+// Two modules may be there. A third one is refused until another one is deleted.
 fn edits(alloc: Global, out: &mut String) -> Result<(), NoMemory> {
-    let mut modules = List::new(alloc);
-    modules.push(row(alloc, "a.js", 0)?)?;
-    modules.push(row(alloc, "b.js", 1)?)?;
-    let root = Root { modules };
+    let root = one_module(alloc)?;
     let mut edits = Edits::new(alloc, 2);
-    write_edit(
-        out,
-        edits.put(
-            &root,
-            path_of(alloc, "c.js")?,
-            Text::from_bytes(alloc, b"")?,
-        ),
-    )?;
-    write_edit(out, edits.touch(&root, path_of(alloc, "c.js")?))?;
+    put(&mut edits, alloc, &root, "b.js", out)?;
+    put(&mut edits, alloc, &root, "c.js", out)?;
+    touch_one(&mut edits, alloc, &root, "c.js", out)?;
     edits.delete(path_of(alloc, "a.js")?)?;
-    write_edit(
-        out,
-        edits.put(
-            &root,
-            path_of(alloc, "c.js")?,
-            Text::from_bytes(alloc, b"")?,
-        ),
-    )?;
-    Ok(())
+    put(&mut edits, alloc, &root, "c.js", out)
 }

@@ -22,7 +22,7 @@ pub(crate) enum Verdict {
 }
 
 // Right, or what else came.
-fn verdict(alloc: Global, right: bool, came: &str) -> Result<Verdict, NoMemory> {
+fn judged(alloc: Global, right: bool, came: &str) -> Result<Verdict, NoMemory> {
     if right {
         Ok(Verdict::Right)
     } else {
@@ -412,7 +412,7 @@ impl Cases {
     fn run_each<R: Threads + Wait + Sync>(&self, rt: &R, status: u8) -> Result<Verdict, NoMemory> {
         for at in 1..=MOST_CALLS {
             let Some(folder) = self.folder()? else {
-                return verdict(self.alloc, false, "the paths do not rise");
+                return judged(self.alloc, false, "the paths do not rise");
             };
             let left = self.run(rt, folder, at)?;
             if left.calls < at {
@@ -422,13 +422,13 @@ impl Cases {
                 return self.judge(false, &left, at);
             }
         }
-        verdict(self.alloc, false, "there is no end")
+        judged(self.alloc, false, "there is no end")
     }
 
     // Runs the case once.
     fn run_once<R: Threads + Wait + Sync>(&self, rt: &R, status: u8) -> Result<Verdict, NoMemory> {
         let Some(folder) = self.folder()? else {
-            return verdict(self.alloc, false, "the paths do not rise");
+            return judged(self.alloc, false, "the paths do not rise");
         };
         let left = self.run(rt, folder, self.at)?;
         self.judge(self.is_whole(&left, status), &left, self.at)
@@ -455,10 +455,10 @@ impl Cases {
         name: &str,
     ) -> Result<Verdict, NoMemory> {
         let Some(folder) = self.folder()? else {
-            return verdict(self.alloc, false, "the paths do not rise");
+            return judged(self.alloc, false, "the paths do not rise");
         };
         let came = test(rt, self.alloc, name, folder)?;
         let right = came.as_bytes() == self.wanted.as_slice();
-        verdict(self.alloc, right, came.as_str())
+        judged(self.alloc, right, came.as_str())
     }
 }
