@@ -49,7 +49,7 @@ pub(crate) fn test<R: Threads + Wait + Sync>(
         "one job" => one_job(rt, alloc, &mut out)?,
         "rechecks" => rechecks(rt, alloc, folder, &mut out)?,
         "plans" => plans(alloc, &mut out)?,
-        "edits" => edits(alloc, &mut out)?,
+        "edits" => limited_edits(alloc, &mut out)?,
         _ => {}
     }
     Ok(out)
@@ -208,7 +208,7 @@ struct Results {
 }
 
 // So many analysts read, merge and check a module by itself.
-fn results<R: Threads + Wait + Sync>(
+fn results_by<R: Threads + Wait + Sync>(
     rt: &R,
     alloc: Global,
     many: usize,
@@ -264,7 +264,7 @@ fn write_same<R: Threads + Wait + Sync>(
 ) -> Result<(), NoMemory>
     requires { 0 < many }
 {
-    let other = results(rt, alloc, many)?;
+    let other = results_by(rt, alloc, many)?;
     let parses = same_parses(alloc, first, &other)?;
     let signatures = same_signatures(first, &other);
     let checks = same_checks(first, &other);
@@ -277,7 +277,7 @@ fn one_job<R: Threads + Wait + Sync>(
     alloc: Global,
     out: &mut String,
 ) -> Result<(), NoMemory> {
-    let first = results(rt, alloc, 1)?;
+    let first = results_by(rt, alloc, 1)?;
     for errs in first.errs.as_slice() {
         writeln!(out, "1: {} errors", errs.faults.len())?;
     }
@@ -569,7 +569,7 @@ fn touch_one(
 }
 
 // Two modules may be there. A third one is refused until another one is deleted.
-fn edits(alloc: Global, out: &mut String) -> Result<(), NoMemory> {
+fn limited_edits(alloc: Global, out: &mut String) -> Result<(), NoMemory> {
     let root = one_module(alloc)?;
     let mut edits = Edits::new(alloc, 2);
     put(&mut edits, alloc, &root, "b.js", out)?;

@@ -89,7 +89,7 @@ struct Left {
 
 /// The folder, which stays from case to case, and the case that is being read.
 #[derive(Drop)]
-pub(crate) struct Cases {
+pub(crate) struct CaseReader {
     alloc: Global,
     files: Vec<File>,
     name: String,
@@ -167,9 +167,9 @@ fn kept_text(alloc: Global, kept: &Option<Server>) -> Result<String, NoMemory> {
     Ok(out)
 }
 
-impl Cases {
-    pub(crate) fn new(alloc: Global) -> Cases {
-        Cases {
+impl CaseReader {
+    pub(crate) fn new(alloc: Global) -> CaseReader {
+        CaseReader {
             alloc,
             files: Vec::new(alloc),
             name: String::new(alloc),

@@ -20,12 +20,12 @@ mod cases;
 mod meeting;
 mod outside;
 
-use cases::{Cases, Verdict};
+use cases::{CaseReader, Verdict};
 use flow_base::NoMemory;
 use std::io;
 
 fn main(rt: HostRuntime) -> io::Result<()> {
-    let mut cases = Cases::new(rt.alloc());
+    let mut cases = CaseReader::new(rt.alloc());
     for line in rt.lines(rt.alloc()) {
         let line = line?;
         let line = line.as_str();
