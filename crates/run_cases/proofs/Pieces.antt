@@ -1,5 +1,5 @@
 -- A front of a buffer, or of a piece, in its place.
-use Rattle.std.proofs.Common.{◌≡◌, ℕ, zero, suc, ◌+◌, ◌-◌, ◌<◌, ◌≤◌, List, [], ◌∷◌, ◌++◌, length, take, drop, Some, None, Result, Ok, Err, refl, sym, ap, ◌∙◌, subst, arith, append_assoc}
+use Rattle.std.proofs.Common.{◌≡◌, ℕ, zero, suc, ◌<◌, ◌≤◌, List, [], ◌∷◌, ◌++◌, length, take, drop, Some, Result, Ok, Err, refl, sym, ap, ◌∙◌, subst, arith, append_assoc, inl, inr}
 use Rattle.std.proofs.lemmas.List.{take-append-drop, length-take-le}
 use Rattle.flow_base.specs.Outside.{Takes, IsStuck}
 use Rattle.flow_base.specs.Causes.{Counts}
@@ -15,10 +15,10 @@ pub takes_more : {E : Type 0} (left now given part old : List ℕ) (m : ℕ) (r 
 takes_more left now given part old m (Err e) same within takes = takes
 takes_more left now given part old m (Ok n) same within takes =
     let few : n ≤ m = subst (λ (k : ℕ). n ≤ k) (ap length same ∙ length-take-le m old within) takes.0 in
-    let here : part ≡ take n left ++ drop n (take m old) = takes.1.1.1 ∙ ap (λ (g : List ℕ). take n left ++ drop n g) same in
-    (omega (arith, few, within), (takes.1.0, (takes.1.1.0, ap (λ (p : List ℕ). p ++ drop m old) here ∙ append_assoc (take n left) (drop n (take m old)) (drop m old) ∙ ap (λ (p : List ℕ). take n left ++ p) (drop_joined n m old few))))
+    let here : part ≡ take n left ++ drop n (take m old) = takes.2.1 ∙ ap (λ (g : List ℕ). take n left ++ drop n g) same in
+    (omega (arith, few, within), takes.1, (takes.2.0, ap (λ (p : List ℕ). p ++ drop m old) here ∙ append_assoc (take n left) (drop n (take m old)) (drop m old) ∙ ap (λ (p : List ℕ). take n left ++ p) (drop_joined n m old few)))
 
-take_none : (m : ℕ) → take m [] ≡ []
+take_none : (m : ℕ) → take {A = ℕ} m [] ≡ []
 take_none zero = refl
 take_none (suc m) = refl
 

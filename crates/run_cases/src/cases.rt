@@ -74,6 +74,28 @@ struct File {
     begun: bool,
 }
 
+/// What the program runs over.
+#[derive(Drop)]
+struct Ends {
+    folder: TestFolder,
+    script: SlowSource,
+    out: SlowSink,
+}
+
+impl Ends {
+    // How often the object that goes wrong was called.
+    fn calls(&self, fault: Fault) -> u64 {
+        match fault {
+            Fault::Nothing => 0,
+            Fault::FolderFails => self.folder.inner.calls.made,
+            Fault::FolderRefuses => self.folder.refused.made,
+            Fault::SourceFails => self.script.inner.calls.made,
+            Fault::SinkFails => self.out.inner.calls.made,
+            Fault::SinkRefuses => self.out.refused.made,
+        }
+    }
+}
+
 /// What one run of the program left.
 #[derive(Drop)]
 struct Left {
@@ -312,6 +334,24 @@ impl CaseReader {
         numbers(self.alloc, self.fault == fault, at)
     }
 
+    // What the program runs over, where the call of this number goes wrong.
+    fn ends(&self, folder: MemFolder, at: u64) -> Result<Ends, NoMemory> {
+        let fails = self.numbers(Fault::FolderFails, at)?;
+        let refuses = self.numbers(Fault::FolderRefuses, at)?;
+        let folder = TestFolder::new(folder, fails, refuses);
+        let script = MemSource::new(List::from_slice(self.alloc, self.script.as_slice())?);
+        let fails = self.numbers(Fault::SourceFails, at)?;
+        let script = SlowSource::new(script, fails, self.step);
+        let fails = self.numbers(Fault::SinkFails, at)?;
+        let refuses = self.numbers(Fault::SinkRefuses, at)?;
+        let out = SlowSink::new(MemSink::new(self.alloc), fails, refuses, self.step);
+        Ok(Ends {
+            folder,
+            script,
+            out,
+        })
+    }
+
     // Runs the program, where the call of this number goes wrong.
     fn run<R: Threads + Wait + Sync>(
         &self,
@@ -319,20 +359,13 @@ impl CaseReader {
         folder: MemFolder,
         at: u64,
     ) -> Result<Left, NoMemory> {
-        let fails = self.numbers(Fault::FolderFails, at)?;
-        let refuses = self.numbers(Fault::FolderRefuses, at)?;
-        let mut folder = TestFolder::new(folder, fails, refuses);
-        let script = MemSource::new(List::from_slice(self.alloc, self.script.as_slice())?);
-        let mut script = SlowSource::new(script, self.numbers(Fault::SourceFails, at)?, self.step);
-        let fails = self.numbers(Fault::SinkFails, at)?;
-        let refuses = self.numbers(Fault::SinkRefuses, at)?;
-        let mut out = SlowSink::new(MemSink::new(self.alloc), fails, refuses, self.step);
+        let mut ends = self.ends(folder, at)?;
         let meeting = Meeting::new(self.rule);
-        let mut kept = None;
         let maker = MeetingAnalysts {
             inner: FlowAnalysts::new(self.alloc),
             meeting: &meeting,
         };
+        let mut kept = None;
         let status = flowd::<
             R,
             TestFolder,
@@ -346,23 +379,16 @@ impl CaseReader {
             self.alloc,
             self.words.as_slice(),
             &maker,
-            &mut folder,
-            &mut script,
-            &mut out,
+            &mut ends.folder,
+            &mut ends.script,
+            &mut ends.out,
             &meeting,
             &mut kept,
         );
-        let calls = match self.fault {
-            Fault::Nothing => 0,
-            Fault::FolderFails => folder.inner.calls.made,
-            Fault::FolderRefuses => folder.refused.made,
-            Fault::SourceFails => script.inner.calls.made,
-            Fault::SinkFails => out.inner.calls.made,
-            Fault::SinkRefuses => out.refused.made,
-        };
+        let calls = ends.calls(self.fault);
         Ok(Left {
             status,
-            written: out.inner.inner.bytes,
+            written: ends.out.inner.inner.bytes,
             calls,
             met: meeting.has_met(),
             kept: kept_text(self.alloc, &kept)?,
