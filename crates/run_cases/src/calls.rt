@@ -5,7 +5,7 @@ ghost use Rattle.check_values.specs.Roots.{paths_of};
 ghost use Rattle.run_cases.specs.Heaps.{IsEmpty};
 
 use crate::cases::path_of;
-use crate::meeting::{Meeting, MeetingAnalyst, MeetingAnalysts, PATHS, Rule, SOURCES};
+use crate::meeting::{Known, Meeting, MeetingAnalyst, MeetingAnalysts, PATHS, Rule, SOURCES};
 use crate::outside::TestFolder;
 use check_job::CheckJob;
 use check_values::{Deps, Errs, Root, RootRow, Sig};
@@ -151,10 +151,10 @@ fn do_four<R: Threads + Wait + Sync>(
     }
 }
 
-fn known_by(jobs: Jobs) -> [&'static str; 4] {
+fn known_by(jobs: Jobs) -> Known {
     match jobs {
-        Jobs::Fronts => SOURCES,
-        Jobs::Merges | Jobs::Checks => PATHS,
+        Jobs::Fronts => Known::BySource,
+        Jobs::Merges | Jobs::Checks => Known::ByPath,
     }
 }
 
@@ -359,6 +359,7 @@ fn rechecked<R: Threads + Wait + Sync>(
     rt: &R,
     alloc: Global,
     folder: &mut TestFolder,
+    meeting: &Meeting,
     many: usize,
     out: &mut String,
 ) -> Result<PlainHeap<Payload>, NoMemory>
@@ -367,8 +368,7 @@ fn rechecked<R: Threads + Wait + Sync>(
 {
     let mut heap = empty_heap(alloc)?;
     let mut edits = touched(alloc, folder)?;
-    let meeting = Meeting::new(Rule::Open);
-    let mut all = analysts(alloc, &meeting, many)?;
+    let mut all = analysts(alloc, meeting, many)?;
     let mut stop = StopAt::new(0);
     let outcome = recheck(
         rt,
@@ -377,7 +377,7 @@ fn rechecked<R: Threads + Wait + Sync>(
         &mut edits,
         folder,
         &mut stop,
-        &meeting,
+        meeting,
         all.as_mut_slice(),
     );
     write!(out, "{many}: ")?;
@@ -392,9 +392,10 @@ fn rechecks<R: Threads + Wait + Sync>(
     out: &mut String,
 ) -> Result<(), NoMemory> {
     let mut folder = TestFolder::new(folder, List::new(alloc), List::new(alloc));
-    let one = rechecked(rt, alloc, &mut folder, 1, out)?;
-    let three = rechecked(rt, alloc, &mut folder, 3, out)?;
-    let most = rechecked(rt, alloc, &mut folder, 64, out)?;
+    let open = Meeting::new(Rule::Open);
+    let one = rechecked(rt, alloc, &mut folder, &open, 1, out)?;
+    let three = rechecked(rt, alloc, &mut folder, &open, 3, out)?;
+    let most = rechecked(rt, alloc, &mut folder, &open, 64, out)?;
     for e in 0..13 {
         let payload = one.latest(e)?;
         let same = same_payload(alloc, &payload, &*three.latest(e)?)?

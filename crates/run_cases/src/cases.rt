@@ -1,6 +1,8 @@
 //! Cases of the whole program: over which folder, which words, which script, and what it must write.
+ghost use Rattle.std.specs.Prelude.{◌≡◌, None};
+
 use crate::calls::test;
-use crate::meeting::{Meeting, MeetingAnalyst, MeetingAnalysts, Rule, SOURCES};
+use crate::meeting::{Known, Meeting, MeetingAnalyst, MeetingAnalysts, Rule};
 use crate::outside::{SlowSink, SlowSource, TestFolder};
 use beside::Server;
 use flow_analyst::FlowAnalysts;
@@ -16,7 +18,7 @@ const MOST_CALLS: u64 = 1_000;
 
 /// What came of a case.
 #[derive(Debug, Drop)]
-pub(crate) enum Verdict {
+enum Verdict {
     Right,
     Wrong(String),
 }
@@ -137,7 +139,7 @@ fn rule_of(words: &str) -> Rule {
     let at = at.parse::<u32>().unwrap_or(0);
     match word {
         "sources" => Rule::Jobs {
-            known: SOURCES,
+            known: Known::BySource,
             one: at as usize,
         },
         "poll" => Rule::Poll { poll: at },
@@ -206,13 +208,8 @@ impl CaseReader {
         }
     }
 
-    /// The name of the case.
-    pub(crate) fn name(&self) -> &str {
-        self.name.as_str()
-    }
-
-    /// Takes a line that belongs to a case.
-    pub(crate) fn take(&mut self, line: &str) -> Result<(), NoMemory> {
+    // Takes a line that belongs to a case.
+    fn take(&mut self, line: &str) -> Result<(), NoMemory> {
         if let Some(text) = line.strip_prefix("|") {
             self.add_line(text)
         } else if let Some(text) = line.strip_prefix("+") {
@@ -352,6 +349,41 @@ impl CaseReader {
         })
     }
 
+    // Runs the program over these ends, with analysts who wait at this meeting.
+    fn run_over<'a, R: Threads + Wait + Sync>(
+        &self,
+        rt: &R,
+        ends: &mut Ends,
+        meeting: &'a Meeting,
+        kept: &mut Option<Server>,
+    ) -> Status
+        requires { kept.old ≡ None }
+    {
+        let maker = MeetingAnalysts {
+            inner: FlowAnalysts::new(self.alloc),
+            meeting,
+        };
+        flowd::<
+            R,
+            TestFolder,
+            SlowSource,
+            SlowSink,
+            Meeting,
+            MeetingAnalyst<'a>,
+            MeetingAnalysts<'a>,
+        >(
+            rt,
+            self.alloc,
+            self.words.as_slice(),
+            &maker,
+            &mut ends.folder,
+            &mut ends.script,
+            &mut ends.out,
+            meeting,
+            kept,
+        )
+    }
+
     // Runs the program, where the call of this number goes wrong.
     fn run<R: Threads + Wait + Sync>(
         &self,
@@ -361,30 +393,8 @@ impl CaseReader {
     ) -> Result<Left, NoMemory> {
         let mut ends = self.ends(folder, at)?;
         let meeting = Meeting::new(self.rule);
-        let maker = MeetingAnalysts {
-            inner: FlowAnalysts::new(self.alloc),
-            meeting: &meeting,
-        };
         let mut kept = None;
-        let status = flowd::<
-            R,
-            TestFolder,
-            SlowSource,
-            SlowSink,
-            Meeting,
-            MeetingAnalyst<'_>,
-            MeetingAnalysts<'_>,
-        >(
-            rt,
-            self.alloc,
-            self.words.as_slice(),
-            &maker,
-            &mut ends.folder,
-            &mut ends.script,
-            &mut ends.out,
-            &meeting,
-            &mut kept,
-        );
+        let status = self.run_over(rt, &mut ends, &meeting, &mut kept);
         let calls = ends.calls(self.fault);
         Ok(Left {
             status,
@@ -460,12 +470,8 @@ impl CaseReader {
         self.judge(self.is_whole(&left, status), &left, self.at)
     }
 
-    /// What came of the case, whose run must end with this status.
-    pub(crate) fn end<R: Threads + Wait + Sync>(
-        &self,
-        rt: &R,
-        status: &str,
-    ) -> Result<Verdict, NoMemory> {
+    // What came of the case, whose run must end with this status.
+    fn end<R: Threads + Wait + Sync>(&self, rt: &R, status: &str) -> Result<Verdict, NoMemory> {
         let status = status.parse::<u8>().unwrap_or(255);
         if self.fault != Fault::Nothing && self.at == 0 {
             self.run_each(rt, status)
@@ -474,17 +480,34 @@ impl CaseReader {
         }
     }
 
-    /// What came of a test of calls below the program.
-    pub(crate) fn test<R: Threads + Wait + Sync>(
-        &self,
-        rt: &R,
-        name: &str,
-    ) -> Result<Verdict, NoMemory> {
+    // What came of a test of calls below the program.
+    fn test<R: Threads + Wait + Sync>(&self, rt: &R, name: &str) -> Result<Verdict, NoMemory> {
         let Some(folder) = self.folder()? else {
             return judged(self.alloc, false, "the paths do not rise");
         };
         let came = test(rt, self.alloc, name, folder)?;
         let right = came.as_bytes() == self.wanted.as_slice();
         judged(self.alloc, right, came.as_str())
+    }
+
+    /// Takes a line, and gives what is told of the case that it ends.
+    pub(crate) fn answer<R: Threads + Wait + Sync>(
+        &mut self,
+        rt: &R,
+        line: &str,
+    ) -> Result<Option<String>, NoMemory> {
+        let verdict = if let Some(status) = line.strip_prefix("status ") {
+            self.end(rt, status)?
+        } else if let Some(name) = line.strip_prefix("test ") {
+            self.test(rt, name)?
+        } else {
+            self.take(line)?;
+            return Ok(None);
+        };
+        let name = self.name.as_str();
+        match verdict {
+            Verdict::Right => Ok(Some(format!(in self.alloc; "ok: {name}")?)),
+            Verdict::Wrong(came) => Ok(Some(format!(in self.alloc; "wrong: {name}: {came}")?)),
+        }
     }
 }

@@ -20,29 +20,18 @@ mod cases;
 mod meeting;
 mod outside;
 
-use cases::{CaseReader, Verdict};
+use cases::CaseReader;
 use flow_base::NoMemory;
 use std::io;
 
 fn main(rt: HostRuntime) -> io::Result<()> {
-    let mut cases = CaseReader::new(rt.alloc());
+    let mut reader = CaseReader::new(rt.alloc());
     for line in rt.lines(rt.alloc()) {
         let line = line?;
-        let line = line.as_str();
-        let came = if let Some(status) = line.strip_prefix("status ") {
-            (cases.name(), cases.end(&rt, status))
-        } else if let Some(name) = line.strip_prefix("test ") {
-            (cases.name(), cases.test(&rt, name))
-        } else {
-            match cases.take(line) {
-                Ok(()) => continue,
-                Err(NoMemory) => (line, Err(NoMemory)),
-            }
-        };
-        match came {
-            (name, Ok(Verdict::Right)) => println!(rt; "ok: {name}")?,
-            (name, Ok(Verdict::Wrong(what))) => println!(rt; "wrong: {name}: {what}")?,
-            (name, Err(NoMemory)) => println!(rt; "wrong: {name}: no memory")?,
+        match reader.answer(&rt, line.as_str()) {
+            Ok(Some(told)) => println!(rt; "{told}")?,
+            Ok(None) => {}
+            Err(NoMemory) => println!(rt; "wrong: {line}: no memory")?,
         }
     }
     Ok(())

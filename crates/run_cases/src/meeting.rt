@@ -16,7 +16,7 @@ use type_values::FlowType;
 /// No thread waits for more loads.
 const MOST_LOADS: u64 = 1_000_000_000;
 
-/// The sources of four modules, and their paths. A job is known by one of them.
+/// The sources of four modules, and their paths.
 pub(crate) const SOURCES: [&str; 4] = [
     "export const n: number = 0;",
     "export const n: number = 1;",
@@ -26,24 +26,33 @@ pub(crate) const SOURCES: [&str; 4] = [
 
 pub(crate) const PATHS: [&str; 4] = ["0.js", "1.js", "2.js", "3.js"];
 
+/// What a job is known by.
+#[derive(Debug, Clone, Copy, PartialEq, Eq)]
+pub(crate) enum Known {
+    BySource,
+    ByPath,
+}
+
 /// Who waits for whom.
 #[derive(Debug, Clone, Copy, PartialEq, Eq)]
 pub(crate) enum Rule {
     /// Nobody waits.
     Open,
-    /// The jobs that are known by these sources or paths: one waits until the three others are done, and these wait until it has begun.
-    Jobs {
-        known: [&'static str; 4],
-        one: usize,
-    },
-    /// The poll of this number waits until two asks have come to their point.
-    Poll {
-        poll: u32,
-    },
-    /// The poll of this number and the first ask each wait for the other.
-    PollAndAsk {
-        poll: u32,
-    },
+    /// Of four jobs one waits until the three others are done, and these wait until it has begun.
+    Jobs { known: Known, one: usize },
+    /// The poll of this number of the second recheck waits until two asks have come to their point.
+    Poll { poll: u32 },
+    /// The poll of this number of the second recheck and the first ask each wait for the other.
+    PollAndAsk { poll: u32 },
+}
+
+// The place of a job among the four.
+fn place_of(known: Known, bytes: &[u8]) -> Option<usize> {
+    let all = match known {
+        Known::BySource => &SOURCES,
+        Known::ByPath => &PATHS,
+    };
+    all.iter().position(|it| it.as_bytes() == bytes)
 }
 
 /// Where threads wait for one another. Each counts that it came, and waits for the others, up to a number of loads.
@@ -108,8 +117,8 @@ impl Meeting {
         let Rule::Jobs { known, one } = self.rule else {
             return None;
         };
-        let at = known.iter().position(|it| it.as_bytes() == bytes)?;
-        Some(at == one)
+        let place = place_of(known, bytes)?;
+        Some(place == one)
     }
 
     fn begin(&self, is_the_one: Option<bool>) {
