@@ -1,10 +1,7 @@
 //! Cases of the whole program: over which folder, which words, which script, and what it must write.
-ghost use Rattle.std.specs.Prelude.{◌≡◌, None};
-
 use crate::calls::test;
 use crate::meeting::{Known, Meeting, MeetingAnalyst, MeetingAnalysts, Rule};
 use crate::outside::{SlowSink, SlowSource, TestFolder};
-use beside::Server;
 use flow_analyst::FlowAnalysts;
 use flow_base::{List, MemFolder, MemSink, MemSource, NoMemory, Path, PathFault, Text};
 use flowd_top::{Status, flowd};
@@ -179,18 +176,6 @@ pub(crate) fn path_of(alloc: Global, path: &str) -> Result<Path, NoMemory> {
     }
 }
 
-// The version of a server, and of each lane how often it has pinned and which version it has seen last.
-fn kept_text(alloc: Global, kept: &Option<Server>) -> Result<String, NoMemory> {
-    let mut out = String::new(alloc);
-    if let Some(server) = kept {
-        write!(out, "{}", server.version())?;
-        for lane in server.lanes.as_slice() {
-            write!(out, " {}/{}", lane.pins(), lane.seen())?;
-        }
-    }
-    Ok(out)
-}
-
 impl CaseReader {
     pub(crate) fn new(alloc: Global) -> CaseReader {
         CaseReader {
@@ -349,21 +334,20 @@ impl CaseReader {
         })
     }
 
-    // Runs the program over these ends, with analysts who wait at this meeting.
+    // Runs the program over these ends, with analysts who wait at this meeting. Of the server that is kept it tells the version, and of
+    // each lane how often it has pinned and which version it has seen last.
     fn run_over<'a, R: Threads + Wait + Sync>(
         &self,
         rt: &R,
         ends: &mut Ends,
         meeting: &'a Meeting,
-        kept: &mut Option<Server>,
-    ) -> Status
-        requires { kept.old ≡ None }
-    {
+    ) -> Result<(Status, String), NoMemory> {
         let maker = MeetingAnalysts {
             inner: FlowAnalysts::new(self.alloc),
             meeting,
         };
-        flowd::<
+        let mut kept = None;
+        let status = flowd::<
             R,
             TestFolder,
             SlowSource,
@@ -380,8 +364,16 @@ impl CaseReader {
             &mut ends.script,
             &mut ends.out,
             meeting,
-            kept,
-        )
+            &mut kept,
+        );
+        let mut told = String::new(self.alloc);
+        if let Some(server) = &kept {
+            write!(told, "{}", server.version())?;
+            for lane in server.lanes.as_slice() {
+                write!(told, " {}/{}", lane.pins(), lane.seen())?;
+            }
+        }
+        Ok((status, told))
     }
 
     // Runs the program, where the call of this number goes wrong.
@@ -393,15 +385,14 @@ impl CaseReader {
     ) -> Result<Left, NoMemory> {
         let mut ends = self.ends(folder, at)?;
         let meeting = Meeting::new(self.rule);
-        let mut kept = None;
-        let status = self.run_over(rt, &mut ends, &meeting, &mut kept);
+        let (status, kept) = self.run_over(rt, &mut ends, &meeting)?;
         let calls = ends.calls(self.fault);
         Ok(Left {
             status,
             written: ends.out.inner.inner.bytes,
             calls,
             met: meeting.has_met(),
-            kept: kept_text(self.alloc, &kept)?,
+            kept,
         })
     }
 
