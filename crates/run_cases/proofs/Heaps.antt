@@ -3,7 +3,9 @@ use Rattle.std.proofs.Common.{◌≡◌, ℕ, zero, suc, ◌+◌, ◌*◌, ◌-�
 use Rattle.std.proofs.lemmas.List.{length-replicate}
 use Rattle.std.proofs.lemmas.Option.{same_Some}
 use Rattle.heap_core.specs.Meaning.{Meaning, AllFit, opening}
-use Rattle.check_values.specs.Roots.{paths_of}
+use Rattle.flow_values.specs.Path.{IsRising}
+use Rattle.check_values.specs.Roots.{paths_of, paths_of_rows}
+use Rattle.check_values.specs.declared.root.RootRow.{RootRow}
 use Rattle.check_values.specs.declared.root.Root.{Root}
 use Rattle.payloads.specs.State.{fits, payload_at}
 use Rattle.payloads.specs.declared.payload.Payload.{Payload}
@@ -55,3 +57,12 @@ pub few : (m : Meaning Payload) (e : Pending) → IsEmpty m → counted [] e.edi
 few m e empty small is old at =
     let same = same_root no_modules old (same_Some _ _ (sym empty.commits ∙ at)) in
     subst (λ (r : Root). counted (paths_of r) e.edits ≤ e.capacity) same (subst (λ (k : ℕ). counted [] e.edits ≤ k) (sym is) small)
+
+rising_rows : (rows : List RootRow) → length rows ≡ 1 → IsRising (paths_of_rows rows)
+rising_rows [] one = absurd (omega (arith, one))
+rising_rows (row ∷ []) one = tt
+rising_rows (row ∷ next ∷ more) one = absurd (omega (arith, one))
+
+-- the path of one module rises
+pub rising_one : (root : Root) → length root.modules ≡ 1 → IsRising (paths_of root)
+rising_one root one = rising_rows root.modules one

@@ -1,5 +1,6 @@
 //! Tests of calls below the program. Each tells by lines what came.
-ghost use Rattle.std.specs.Prelude.{◌≡◌, ◌∷◌, [], ◌<◌, ◌≤◌, IfOk, length};
+ghost use Rattle.std.specs.Prelude.{◌≡◌, [], ◌<◌, ◌≤◌, ◌^◌, IfOk, length};
+ghost use Rattle.flow_values.specs.Path.{IsRising};
 ghost use Rattle.pending_edits.specs.Counting.{counted, StandsOn};
 ghost use Rattle.check_values.specs.Roots.{paths_of};
 ghost use Rattle.run_cases.specs.Heaps.{IsEmpty};
@@ -48,7 +49,10 @@ pub(crate) fn test<R: Threads + Wait + Sync>(
         }
         "one job" => one_job(rt, alloc, &mut out)?,
         "rechecks" => rechecks(rt, alloc, folder, &mut out)?,
-        "plans" => plans(alloc, &mut out)?,
+        "plans" => {
+            changes(alloc, &mut out)?;
+            plans(alloc, &mut out)?;
+        }
         "edits" => limited_edits(alloc, &mut out)?,
         _ => {}
     }
@@ -320,12 +324,12 @@ fn empty_heap(alloc: Global) -> Result<PlainHeap<Payload>, NoMemory>
 
 // A module more is to be read.
 fn touch(edits: &mut Edits, root: &Root, path: Path) -> Result<(), NoMemory>
-    requires root { root.now.modules ≡ [] }
-    requires capacity { edits.old.capacity ≡ 3 }
-    requires stands { StandsOn [] edits.old }
-    ensures capacity { edits.new.capacity ≡ 3 }
-    ensures stands { StandsOn [] edits.new }
-    ensures few { IfOk result (λ _. counted [] edits.new.edits ≤ 3) }
+    requires rising { IsRising (paths_of root.now) }
+    requires numbered { length root.now.modules < 2 ^ 32 }
+    requires stands { StandsOn (paths_of root.now) edits.old }
+    ensures few { IfOk result (λ _. counted (paths_of root.now) edits.new.edits ≤ edits.old.capacity) }
+    ensures stands { StandsOn (paths_of root.now) edits.new }
+    ensures capacity { edits.new.capacity ≡ edits.old.capacity }
 {
     match edits.touch(root, path) {
         Ok(()) => Ok(()),
@@ -333,22 +337,25 @@ fn touch(edits: &mut Edits, root: &Root, path: Path) -> Result<(), NoMemory>
     }
 }
 
-// All paths of a folder are to be read.
-fn touched(alloc: Global, folder: &mut TestFolder) -> Result<Edits, NoMemory>
+fn listed(folder: &mut TestFolder) -> Result<List<Path>, NoMemory> {
+    match folder.list() {
+        Ok(paths) => Ok(paths),
+        Err(FolderFault::Failed | FolderFault::NoMemory) => Err(NoMemory),
+    }
+}
+
+// These paths are to be read.
+fn touched(alloc: Global, paths: &[Path]) -> Result<Edits, NoMemory>
     ensures capacity { IfOk result (λ edits. edits.capacity ≡ 3) }
     ensures few { IfOk result (λ edits. counted [] edits.edits ≤ 3) }
 {
-    let root = Root {
+    let none = Root {
         modules: List::new(alloc),
     };
     let mut edits = Edits::new(alloc, 3);
-    let paths = match folder.list() {
-        Ok(paths) => paths,
-        Err(FolderFault::Failed | FolderFault::NoMemory) => return Err(NoMemory),
-    };
-    let paths = paths.as_slice();
     for i in 0..paths.len() {
-        touch(&mut edits, &root, paths[i].share()?)?;
+        let path = &paths[i];
+        touch(&mut edits, &none, path.share()?)?;
     }
     Ok(edits)
 }
@@ -367,7 +374,8 @@ fn rechecked<R: Threads + Wait + Sync>(
     ensures { IfOk result (λ heap. length (⟦<PlainHeap<Payload> as HeapWriter<Payload>>⟧.meaning heap).committed ≡ 13) }
 {
     let mut heap = empty_heap(alloc)?;
-    let mut edits = touched(alloc, folder)?;
+    let paths = listed(folder)?;
+    let mut edits = touched(alloc, paths.as_slice())?;
     let mut all = analysts(alloc, meeting, many)?;
     let mut stop = StopAt::new(0);
     let outcome = recheck(
@@ -477,42 +485,32 @@ fn write_paths(out: &mut String, name: &str, paths: &[Path]) -> Result<(), NoMem
     Ok(())
 }
 
-fn lists(
-    alloc: Global,
-    first: &[u32],
-    second: &[u32],
-    third: &[u32],
-) -> Result<List<List<u32>>, NoMemory>
-    ensures { IfOk result (λ all. all ≡ first.now ∷ second.now ∷ third.now ∷ []) }
-{
-    let mut all = List::new(alloc);
-    all.push(List::from_slice(alloc, first)?)?;
-    all.push(List::from_slice(alloc, second)?)?;
-    all.push(List::from_slice(alloc, third)?)?;
-    Ok(all)
-}
-
-fn plans(alloc: Global, out: &mut String) -> Result<(), NoMemory> {
+fn changes(alloc: Global, out: &mut String) -> Result<(), NoMemory> {
     let root = Root {
         modules: List::new(alloc),
     };
     let texts = [(path_of(alloc, "a.js")?, Some(Text::from_bytes(alloc, b"")?))];
-    let changes = changed(alloc, &root, &texts)?;
+    let changes = changed(alloc, &root, texts.as_slice())?;
     write_paths(out, "added", changes.added.as_slice())?;
     write_paths(out, "differing", changes.differing.as_slice())?;
-    write_paths(out, "removed", changes.removed.as_slice())?;
-    let edges = lists(alloc, &[1], &[], &[0])?;
-    writeln!(
-        out,
-        "merged: {:?}",
-        merge_set(alloc, edges.as_slice(), &[1])?.as_slice()
-    )?;
-    let reach = lists(alloc, &[1], &[], &[])?;
-    writeln!(
-        out,
-        "checked: {:?}",
-        check_set(alloc, reach.as_slice(), &[2], &[1])?.as_slice()
-    )?;
+    write_paths(out, "removed", changes.removed.as_slice())
+}
+
+fn plans(alloc: Global, out: &mut String) -> Result<(), NoMemory> {
+    let edges = [
+        List::from_slice(alloc, &[1u32])?,
+        List::new(alloc),
+        List::from_slice(alloc, &[0u32])?,
+    ];
+    let merged = merge_set(alloc, edges.as_slice(), &[1])?;
+    writeln!(out, "merged: {:?}", merged.as_slice())?;
+    let reach = [
+        List::from_slice(alloc, &[1u32])?,
+        List::new(alloc),
+        List::new(alloc),
+    ];
+    let checked = check_set(alloc, reach.as_slice(), &[2], &[1])?;
+    writeln!(out, "checked: {:?}", checked.as_slice())?;
     Ok(())
 }
 
@@ -538,7 +536,8 @@ fn one_module(alloc: Global) -> Result<Root, NoMemory>
     Ok(Root { modules })
 }
 
-// An edit that makes a path a module, or a touch that does.
+// A path gets an empty text.
+#[tactic(auto, using(crate::proofs::Heaps::rising_one))]
 fn put(
     edits: &mut Edits,
     alloc: Global,
@@ -554,6 +553,8 @@ fn put(
     write_edit(out, put)
 }
 
+// A path is to be read.
+#[tactic(auto, using(crate::proofs::Heaps::rising_one))]
 fn touch_one(
     edits: &mut Edits,
     alloc: Global,
