@@ -319,7 +319,8 @@ fn empty_heap(alloc: Global) -> Result<PlainHeap<Payload>, NoMemory>
     };
     let root = Arc::new(alloc, Payload::Root(Shared::new(alloc, root)?))?;
     let absent = Arc::new(alloc, Payload::Absent)?;
-    PlainHeap::open(alloc, 13, root, absent)
+    let heap = PlainHeap::open(alloc, 13, root, absent)?;
+    Ok(heap)
 }
 
 // A module more is to be read.

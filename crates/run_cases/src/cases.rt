@@ -386,11 +386,11 @@ impl CaseReader {
         let mut ends = self.ends(folder, at)?;
         let meeting = Meeting::new(self.rule);
         let (status, kept) = self.run_over(rt, &mut ends, &meeting)?;
-        let calls = ends.calls(self.fault);
+        let written = ends.out.inner.inner.bytes.as_slice();
         Ok(Left {
             status,
-            written: ends.out.inner.inner.bytes,
-            calls,
+            written: List::from_slice(self.alloc, written)?,
+            calls: ends.calls(self.fault),
             met: meeting.has_met(),
             kept,
         })
