@@ -1,5 +1,5 @@
 //! The questions beside a recheck.
-ghost use Rattle.std.specs.Prelude.{◌≡◌, List, map, IfOk, IfSome, IfNone};
+ghost use Rattle.std.specs.Prelude.{List, map, IfOk, IfSome, IfNone};
 ghost use Rattle.std.specs.List.{AllZip};
 ghost use Rattle.serde_json.specs.View.{view};
 ghost use Rattle.asks.specs.declared.ask.Ask as the_ask;

@@ -1,10 +1,9 @@
 ghost use Rattle.std.specs.Prelude.{◌≡◌, ◌↔◌, ◌<◌, ◌≤◌, ℕ, List, length, Some, None, IfOk, IfErr, IfSome, IfNone, IsTrue, IsErrOf, IsSome, All, codes, option_and_then};
 ghost use Rattle.std.specs.Option.{option_map};
-ghost use Rattle.serde_json.specs.Data.{Data};
 ghost use Rattle.serde_json.specs.Find.{get, as_number, as_u64};
 ghost use Rattle.serde_json.specs.View.{view};
 ghost use Rattle.ask_line.specs.Asking.{text_at, HasText};
-ghost use Rattle.script_line.specs.Says.{is_blank, IsJson, poll_of, stop_in, HasBeside, Commands, IsBlankLine, IsCommand, asks_beside, MOST_ASKS, Says, SaysTooMany, SaysNothing};
+ghost use Rattle.script_line.specs.Says.{is_blank, poll_of, stop_in, Commands, IsBlankLine, IsCommand, asks_beside, MOST_ASKS, Says, SaysTooMany, SaysNothing};
 ghost use Rattle.flow_values.specs.Path.{IsNormalPath};
 ghost use Rattle.script_line.specs.declared.line.Line.{Line};
 
@@ -184,7 +183,9 @@ fn within_limit(line: Line) -> Result<Line, LineFault>
 {
     let count = ask_count(&line);
     if count > MOST_ASKS {
-        return Err(LineFault::TooManyAsks { count: count as u64 });
+        return Err(LineFault::TooManyAsks {
+            count: count as u64,
+        });
     }
     Ok(line)
 }
