@@ -139,6 +139,7 @@ lanes_by lanes now versions long each = from (length lanes) 0 lanes now long (λ
   where
     same_there : (l : LaneUse) (ls : List LaneUse) (o : (after : LaneUse) × (slice_get (l ∷ ls) 0 ≡ Some after)) → l ≡ o.0
     same_there l ls o = let z : Some l ≡ Some o.0 = o.1 in cc
+
     from : (n k : ℕ) (lanes now : List LaneUse) → length now ≡ length lanes
         → ((i : ℕ) (lane : LaneUse) → slice_get lanes i ≡ Some lane → (after : LaneUse) × (slice_get now i ≡ Some after) × (after ≡ use_after lane (dealt n (k + i) versions))) → now ≡ uses_from n k lanes versions
     from n k [] [] long each = refl

@@ -31,8 +31,11 @@ use stops::Stop;
 /// The heap of modules as it runs: the heap, its writer, and all its lanes in their order, from one `open`.
 #[derive(Drop)]
 pub struct Server {
+    /// What is committed.
     pub heap: Heap<Payload>,
+    /// The one that commits.
     pub writer: Writer<Payload>,
+    /// Those on which asks are answered, in the order of their numbers: 1 to 16 of them.
     pub lanes: List<Lane<Payload>>,
 }
 
