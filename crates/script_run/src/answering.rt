@@ -1,5 +1,5 @@
 //! What was answered, printed.
-ghost use Rattle.std.specs.Prelude.{◌≡◌, ◌×◌, ◌↔◌, ◌++◌, IsTrue, IfOk, Err, OnOk};
+ghost use Rattle.std.specs.Prelude.{◌≡◌, ◌↔◌, ◌++◌, IsTrue, IfOk, Err, OnOk};
 ghost use Rattle.std.specs.List.{AllZip};
 ghost use Rattle.flow_base.specs.Program.{Bytes};
 ghost use Rattle.script_run.specs.Session.{IsToldOfSome, PrintsTold, PrintAllTold};

@@ -1,7 +1,7 @@
 //! What holds of the definitions, as the contracts of calls that do nothing.
 ghost use Rattle.std.specs.Prelude.{◌≡◌, ℕ, List, Option};
 ghost use Rattle.flow_base.specs.Program.{Bytes, Program};
-ghost use Rattle.beside.specs.Server.{LaneUse};
+ghost use Rattle.beside.specs.Uses.{LaneUse};
 ghost use Rattle.script_run.specs.Transcript.{IsRunSoFar, GoesOn, IsQuietRun, AsksNothingBeside};
 ghost use Rattle.script_run.specs.declared.ending.WalkEnd.{WalkEnd};
 

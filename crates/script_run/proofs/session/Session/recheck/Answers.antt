@@ -18,4 +18,4 @@ returns-clause-rechecked g c =
     rechecked c.args.stop c.args.asks.now _ _ (meaning_in old.writer) (meaning_in new.writer) c.self.inside.edits c.recheck_edited.new.edits (uses_of old.lanes) (uses_of new.lanes) c.args.self.now c.in_ok-outcome.outcome c.version.result
     _ _ printed.0 (versions c.in_ok-outcome.told) (omega arith) c.self.view_is c.in_ok-outcome.ensures.ended c.in_ok-outcome.ensures.reads (g.met.F.Folder.bounded c.args.folder.now) c.version.ensures c.in_ok-line.ensures
     (answers_told (meaning_in old.writer) (meaning_in new.writer) c.self.inside.edits c.recheck_edited.new.edits (uses_of old.lanes) c.args.asks.now c.in_ok-outcome.told printed.0 c.in_ok-outcome.ensures.answers printed.1)
-    c.in_ok-outcome.ensures.falls_not c.in_ok-outcome.ensures.lanes (printed.2 ∙ ap (λ (b : Bytes). b ++ printed.0) (ap (λ v. v.items) c.into_bytes.ensures.value))
+    c.in_ok-outcome.ensures.falls_not c.in_ok-outcome.ensures.lanes (printed.2 ∙ ap (λ (b : Bytes). b ++ printed.0) (ap (λ v. v.items) c.into_bytes-printed.ensures.value))
