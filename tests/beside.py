@@ -290,6 +290,7 @@ def a_stop_at_each_poll(root):
 # A long history.
 
 MODULES, ROUNDS = 300, 200
+PATIENCE = 3600  # seconds
 
 
 class History:
@@ -357,7 +358,7 @@ class History:
 
 def told_alone(history, root):
     """The first line, what each round answers before its recheck, its line, and what it answers behind it, and the last status."""
-    status, printed, _ = run("--workers=4", root, stdin=None, input=history.script_alone())
+    status, printed, _ = run("--workers=4", root, stdin=None, input=history.script_alone(), timeout=PATIENCE)
     found, each = items(printed), 2 * MOST_ASKS + 1
     rows = [found[at : at + each] for at in range(1, len(found), each)]
     return status, found[0], [(row[:MOST_ASKS], row[MOST_ASKS], row[MOST_ASKS + 1 :]) for row in rows]
@@ -366,7 +367,7 @@ def told_alone(history, root):
 def expect_history(history, root, lanes, wanted):
     """Returns how many answers can tell the version before the recheck from the one behind it, and how many of them are of the latter."""
     status, loaded, rounds = wanted
-    given = run("--workers=4", f"--lanes={lanes}", root, stdin=None, input=history.script_beside())
+    given = run("--workers=4", f"--lanes={lanes}", root, stdin=None, input=history.script_beside(), timeout=PATIENCE)
     expect((given[0], b"", given[2]), status, b"")
     found = iter(items(given[1]))
     if next(found) != loaded:

@@ -66,7 +66,7 @@ one_rises : (n k : ℕ) (lane : LaneUse) (v : ℕ) → lane.last ≤ v → Rises
 one_rises n zero lane v low = (low, tt)
 one_rises n (suc k) lane v low = tt
 
-all_there : (F : LaneUse → Type 0) (lanes : List LaneUse) (k : ℕ) (lane : LaneUse) → AllByRecursion F lanes → slice_get lanes k ≡ Some lane → F lane
+pub all_there : (F : LaneUse → Type 0) (lanes : List LaneUse) (k : ℕ) (lane : LaneUse) → AllByRecursion F lanes → slice_get lanes k ≡ Some lane → F lane
 all_there F [] k lane all at = absurd (let z : None ≡ Some lane = at in cc)
 all_there F (l ∷ lanes) zero lane all at = let z : Some l ≡ Some lane = at in let e : l ≡ lane = cc in subst F e all.0
 all_there F (l ∷ lanes) (suc k) lane all at = all_there F lanes k lane all.1 at

@@ -12,21 +12,16 @@ use Rattle.flow_base.specs.Seen.{FolderSeen, SourceSeen, SinkSeen, Outside, outs
 use Rattle.flow_base.specs.declared.outside.LastFault.{LastFault}
 use Rattle.affected_sizes.specs.Law.{EachHasSizes}
 use Rattle.answers_law.specs.Law.{EachHasAnswer}
-use Rattle.beside.specs.Uses.{LaneUse}
-use Rattle.beside.specs.declared.serving.Server.{Server}
+use Rattle.generated_run.specs.Script.{LaneUse, Server, IsIdle, MayList, start, HasRun, HasFront, RoseByAtLeast, walk_state, unsaid_load}
 use Rattle.command_words.specs.Words.{Says, AreOfCommand, IsForm, usage_line}
 use Rattle.command_words.specs.declared.command.Command.{Command}
 use Rattle.command_words.specs.declared.command.Form.{Form}
 use Rattle.command_words.specs.declared.command.Form.TheVariants.{Folder, Generated}
 use Rattle.script_print.specs.Printed.{files_line}
 use Rattle.script_reader.specs.Lines.{lines_left}
-use Rattle.script_run.specs.declared.ending.WalkEnd.{WalkEnd}
-use Rattle.script_run.specs.declared.ending.WalkEnd.TheVariants as ending
-use Rattle.script_run.specs.Session.{IsIdle}
-use Rattle.script_run.specs.Transcript.{MayList, start}
-use Rattle.script_run.specs.Steps.{HasRun, HasFront, RoseByAtLeast, walk_state, unsaid_load}
-use Rattle.script_run.proofs.Fronts.{front_none}
-use Rattle.script_run.proofs.Walks.{front_of_load, walk_counts}
+use Rattle.generated_run.specs.WalkEnd.{WalkEnd}
+use Rattle.generated_run.specs.WalkEnd.TheVariants as ending
+use Rattle.generated_run.proofs.Script.{front_none, front_of_load, walk_counts}
 use Rattle.generated_run.specs.Run.{IsGeneratedRun}
 use Rattle.generated_run.proofs.OneRun.{errors_of}
 use Rattle.flowd_top.specs.Run.{NamesFolder, MakesUp, status_after, RunEnd, left_after, end_of, IsLeft, Keeps, IsTranscript, no_command, many_files, runs, generates, HasPrinted, HasPrintedFront, nothing_printed, front_printed, Leaves, BreaksOff, WritesLast, RunsOver, RunLeaves, RunsMadeUp, GeneratedLeaves}

@@ -5,19 +5,16 @@ use Rattle.std.specs.Int.{IsInRange}
 use Rattle.std.proofs.lemmas.Bool.{cases_lt}
 use Rattle.flow_base.specs.Program.{Bytes, Program, paths_of}
 use Rattle.affected_sizes.specs.Law.{EachHasSizes}
-use Rattle.beside.specs.Uses.{LaneUse}
+use Rattle.generated_run.specs.Script.{LaneUse, HasErrorCount, MayList, IsRunSoFar, GoesOn, IsRun, IsQuietRun, AsksNothingBeside}
 use Rattle.command_words.specs.Words.{Says, AreOfCommand, usage_line}
 use Rattle.command_words.specs.declared.command.Command.{Command}
 use Rattle.command_words.specs.declared.command.Form.{Form}
 use Rattle.command_words.specs.declared.command.Form.TheVariants.{Folder, Generated}
 use Rattle.program_check.specs.Law.{OneFull}
 use Rattle.script_print.specs.Printed.{files_line}
-use Rattle.script_run.specs.Checked.{HasErrorCount}
-use Rattle.script_run.specs.declared.ending.WalkEnd.{WalkEnd}
-use Rattle.script_run.specs.declared.ending.WalkEnd.TheVariants as ending
-use Rattle.script_run.specs.Transcript.{MayList, IsRunSoFar, GoesOn, IsRun, IsQuietRun, AsksNothingBeside}
-use Rattle.script_run.proofs.Checks.{one_count}
-use Rattle.script_run.proofs.Walks.{walk_counts}
+use Rattle.generated_run.specs.WalkEnd.{WalkEnd}
+use Rattle.generated_run.specs.WalkEnd.TheVariants as ending
+use Rattle.generated_run.proofs.Script.{one_count, walk_counts}
 use Rattle.generated_run.specs.Run.{IsGeneratedRun}
 use Rattle.generated_run.proofs.OneRun.{errors_of}
 use Rattle.flowd_top.specs.Run.{NamesFolder, MakesUp, status_after, RunEnd, left_after, EndsAlike, IsTranscript, no_command, many_files, runs, generates, GoesOnTo}

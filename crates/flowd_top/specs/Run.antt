@@ -1,6 +1,6 @@
 -- What a run of the program prints, how it ends, and what it keeps. The words say where the modules come from, how many there may be, and
 -- on how many lanes questions are answered.
-use Rattle.std.specs.Prelude.{◌≡◌, ◌⊎◌, ◌==◌, ◌<◌, ◌≤◌, ℕ, List, [], ◌++◌, length, Option, Some, None, false, if◌then◌else◌}
+use Rattle.std.specs.Prelude.{◌≡◌, ◌⊎◌, ◌==◌, ◌<◌, ◌≤◌, ℕ, List, [], ◌++◌, length, Option, Some, None, if◌then◌else◌}
 use Rattle.flow_base.specs.Causes.{RoseBy}
 use Rattle.flow_base.specs.Program.{Bytes, Program}
 use Rattle.flow_base.specs.Outside.{appended, HoldsFront}
@@ -8,18 +8,12 @@ use Rattle.flow_base.specs.Seen.{Outside}
 use Rattle.command_words.specs.Words.{Says, AreOfCommand, usage_line}
 use Rattle.command_words.specs.declared.command.Command.{Command}
 use Rattle.command_words.specs.declared.command.Form.TheVariants.{Folder, Generated}
-use Rattle.entity_heap.specs.Writers.{meaning_in}
-use Rattle.beside.specs.Uses.{LaneUse}
-use Rattle.beside.specs.Server.{IsRunning, uses_of}
-use Rattle.beside.specs.declared.serving.Server.{Server}
+pub use Rattle.generated_run.specs.Script.{Server}
+use Rattle.generated_run.specs.Script.{meaning_in, LaneUse, IsIdle, uses_of, HasErrorCount, program_in, MayList, IsRun, RoseByAtLeast, HasRun, HasStopped, HasFront}
 use Rattle.script_print.specs.Printed.{files_line}
-use Rattle.script_run.specs.declared.ending.WalkEnd.{WalkEnd}
-use Rattle.script_run.specs.declared.ending.WalkEnd.TheVariants as ending
+use Rattle.generated_run.specs.WalkEnd.{WalkEnd}
+use Rattle.generated_run.specs.WalkEnd.TheVariants as ending
 use Rattle.script_reader.specs.Lines.{lines_left}
-use Rattle.script_run.specs.Checked.{HasErrorCount}
-use Rattle.script_run.specs.Session.{program_in}
-use Rattle.script_run.specs.Transcript.{MayList, IsRun}
-use Rattle.script_run.specs.Steps.{RoseByAtLeast, HasRun, HasStopped, HasFront}
 use Rattle.generated_run.specs.Run.{IsGeneratedRun, HasGenerated, HasGeneratedFront}
 use Rattle.flowd_top.specs.declared.status.Status.{Status}
 use Rattle.flowd_top.specs.declared.status.Status.TheVariants as status

@@ -2,7 +2,7 @@
 ghost use Rattle.std.specs.Prelude.{◌≡◌, ◌≤◌, ℕ, List, Option, Some, length};
 ghost use Rattle.flow_base.specs.Program.{Bytes, Program, paths_of};
 ghost use Rattle.command_words.specs.declared.command.Command.{Command};
-ghost use Rattle.script_run.specs.Transcript.{MayList, IsRunSoFar, AsksNothingBeside};
+ghost use Rattle.generated_run.specs.Script.{MayList, IsRunSoFar, AsksNothingBeside};
 ghost use Rattle.flowd_top.specs.Run.{NamesFolder, IsTranscript, GoesOnTo, RunEnd, EndsAlike};
 ghost use Rattle.flowd_top.specs.declared.status.Status.{Status};
 

@@ -1,4 +1,4 @@
-ghost use Rattle.std.specs.Prelude.{◌≡◌, ◌≤◌, ◌<◌, ◌⊎◌, ℕ, List, map, length, string_bytes, false, None, IfOk, IfSome};
+ghost use Rattle.std.specs.Prelude.{◌≡◌, ◌≤◌, ◌<◌, ◌⊎◌, ℕ, List, map, length, string_bytes, None, IfOk, IfSome};
 ghost use Rattle.std.specs.Int.{IsInRange};
 ghost use Rattle.std.specs.List.{AllByRecursion};
 ghost use Rattle.flow_base.specs.Path.{IsNormalPath};
@@ -6,12 +6,11 @@ ghost use Rattle.flow_base.specs.Program.{Bytes, IsRising};
 ghost use Rattle.flow_base.specs.Causes.{raised, Counts};
 ghost use Rattle.flow_base.specs.Seen.{outside};
 ghost use Rattle.flow_base.specs.declared.outside.LastFault.TheVariants.{Listing};
-ghost use Rattle.entity_heap.specs.Writers.{meaning_in};
-ghost use Rattle.beside.specs.Server.{IsRunning};
+ghost use Rattle.generated_run.specs.Script.{IsIdle};
 ghost use Rattle.command_words.specs.Words.{AreOfCommand, Says};
 ghost use Rattle.command_words.specs.declared.command.Command as the_command;
 ghost use Rattle.script_print.specs.Printed.{files_line};
-ghost use Rattle.script_run.specs.declared.ending.WalkEnd.TheVariants.{Finished};
+ghost use Rattle.generated_run.specs.WalkEnd.TheVariants.{Finished};
 ghost use Rattle.flowd_top.specs.Run.{NamesFolder, MakesUp, Leaves, RunLeaves, GeneratedLeaves, WritesLast, Keeps, left_after, end_of, status_after};
 
 use crate::Status;
@@ -261,7 +260,7 @@ fn run_made_up<
     let Ok(askers) = made(alloc, maker, command.lanes) else {
         return Status::NoMemory;
     };
-    match run_generated(
+    let ended = match run_generated(
         rt,
         alloc,
         server,
@@ -273,11 +272,12 @@ fn run_made_up<
         out,
         turns,
     ) {
-        Ok(ended) => finish(ended, kept),
-        Err(RunFault::SinkFault) => Status::SinkFault,
-        Err(RunFault::NoMemory) => Status::NoMemory,
+        Ok(ended) => ended,
+        Err(RunFault::SinkFault) => return Status::SinkFault,
+        Err(RunFault::NoMemory) => return Status::NoMemory,
         Err(RunFault::ScriptFault) => unreachable!(),
-    }
+    };
+    finish(ended, kept)
 }
 
 // So many analysts.

@@ -1,7 +1,7 @@
 ghost use Rattle.std.specs.Prelude.{◌≡◌, ◌≤◌, ◌<◌, length, IfOk, OnErr, IsErrOf};
 ghost use Rattle.std.specs.Int.{IsInRange};
 ghost use Rattle.flow_base.specs.Causes.{Counts};
-ghost use Rattle.entity_heap.specs.Writers.{meaning_in};
+ghost use Rattle.beside.specs.Writers.{meaning_in};
 ghost use Rattle.beside.specs.Server.{uses_of};
 ghost use Rattle.script_run.specs.declared.ending.WalkEnd.TheVariants.{Finished};
 ghost use Rattle.script_run.specs.Session.{IsNewServer, IsIdle, program_in};

@@ -20,15 +20,14 @@ use Rattle.pending_edits.specs.declared.edit.Edit.{Edit}
 use Rattle.pending_edits.specs.declared.edit.Edit.TheVariants.{Delete}
 use Rattle.pending_edits.specs.declared.edit.EditFault.{EditFault}
 use Rattle.pending_edits.specs.declared.edit.EditFault.TheVariants.{TooManyModules, NoMemory}
-use Rattle.recheck_run.specs.Recheck.{Commits, HasRoom, RecheckState, Rechecked}
-use Rattle.recheck_run.specs.declared.outcome.Outcome.{Outcome}
-use Rattle.recheck_run.specs.declared.outcome.Outcome.TheVariants as outcome
+use Rattle.beside.specs.Recheck.{Commits, HasRoom, RecheckState, Rechecked}
+use Rattle.beside.specs.Outcome.{Outcome}
+use Rattle.beside.specs.Outcome.TheVariants as outcome
 use Rattle.beside.specs.Uses.{LaneUse, lane_use_code, new_lane}
 use Rattle.beside.specs.Server.{IsRunning, uses_of}
-use Rattle.beside.specs.declared.server.Server.{Server}
-use Rattle.entity_heap.specs.Writers.{meaning_in}
+use Rattle.beside.specs.declared.serving.Server.{Server}
+use Rattle.beside.specs.Writers.{meaning_in}
 use Rattle.script_line.specs.declared.line.Line.{Line}
-use Rattle.script_line.specs.declared.line.Line.TheVariants as line
 use Rattle.script_run.specs.Transcript.{Standing, with_edit, after_asks, modules_counted, RechecksBeside, Turns}
 use Rattle.script_print.specs.Printed.{done_line, cancelled_line, fault_line, refused_line}
 use Rattle.stops.specs.Asked.{StopSeen, yes_answers_by}
@@ -36,7 +35,7 @@ use Rattle.analyst.specs.Work.{Work}
 use Rattle.asks.specs.declared.ask.Ask.{Ask}
 use Rattle.asks.specs.declared.answer.AskFault.TheVariants as ask_fault
 use Rattle.heap_answers.specs.States.{Answers}
-use Rattle.lane_asks.specs.declared.told.Told.{Told}
+use Rattle.beside.specs.Told.{Told}
 use Rattle.answers_law.specs.Answers.{Answered, IsAnswer}
 use Rattle.answer_print.specs.Lines.{answer_lines}
 
@@ -135,6 +134,7 @@ pub record IsEmptyHeap (m : Meaning Payload) (modules : ℕ) : Type 0 where
 pub record IsNewServer (server : Server) (modules lanes : ℕ) : Type 0 where
   pub running : IsRunning server
   pub empty : IsEmptyHeap (meaning_in server.writer) modules
+  pub many : length server.lanes ≡ lanes
   pub uses : uses_of server.lanes ≡ replicate lanes new_lane
 
 -- a server on which no transaction is open
@@ -203,16 +203,6 @@ pub record HasRechecked (stop : ℕ) (asks : List Ask) (s s' : Standing) (printe
   pub faults : ℕ
   pub rechecks : RechecksBeside before.told stop asks s s' faults printed
   pub counted : RoseBy faults before.faults now.faults
-
--- what a line of the script asks
-abbrev pub asks_of : Line → List Ask
-asks_of line.Blank = []
-asks_of (line.Edit path text) = []
-asks_of (line.Delete path) = []
-asks_of (line.Touch path) = []
-asks_of (line.Recheck stop asks) = asks
-asks_of (line.Ask asked) = asked ∷ []
-asks_of line.End = []
 
 -- the same of a line of the script
 pub record HasTurned (most : ℕ) (line : Line) (s s' : Standing) (printed : Bytes) (before now : FolderSeen) : Type 0 where

@@ -109,6 +109,16 @@ pub record RechecksBeside (told : Option Program) (stop : ℕ) (asks : List Ask)
 
 -- ---- the lines of a script
 
+-- what a line of the script asks
+abbrev pub asks_of : Line → List Ask
+asks_of line.Blank = []
+asks_of (line.Edit path text) = []
+asks_of (line.Delete path) = []
+asks_of (line.Touch path) = []
+asks_of (line.Recheck stop asks) = asks
+asks_of (line.Ask asked) = asked ∷ []
+asks_of line.End = []
+
 -- What one line of the script does and prints. An ask line is answered on the first lane, from the committed version.
 pub data Turns (most : ℕ) (told : Option Program) : Line → Standing → Standing → ℕ → Bytes → Type 0 where
   blank : (s : Standing) → Turns most told line.Blank s s 0 []

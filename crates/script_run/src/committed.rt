@@ -1,8 +1,8 @@
 //! What a writer has committed, as a reader of it.
 ghost use Rattle.std.specs.Prelude.{◌≡◌, false};
-ghost use Rattle.entity_heap.specs.Writers.{meaning_in};
+ghost use Rattle.beside.specs.Writers.{meaning_in};
 
-use entity_heap::Writer;
+use beside::Writer;
 use flow_base::NoMemory;
 use heap_core::HeapReader;
 use payloads::Payload;

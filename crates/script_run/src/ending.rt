@@ -1,8 +1,8 @@
 ghost use Rattle.std.specs.Prelude.{◌≡◌, ◌+◌, IfOk};
 ghost use Rattle.script_run.specs.Transcript.{last_line};
 
-use flow_base::{NoMemory, SinkFault};
 use beside::Server;
+use flow_base::{NoMemory, SinkFault};
 use script_print::{bad_line, long_line, many_asks, many_lines};
 use std::alloc::Global;
 

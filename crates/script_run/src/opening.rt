@@ -1,9 +1,8 @@
 ghost use Rattle.std.specs.Prelude.{◌≤◌, IfOk};
 ghost use Rattle.script_run.specs.Session.{IsNewServer};
 
-use beside::Server;
+use beside::{Server, open};
 use check_values::Root;
-use entity_heap::open;
 use flow_values::{List, NoMemory, Shared};
 use payloads::Payload;
 use std::alloc::Global;

@@ -1,12 +1,12 @@
 ghost use Rattle.std.specs.Prelude.{◌≡◌, ◌+◌, ◌<◌, ◌≤◌, ◌^◌, length, string_bytes, IfOk};
 ghost use Rattle.flow_base.specs.Program.{IsRising};
 ghost use Rattle.pending_edits.specs.declared.edit.Edit.TheVariants.{Put, Touch};
-ghost use Rattle.entity_heap.specs.Writers.{meaning_in};
+ghost use Rattle.beside.specs.Writers.{meaning_in};
 ghost use Rattle.beside.specs.Uses.{MayAnswer};
 ghost use Rattle.beside.specs.Server.{uses_of};
 ghost use Rattle.script_run.specs.Checked.{HasErrorCount};
-ghost use Rattle.script_run.specs.Transcript.{start};
-ghost use Rattle.script_run.specs.Session.{IsNewServer, IsIdle, standing_in, asks_of, Prints, PrintsEdit, HasAsked, HasEdited, HasDeleted, HasRechecked, HasTurned};
+ghost use Rattle.script_run.specs.Transcript.{start, asks_of};
+ghost use Rattle.script_run.specs.Session.{IsNewServer, IsIdle, standing_in, Prints, PrintsEdit, HasAsked, HasEdited, HasDeleted, HasRechecked, HasTurned};
 
 use crate::answering::{print_told, told_text};
 use crate::committed::Committed;
@@ -14,11 +14,10 @@ use crate::errors::count_errors;
 use crate::waiting::{delete_path, put_text, recheck_edited, touch_path, touched};
 use analyst::Analyst;
 use asks::Ask;
-use beside::Server;
+use beside::{Outcome, Server};
 use flow_base::{Folder, NoMemory, Path, Text, Turnstile};
 use pending_edits::{EditFault, Edits};
 use place_analyst::PlaceAnalyst;
-use recheck_run::Outcome;
 use script_line::Line;
 use script_print::{cancelled_line, done_line, fault_line, refused_line};
 use std::alloc::Global;

@@ -7,9 +7,9 @@ ghost use Rattle.check_values.specs.Roots.{paths_of};
 ghost use Rattle.pending_edits.specs.Pending.{with_edit};
 ghost use Rattle.pending_edits.specs.Counting.{counted, StandsOn};
 ghost use Rattle.pending_edits.specs.declared.edit.Edit.TheVariants.{Put, Touch, Delete};
-ghost use Rattle.recheck_run.specs.Recheck.{HasRoom, Commits, CountsReads};
-ghost use Rattle.entity_heap.specs.Writers.{meaning_in};
-ghost use Rattle.lane_asks.specs.Telling.{versions};
+ghost use Rattle.beside.specs.Recheck.{HasRoom, Commits, CountsReads};
+ghost use Rattle.beside.specs.Writers.{meaning_in};
+ghost use Rattle.beside.specs.Telling.{versions};
 ghost use Rattle.beside.specs.Uses.{MayAnswer, NoneFalls, lanes_after};
 ghost use Rattle.beside.specs.Server.{IsRunning, IsToldOfEither, moment_in, uses_of};
 ghost use Rattle.script_run.specs.Transcript.{to_touch};
@@ -18,16 +18,14 @@ ghost use Rattle.script_run.specs.Session.{StandOnCommitted, AreFew, CountsNoMor
 use crate::committed::Committed;
 use analyst::Analyst;
 use asks::Ask;
-use beside::{Server, Told};
+use beside::{Outcome, Server, Told, Writer};
 use check_values::Root;
-use entity_heap::Writer;
 use flow_base::{Folder, Turnstile};
 use flow_values::{List, NoMemory, Path, Shared, Text};
 use heap_core::HeapReader;
 use payloads::Payload;
 use pending_edits::{EditFault, Edits};
 use place_analyst::PlaceAnalyst;
-use recheck_run::Outcome;
 use std::alloc::Global;
 use std::sync::Wait;
 use std::thread::Threads;
@@ -191,7 +189,7 @@ pub(crate) fn recheck_edited<
     requires pins { MayAnswer (length asks.now) (uses_of server.old.lanes) }
     ensures running { IsRunning server.new }
     ensures ready { IsReady (held_by server.new edits.new) }
-    ensures many { (length server.new.lanes ≡ length server.old.lanes) × (length analysts.new ≡ length analysts.old) × (length askers.new ≡ length askers.old) }
+    ensures many { length server.new.lanes ≡ length server.old.lanes }
     ensures capacity { edits.new.capacity ≡ edits.old.capacity }
     ensures told { (F.seen folder.new).told ≡ (F.seen folder.old).told }
     ensures later { (F.seen folder.old).faults ≤ (F.seen folder.new).faults }

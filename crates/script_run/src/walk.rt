@@ -4,12 +4,12 @@ ghost use Rattle.flow_base.specs.Outside.{appended, HoldsFront};
 ghost use Rattle.flow_base.specs.Causes.{Counts};
 ghost use Rattle.flow_base.specs.Seen.{outside};
 ghost use Rattle.script_reader.specs.Lines.{bytes_left, lines_left, TakesFront, BreaksLine};
-ghost use Rattle.script_run.specs.Transcript.{start, last_line};
-ghost use Rattle.entity_heap.specs.Writers.{meaning_in};
+ghost use Rattle.script_run.specs.Transcript.{start, asks_of, last_line};
+ghost use Rattle.beside.specs.Writers.{meaning_in};
 ghost use Rattle.script_line.specs.Says.{MOST_ASKS};
 ghost use Rattle.beside.specs.Uses.{MayAnswer};
 ghost use Rattle.beside.specs.Server.{uses_of};
-ghost use Rattle.script_run.specs.Session.{IsNewServer, IsIdle, asks_of, program_in, standing_in};
+ghost use Rattle.script_run.specs.Session.{IsNewServer, IsIdle, program_in, standing_in};
 ghost use Rattle.script_run.specs.Steps.{walk_state, Takes, Closes, Breaks, HasAnswered, BreaksOff, HasLoaded, BreaksLoad, HasRun, HasStopped, HasFront};
 
 use crate::command::{Command, read_command};
