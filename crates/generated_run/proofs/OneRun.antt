@@ -19,7 +19,7 @@ use Rattle.script_print.specs.Printed.{done_line}
 use Rattle.script_run.specs.Checked.{HasErrorCount}
 use Rattle.script_run.specs.Transcript.{Standing, start, with_edit, modules_counted, ComesTo, Rechecks, done, cancelled, cannot_read, Turns, edits, refuses, rechecks}
 use Rattle.script_run.proofs.Checks.{one_count}
-use Rattle.script_run.proofs.Completing.{beside_nothing, nothing_beside}
+use Rattle.script_run.proofs.Lanes.{beside_nothing, nothing_beside}
 use Rattle.generator.specs.Modules.{edits_of}
 use Rattle.generated_run.specs.Run.{IsFolder, put_and_check, turns_of, Goes, generated_line, IsGeneratedRun}
 use Rattle.generated_run.proofs.InOrder.{some_folder, one_folder}
@@ -60,7 +60,7 @@ module _ (each : EachHasSizes) (folder : Program) where
 
     -- the recheck behind an edit
     pub some_check : (s : Standing) → (t : Standing) × (printed : Bytes) × Turns most (Some folder) (line.Recheck 0 []) s t 0 printed
-    some_check s = let recheck = some_recheck s in (recheck.0, recheck.1, rechecks s recheck.0 0 [] 0 recheck.1 (beside_nothing recheck.2))
+    some_check s = let recheck = some_recheck s in (recheck.0, recheck.1, rechecks s recheck.0 0 [] 0 recheck.1 (beside_nothing _ _ _ _ _ _ recheck.2))
 
     pub some_round : (s : Standing) (edit : Bytes × Bytes) → (t : Standing) × (printed : Bytes) × Goes most folder (put_and_check edit) s t printed
     some_round s edit =
@@ -153,7 +153,7 @@ module _ (one : OneFull) (sized : HaveOneSize) (folder : Program) where
     same_edit (refuses s path text over) (refuses s' path' text' over') = (refl, refl)
 
     same_check : {s t u : Standing} {f g : ℕ} {p q : Bytes} → Turns most (Some folder) (line.Recheck 0 []) s t f p → Turns most (Some folder) (line.Recheck 0 []) s u g q → f ≡ 0 → g ≡ 0 → Same t u p q
-    same_check (rechecks s t stop asks f p recheck) (rechecks s' u stop' asks' g q other) quiet still = same_recheck (nothing_beside recheck) (nothing_beside other) refl quiet still
+    same_check (rechecks s t stop asks f p recheck) (rechecks s' u stop' asks' g q other) quiet still = same_recheck (nothing_beside _ _ _ _ _ _ recheck) (nothing_beside _ _ _ _ _ _ other) refl quiet still
 
     joined : (a b c d e f : Bytes) → e ≡ a ++ c → f ≡ b ++ d → a ≡ b → c ≡ d → e ≡ f
     joined a b c d e f left right first second = cc

@@ -19,7 +19,8 @@ use Rattle.script_line.specs.declared.line.Line.TheVariants as line
 use Rattle.script_run.specs.Checked.{HasErrorCount}
 use Rattle.script_run.specs.Session.{HasRechecked, HasTurned}
 use Rattle.script_run.specs.Transcript.{Standing, start, Rechecks, done, cancelled, cannot_read, Turns, edits, refuses, rechecks}
-use Rattle.script_run.proofs.Completing.{front_longer, nothing_beside}
+use Rattle.script_run.proofs.Completing.{front_longer}
+use Rattle.script_run.proofs.Lanes.{nothing_beside}
 use Rattle.script_run.proofs.Fronts.{appended_none, front_none, front_all, front_behind}
 use Rattle.script_run.proofs.Writing.{appended_twice}
 use Rattle.generator.specs.Draws.{edited}
@@ -37,7 +38,7 @@ pub quiet_load : (lanes : ℕ) (folder : Program) (s t : Standing) (printed : By
     → HasRechecked 0 [] s t printed before now → Loads lanes folder t printed
 quiet_load lanes folder s t printed before now is told first last load =
     subst (λ f. Rechecks (Some folder) 0 (start (paths_of folder) lanes) t f printed) (no_fault load.faults before.faults now.faults first last load.counted)
-    (subst (λ w. Rechecks w 0 (start (paths_of folder) lanes) t load.faults printed) told (subst (λ r. Rechecks before.told 0 r t load.faults printed) is (nothing_beside load.rechecks)))
+    (subst (λ w. Rechecks w 0 (start (paths_of folder) lanes) t load.faults printed) told (subst (λ r. Rechecks before.told 0 r t load.faults printed) is (nothing_beside _ _ _ _ _ _ load.rechecks)))
 
 pub quiet_turn : (most : ℕ) (folder : Program) (said : Line) (s t : Standing) (printed : Bytes) (before now : FolderSeen) → before.told ≡ Some folder → before.faults ≡ 0 → now.faults ≡ 0
     → HasTurned most said s t printed before now → TakesTurn most folder said s t printed
@@ -60,7 +61,7 @@ edit_version (edits s path text few) = omega arith
 edit_version (refuses s path text many) = omega arith
 
 check_version : {most : ℕ} {told : Option Program} {stop : ℕ} {s t : Standing} {f : ℕ} {p : Bytes} → Turns most told (line.Recheck stop []) s t f p → t.version ≤ s.version + 1
-check_version (rechecks s t stop asks f p recheck) = recheck_version (nothing_beside recheck)
+check_version (rechecks s t stop asks f p recheck) = recheck_version (nothing_beside _ _ _ _ _ _ recheck)
 
 -- ---- lanes
 
@@ -74,7 +75,7 @@ edit_lanes (edits s path text few) = refl
 edit_lanes (refuses s path text many) = refl
 
 check_lanes : {most : ℕ} {told : Option Program} {stop : ℕ} {s t : Standing} {f : ℕ} {p : Bytes} → Turns most told (line.Recheck stop []) s t f p → t.lanes ≡ s.lanes
-check_lanes (rechecks s t stop asks f p recheck) = recheck_lanes (nothing_beside recheck)
+check_lanes (rechecks s t stop asks f p recheck) = recheck_lanes (nothing_beside _ _ _ _ _ _ recheck)
 
 pub load_lanes : (lanes : ℕ) (folder : Program) (t : Standing) (printed : Bytes) → Loads lanes folder t printed → t.lanes ≡ replicate lanes new_lane
 load_lanes lanes folder t printed loads = recheck_lanes loads

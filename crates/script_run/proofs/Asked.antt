@@ -1,5 +1,6 @@
 -- What is asked, as it is answered and printed.
-use Rattle.std.proofs.Common.{◌≡◌, ◌⊎◌, inl, inr, ℕ, List, [], ◌∷◌, ◌++◌, refl, sym, ap, ◌∙◌, subst}
+use Rattle.std.proofs.Common.{◌≡◌, ◌⊎◌, inl, inr, ℕ, zero, suc, ◌+◌, ◌<◌, ◌≤◌, List, [], ◌∷◌, ◌++◌, length, take, get_or, refl, sym, ap, ◌∙◌, subst, arith, append_assoc}
+use Rattle.std.proofs.lemmas.List.{take_more, take_all, append-nil}
 use Rattle.std.specs.Prelude.{Result, Ok, Err, IfOk}
 use Rattle.std.specs.List.{AllZip}
 use Rattle.flow_base.specs.Program.{Bytes, Program}
@@ -93,6 +94,48 @@ answers_told m n w v ls [] (t ∷ told) answered all prints = absurd all
 answers_told m n w v ls (asked ∷ asks) [] answered all prints = absurd all
 answers_told m n w v ls (asked ∷ asks) (t ∷ told) answered all (first, rest, one, others, is) =
     (t.answer, rest, answered_by m n w v ls asked t all.0 one.0, answers_told m n w v ls asks told rest all.1 others, is ∙ ap (λ (b : Bytes). b ++ rest) one.1)
+
+-- they are as many
+pub told_long : {X Y : Type 0} (F : X → Y → Type 0) (xs : List X) (ys : List Y) → AllZip F xs ys → length xs ≡ length ys
+told_long F [] [] all = refl
+told_long F [] (y ∷ ys) all = absurd all
+told_long F (x ∷ xs) [] all = absurd all
+told_long F (x ∷ xs) (y ∷ ys) all = ap suc (told_long F xs ys all.1)
+
+-- what holds of all that stand beside one another holds at a place
+pub told_at : {X Y : Type 0} (F : X → Y → Type 0) (xs : List X) (ys : List Y) (i : ℕ) (x : X) (y : Y) → AllZip F xs ys → i < length xs → F (get_or xs i x) (get_or ys i y)
+told_at F [] ys i x y all within = absurd (omega arith)
+told_at F (a ∷ xs) [] i x y all within = absurd all
+told_at F (a ∷ xs) (b ∷ ys) zero x y all within = all.0
+told_at F (a ∷ xs) (b ∷ ys) (suc i) x y all within = told_at F xs ys i x y all.1 (omega arith)
+
+-- what was told of some asks, and then of one more
+print_more : (asks : List Ask) (told : List (Told Answered)) (printed : Bytes) (asked : Ask) (t : Told Answered) (text : Bytes) → PrintAllTold asks told printed → PrintsTold asked t text
+    → PrintAllTold (asks ++ asked ∷ []) (told ++ t ∷ []) (printed ++ text)
+print_more [] [] printed asked t text all one = (text, [], one, refl, ap (λ (b : Bytes). b ++ text) all ∙ sym (append-nil text))
+print_more [] (u ∷ told) printed asked t text all one = absurd all
+print_more (other ∷ asks) [] printed asked t text all one = absurd all
+print_more (other ∷ asks) (u ∷ told) printed asked t text (first, rest, this, others, is) one =
+    (first, rest ++ text, this, print_more asks told rest asked t text others one, ap (λ (b : Bytes). b ++ text) is ∙ append_assoc first rest text)
+
+-- the answers up to a place were printed behind what was there
+abbrev pub PrintsTo : List Ask → List (Told Answered) → ℕ → Bytes → Bytes → Type 0
+PrintsTo asks told i old now = (answered : Bytes) × PrintAllTold (take i asks) (take i told) answered × (now ≡ old ++ answered)
+
+pub prints_more : (asks : List Ask) (told : List (Told Answered)) (i : ℕ) (asked : Ask) (t : Told Answered) (old now new text piece : Bytes) → i < length asks → i < length told → asked ≡ get_or asks i asked → t ≡ get_or told i t
+    → PrintsTo asks told i old now → PrintsTold asked t text → piece ≡ text → new ≡ now ++ piece → PrintsTo asks told (i + 1) old new
+prints_more asks told i asked t old now new text piece within there is at (answered, all, sofar) one same more =
+    let next : take (i + 1) asks ≡ take i asks ++ asked ∷ [] = take_more asks i asked within ∙ ap (λ (a : Ask). take i asks ++ a ∷ []) (sym is) in
+    let after : take (i + 1) told ≡ take i told ++ t ∷ [] = take_more told i t there ∙ ap (λ (u : Told Answered). take i told ++ u ∷ []) (sym at) in
+    (answered ++ text,
+    subst (λ (l : List Ask). PrintAllTold l (take (i + 1) told) (answered ++ text)) (sym next)
+    (subst (λ (l : List (Told Answered)). PrintAllTold (take i asks ++ asked ∷ []) l (answered ++ text)) (sym after) (print_more (take i asks) (take i told) answered asked t text all one)),
+    more ∙ ((λ j. sofar j ++ same j) ∙ append_assoc old answered text))
+
+pub prints_all : (asks : List Ask) (told : List (Told Answered)) (i : ℕ) (old now : Bytes) → AllZip IsToldOfSome asks told → length asks ≤ i → PrintsTo asks told i old now → (answered : Bytes) × PrintAllTold asks told answered × (now ≡ old ++ answered)
+prints_all asks told i old now every past (answered, all, sofar) =
+    let long = told_long IsToldOfSome asks told every in
+    (answered, subst (λ (l : List Ask). PrintAllTold l told answered) (take_all i asks past) (subst (λ (l : List (Told Answered)). PrintAllTold (take i asks) l answered) (take_all i told (omega (arith, long, past))) all), sofar)
 
 -- an ask line: it is told of the committed version
 pub asked_there : (m n : Meaning Payload) (w : Pending) (ls ks : List LaneUse) (h : Held) (asked : Ask) (told : Told Answered) (text printed : Bytes) → held m w ls ≡ h → n ≡ m → IsToldOf (moment_of m) asked told

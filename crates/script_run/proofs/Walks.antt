@@ -67,9 +67,12 @@ more_answered n bytes said s t says turn few =
 pub may_answer_line : (n : ℕ) (s : Standing) → n ≤ MOST_LINES → HaveAnswered n s → MayAnswer MOST_ASKS s.lanes
 may_answer_line n s few answered = may_answer (MOST_ASKS * n) MOST_ASKS s.lanes answered (omega (arith, few))
 
--- and what a line asks
-pub may_answer_asks : (bytes : Bytes) (said : Line) (lanes : List LaneUse) → Says bytes said → MayAnswer MOST_ASKS lanes → MayAnswer (length (asks_of said)) lanes
-may_answer_asks bytes said lanes says may = may_answer_fewer MOST_ASKS (length (asks_of said)) lanes (asks_within bytes said says) may
+-- and what the next line asks
+pub may_take : (next : Command) (said : Line) (taken : ℕ) (lines lines' : Option (List Bytes)) (lanes : List LaneUse) → next ≡ command.Takes said → Reads next taken lines lines' → MayAnswer MOST_ASKS lanes
+    → MayAnswer (length (asks_of said)) lanes
+may_take next said taken lines lines' lanes is reads may =
+    let it : IsTaken said taken lines lines' = subst (λ n. Reads n taken lines lines') is reads in
+    may_answer_fewer MOST_ASKS (length (asks_of said)) lanes (asks_within it.bytes said it.says) may
 
 -- ---- errors
 
@@ -160,13 +163,14 @@ breaks_end most next how taken lines lines' before folder held is reads front = 
 
 -- ---- the walk
 
-module _ (most lanes : ℕ) (listed : List Bytes) (script : Option (List Bytes)) (before : WalkState) where
-  -- the load is a recheck from the start
-  load_of : (first now : WalkState) (loaded : HasLoaded first now) → first.standing ≡ start listed lanes → Rechecks first.folder.told 0 (start listed lanes) now.standing loaded.load.faults loaded.printed
-  load_of first now loaded is =
-      nothing_beside first.folder.told 0 (start listed lanes) now.standing loaded.load.faults loaded.printed
-      (subst (λ s. RechecksBeside first.folder.told 0 [] s now.standing loaded.load.faults loaded.printed) is loaded.load.rechecks)
+-- the load is a recheck from the start
+load_of : (listed : List Bytes) (lanes : ℕ) (first now : WalkState) (loaded : HasLoaded first now) → first.standing ≡ start listed lanes
+    → Rechecks first.folder.told 0 (start listed lanes) now.standing loaded.load.faults loaded.printed
+load_of listed lanes first now loaded is =
+    nothing_beside first.folder.told 0 (start listed lanes) now.standing loaded.load.faults loaded.printed
+    (subst (λ s. RechecksBeside first.folder.told 0 [] s now.standing loaded.load.faults loaded.printed) is loaded.load.rechecks)
 
+module _ (most lanes : ℕ) (listed : List Bytes) (script : Option (List Bytes)) (before : WalkState) where
   pub begin : (now : WalkState) → before.standing ≡ start listed lanes → HasLoaded before now → HasWalked most lanes listed script script 0 before now
   begin now is loaded = record {
     lines = [];
@@ -174,11 +178,11 @@ module _ (most lanes : ℕ) (listed : List Bytes) (script : Option (List Bytes))
     leaves = unchanged script;
     read_faults = loaded.load.faults;
     printed = loaded.printed;
-    walk = loads now.standing loaded.load.faults loaded.printed (load_of before now loaded is);
+    walk = loads now.standing loaded.load.faults loaded.printed (load_of listed lanes before now loaded is);
     written = loaded.written;
     counted = loaded.load.counted;
-    version = omega (arith, recheck_version (load_of before now loaded is));
-    answered = subst (AnsweredAtMost (MOST_ASKS * 0)) (sym (recheck_lanes (load_of before now loaded is))) (new_at_most lanes (MOST_ASKS * 0));
+    version = omega (arith, recheck_version (load_of listed lanes before now loaded is));
+    answered = subst (AnsweredAtMost (MOST_ASKS * 0)) (sym (recheck_lanes (load_of listed lanes before now loaded is))) (new_at_most lanes (MOST_ASKS * 0));
   }
 
   pub more : (left left' : Option (List Bytes)) (n : ℕ) (mid now : WalkState) → mid.folder.told ≡ before.folder.told → HasWalked most lanes listed script left n before mid → Takes most n left left' mid now

@@ -109,4 +109,4 @@ loop-reader-preserved g c =
     }
 
 pub step-requires-clause-pins : goal.step-requires-clause-pins
-step-requires-clause-pins g c = may_answer_line c.loop-reader.taken (standing_in c.loop-reader.session) c.loop-reader.invariant.few c.loop-reader.invariant.walked.answered
+step-requires-clause-pins g c κs within = may_answer_line c.loop-reader.taken (standing_in c.loop-reader.session) c.loop-reader.invariant.few c.loop-reader.invariant.walked.answered
