@@ -321,7 +321,7 @@ def lines_that_are_no_command(root):
         b'{"do":"recheck","stop":null}',
         b'{"do":"recheck","stop":[1]}',
         b'{"do":"recheck","stop":1,"stop":0}',
-        b'{"do":"recheck","asks":[]}',
+        b'{"do":"recheck","asks":{}}',
         b'{"do":"edit","path":"a/../b.js","text":""}',
         b'{"do":"edit","path":"a.js","text":1}',
         b'{"do":"edit","path":"a.js"}',

@@ -2,9 +2,10 @@ pub mod Asked
 pub mod Checks
 pub mod Commands
 pub mod Completing
-pub mod EmptyHeaps
 pub mod Fronts
 pub mod Givens
+pub mod Lanes
+pub mod NewServers
 pub mod Once
 pub mod PendingEdits
 pub mod Sessions

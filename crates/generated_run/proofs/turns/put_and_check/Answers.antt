@@ -1,7 +1,7 @@
 use Rattle.std.proofs.Common.{arith}
 use Rattle.script_run.specs.Session.{standing_in}
 use Rattle.script_run.proofs.Walks.{on_err}
-use Rattle.generated_run.proofs.Parts.{put_version, put_breaks, round_ok, round_err, version_ok}
+use Rattle.generated_run.proofs.Parts.{put_version, put_may, put_breaks, round_ok, round_err, version_ok, lanes_ok}
 use Rattle.generated_run.proofs.turns.put_and_check.Goals as goal
 
 pub returns-in_err-turn-clause-front : goal.returns-in_err-turn-clause-front
@@ -26,4 +26,13 @@ returns-clause-front g c =
 pub returns-clause-version : goal.returns-clause-version
 returns-clause-version g c =
     version_ok c.args.session.now.waiting.capacity c.args.folder.now c.args.path c.args.text (standing_in c.args.session.now) (standing_in c.turn.new.session) _ _ c.in_ok-turn.ensures.turned c.turn-2.result
+    c.turn.new.session.waiting.capacity c.turn.new.folder c.turn.ensures.modules c.turn.ensures.same (standing_in c.turn-2.new.session) _ c.turn-2.ensures.turned
+
+pub turn-requires-2-clause-pins : goal.turn-requires-2-clause-pins
+turn-requires-2-clause-pins g c κs within =
+    put_may c.args.session.now.waiting.capacity c.args.folder.now c.args.path c.args.text (standing_in c.args.session.now) (standing_in c.turn.new.session) _ _ c.in_ok-turn.ensures.turned c.requires.pins
+
+pub returns-clause-lanes : goal.returns-clause-lanes
+returns-clause-lanes g c =
+    lanes_ok c.args.session.now.waiting.capacity c.args.folder.now c.args.path c.args.text (standing_in c.args.session.now) (standing_in c.turn.new.session) _ _ c.in_ok-turn.ensures.turned c.turn-2.result
     c.turn.new.session.waiting.capacity c.turn.new.folder c.turn.ensures.modules c.turn.ensures.same (standing_in c.turn-2.new.session) _ c.turn-2.ensures.turned

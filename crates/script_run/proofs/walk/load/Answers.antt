@@ -5,4 +5,4 @@ use Rattle.script_run.proofs.walk.load.Goals as goal
 
 pub returns-in_err-print-clause-front : goal.returns-in_err-print-clause-front
 returns-in_err-print-clause-front g c =
-    on_err _ _ (breaks_load _ (walk_state (standing_in c.recheck.new.self) (g.F.Folder.seen c.recheck.new.folder) (g.K.Sink.seen c.print.new.out)) (standing_in c.in_ok-session.session) _ _ _ c.in_ok-session.ensures.standing c.as_bytes.ensures.value c.print.ensures.front c.in_ok-line.ensures.rechecked)
+    on_err _ _ (breaks_load _ (walk_state (standing_in c.recheck.new.self) (g.F.Folder.seen c.recheck.new.folder) (g.K.Sink.seen c.print.new.out)) (standing_in c.in_ok-session.session) _ _ _ c.in_ok-session.ensures.standing c.as_slice.ensures.value c.print.ensures.front c.in_ok-line.ensures.rechecked)
