@@ -95,7 +95,8 @@ def folders_that_cannot_be_checked(root):
 def examples_of_codes():
     """The codes of the README's table, each with its example; None where that is said in words."""
     with open(f"{TOP}/README.md", encoding="utf-8") as readme:
-        return dict(re.findall(r"(?m)^\| `([a-z0-9-]+)` \|[^|]*\| (?:`(.*)`|.*) \|$", readme.read()))
+        rows = readme.read().partition("\n| code, details | example |\n")[2].partition("\n\n")[0]
+    return dict(re.findall(r"(?m)^\| `([a-z0-9-]+)`[^|]*\| (?:`(.*)`|.*) \|$", rows))
 
 
 def codes():
