@@ -1,5 +1,6 @@
 #!/usr/bin/env python3
-"""Checks that what the documents name is there: files, crates, definitions, functions and cases. It runs no program.
+"""Checks that what the documents name is there: files, crates, definitions, functions and cases; and that the README stays short. It
+runs no program.
 
     tests/documents.py [WORD]       (only the cases whose name has this word)
 
@@ -113,6 +114,12 @@ def each_crate_stands_in_the_map():
     yield from (it for it in crates() if it not in named)
 
 
+@case
+def each_crate_stands_in_what_is_proved():
+    named = set(re.findall(r"`(\w+)`", text_of("docs/PROVED.md")))
+    yield from (it for it in crates() if it not in named)
+
+
 def places(part):
     """Where the paths of a row or an item may begin: the top, crates/, and the crates that it names."""
     named = [it for it in re.findall(r"`(\w+)[`/]", part) if is_there(f"crates/{it}")]
@@ -170,11 +177,50 @@ def the_index_of_forms_of_proof_names_forms():
 
 
 @case
+def each_form_of_proof_stands_in_the_index():
+    index, forms = text_of("docs/PROVING.md").split("## Definitions", 1)
+    named = tuple(re.findall(r"(?<!\*)\*([^*|]+)\*(?!\*)", index))
+    yield from (it for it in re.findall(r"(?m)^- \*\*(.+?)\*\*", forms) if not it.startswith(named))
+
+
+def pages():
+    return ["README.md", "examples/EDITORS.md", *(f"docs/{it}" for it in sorted(os.listdir(f"{TOP}/docs")))]
+
+
+def anchors(page):
+    """The headings of a page, as links name them."""
+    return {re.sub(r"[^\w -]", "", it).lower().replace(" ", "-") for it in re.findall(r"(?m)^#+ (.+)$", text_of(page))}
+
+
+@case
 def links_lead_somewhere():
-    for page in ("README.md", "examples/EDITORS.md", *(f"docs/{it}" for it in sorted(os.listdir(f"{TOP}/docs")))):
-        for target in re.findall(r"\]\(([^)#:]+)(?:#[^)]*)?\)", text_of(page)):
-            if not is_there(os.path.normpath(f"{os.path.dirname(page)}/{target}")):
-                yield f"{page}: {target}"
+    for page in pages():
+        for target, heading in re.findall(r"\]\(([^)#:]*)(?:#([^)]*))?\)", text_of(page)):
+            path = os.path.normpath(f"{os.path.dirname(page)}/{target}") if target else page
+            if not is_there(path) or (heading and heading not in anchors(path)):
+                yield f"{page}: {target}#{heading}"
+
+
+MOST_WORDS, LONGEST_SENTENCE = 2_250, 29
+
+
+def words_in(text):
+    return [it for it in text.split() if re.search(r"[^|:-]", it)]
+
+
+def sentences(text):
+    """Those of a page, without what stands in code blocks; a cell of a table is by itself."""
+    text = re.sub(r"(?ms)^```.*?^```$", "\n", text)
+    for part in re.split(r"\n\s*\n|\n(?=- |\d+\. |\|)|(?<!\\)\|", text):
+        yield from re.split(r"(?<=[.?!:])\s+(?=[A-Z`*\[])", part.strip())
+
+
+@case
+def the_readme_is_short():
+    text = text_of("README.md")
+    if len(words_in(text)) > MOST_WORDS:
+        yield f"it has {len(words_in(text))} words"
+    yield from (f"the sentence {it!r}" for it in sentences(text) if len(words_in(it)) > LONGEST_SENTENCE)
 
 
 def main():
@@ -184,7 +230,7 @@ def main():
         wrong = list(test())
         failed += bool(wrong)
         name = test.__name__.replace("_", " ")
-        print(f"FAILED: {name}: {len(wrong)} are not there: {'; '.join(wrong[:60])}" if wrong else f"ok: {name}")
+        print(f"FAILED: {name}: {len(wrong)} are not so: {'; '.join(wrong[:60])}" if wrong else f"ok: {name}")
     print(f"{len(chosen) - failed} passed, {failed} failed")
     return 1 if failed or not chosen else 0
 
