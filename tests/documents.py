@@ -6,7 +6,7 @@ runs no program.
 
 In docs/RULES.md `CRATE/FILE: NAME, NAME` is a file of the crate's specs/ that defines these names in the second column, and one of
 its src/ in the third one.
-In docs/MAP.md and docs/PROVED.md a word in backquotes that looks like a path is one, from the top, from crates/, or from a crate
+In all documents but docs/PROVING.md a word in backquotes that looks like a path is one, from the top, from crates/, or from a crate
 that stands in the same row or item; and a name is one that some file of the crates has. The last line is
 'N passed, M failed'.
 """
@@ -101,11 +101,29 @@ def the_rules_name_what_is_there():
                 yield f"the case {row[3]!r}"
 
 
+def codes():
+    names = re.findall(r"(?m)^    (\w+),$", text_of("crates/check_values/src/codes.rt").split("enum Code")[1].split("}")[0])
+    return {re.sub("(?!^)([A-Z])", r"-\1", it).lower() for it in names}
+
+
 @case
 def each_code_has_a_rule():
-    codes = {re.sub("(?!^)([A-Z])", r"-\1", it).lower() for it in re.findall(r"(?m)^    (\w+),$", text_of("crates/check_values/src/codes.rt").split("enum Code")[1].split("}")[0])}
     told = set(re.findall(r"(?m)^\| `([a-z0-9-]+)` \|", text_of("docs/RULES.md").split("## Codes")[1]))
-    yield from sorted(codes ^ told)
+    yield from sorted(codes() ^ told)
+
+
+@case
+def the_numbers_of_codes_and_cases_are_told():
+    of_program, of_calls = (len(re.findall(rf"(?m)^{word} ", text_of("crates/run_cases/stdin"))) for word in ("status", "test"))
+    told = {
+        "README.md": [f"There are {len(codes())} codes"],
+        "docs/PROVED.md": [
+            f"{of_program} of its {of_program + of_calls} cases call",
+            f"The other {of_calls} are of calls below the program",
+            f"and {len(programs.written())} whole programs, each as a real folder",
+        ],
+    }
+    yield from (f"{page}: {it}" for page, all_told in told.items() for it in all_told if it not in text_of(page))
 
 
 @case
@@ -129,7 +147,7 @@ def places(part):
 def wrong_words(page):
     for part in re.split(r"\n(?=\||- |\d+\. |#|\n)", text_of(page)):
         for word in re.findall(r"`([^`\n]+)`", part):
-            if word in ("src/", "specs/", "proofs/", "must-fail/", "crates/NAME/must-fail/"):
+            if word in ("src/", "specs/", "proofs/", "must-fail/", "async", "ENOMEM") or "NAME" in word:
                 continue
             if PATH.fullmatch(word):
                 if not any(is_there(place + word) for place in places(part)):
@@ -156,6 +174,13 @@ def definitions_in(text):
         files = files or [it for it in os.listdir(f"{TOP}/crates/{crate}/specs") if it.endswith(".antt") and it not in ("Lib.antt", "formers.antt")]
         found.update(f"{crate}/specs/{it}" for it in files)
     return found
+
+
+@case
+def the_other_documents_name_what_is_there():
+    """But for docs/PROVING.md, whose forms have names of no crate."""
+    for page in ("README.md", "docs/DECISIONS.md", "docs/PROGRESS.md", "examples/EDITORS.md"):
+        yield from wrong_words(page)
 
 
 @case
