@@ -36,8 +36,13 @@ def text_of(path):
         return file.read()
 
 
+def uses():
+    """The libraries that each crate uses."""
+    return {name: used.split() for name, used in re.findall(r"(?m)^(\w+)[^#:\n]*:(.*)$", text_of("crates.txt"))}
+
+
 def crates():
-    return re.findall(r"(?m)^(\w+)[^#:\n]*:", text_of("crates.txt"))
+    return list(uses())
 
 
 @functools.lru_cache(maxsize=None)
@@ -130,6 +135,13 @@ def the_numbers_of_codes_and_cases_are_told():
 def each_crate_stands_in_the_map():
     named = set(re.findall(r"`(?:crates/)?(\w+)[`/]", text_of("docs/MAP.md")))
     yield from (it for it in crates() if it not in named)
+
+
+@case
+def each_crate_of_the_map_stands_on_those_above_it():
+    rows_of_crates = re.findall(r"(?m)^\| (`\w+`(?:, `\w+`)*) \|", text_of("docs/MAP.md"))
+    order = [it for row in rows_of_crates for it in re.findall(r"\w+", row) if it in uses()]
+    yield from (f"{it} on {below}" for at, it in enumerate(order) for below in uses()[it] if below in order[at:])
 
 
 @case
