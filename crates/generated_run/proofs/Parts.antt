@@ -85,8 +85,8 @@ pub new_may : (lanes : ℕ) (uses : List LaneUse) → uses ≡ replicate lanes n
 new_may lanes uses are = subst (MayAnswer 0) (sym are) (may_answer 0 0 (replicate lanes new_lane) (new_at_most lanes 0) (omega arith))
 
 -- there are as many as at first
-pub as_many_lanes : {L : Type 0} (use : L → LaneUse) (all : List L) (lanes : ℕ) (uses held : List LaneUse) → map use all ≡ held → held ≡ uses → uses ≡ replicate lanes new_lane → length all ≡ lanes
-as_many_lanes use all lanes uses held are still first = sym (length-map all use) ∙ ap length (are ∙ still ∙ first) ∙ length-replicate lanes new_lane
+pub as_many_lanes : {L : Type 0} (of_lane : L → LaneUse) (all : List L) (lanes : ℕ) (uses held : List LaneUse) → map of_lane all ≡ held → held ≡ uses → uses ≡ replicate lanes new_lane → length all ≡ lanes
+as_many_lanes of_lane all lanes uses held are still first = sym (length-map all of_lane) ∙ ap length (are ∙ still ∙ first) ∙ length-replicate lanes new_lane
 
 -- ---- what was written
 
