@@ -103,11 +103,14 @@ told_long F (x ∷ xs) [] all = absurd all
 told_long F (x ∷ xs) (y ∷ ys) all = ap suc (told_long F xs ys all.1)
 
 -- what holds of all that stand beside one another holds at a place
-pub told_at : {X Y : Type 0} (F : X → Y → Type 0) (xs : List X) (ys : List Y) (i : ℕ) (x : X) (y : Y) → AllZip F xs ys → i < length xs → F (get_or xs i x) (get_or ys i y)
-told_at F [] ys i x y all within = absurd (omega arith)
-told_at F (a ∷ xs) [] i x y all within = absurd all
-told_at F (a ∷ xs) (b ∷ ys) zero x y all within = all.0
-told_at F (a ∷ xs) (b ∷ ys) (suc i) x y all within = told_at F xs ys i x y all.1 (omega arith)
+there : {X Y : Type 0} (F : X → Y → Type 0) (xs : List X) (ys : List Y) (i : ℕ) (x : X) (y : Y) → AllZip F xs ys → i < length xs → F (get_or xs i x) (get_or ys i y)
+there F [] ys i x y all within = absurd (omega arith)
+there F (a ∷ xs) [] i x y all within = absurd all
+there F (a ∷ xs) (b ∷ ys) zero x y all within = all.0
+there F (a ∷ xs) (b ∷ ys) (suc i) x y all within = there F xs ys i x y all.1 (omega arith)
+
+pub told_at : {X Y : Type 0} (F : X → Y → Type 0) (xs : List X) (ys : List Y) (i : ℕ) (x : X) (y : Y) → AllZip F xs ys → i < length xs → x ≡ get_or xs i x → y ≡ get_or ys i y → F x y
+told_at F xs ys i x y all within is at = subst (λ a. F a y) (sym is) (subst (λ b. F (get_or xs i x) b) (sym at) (there F xs ys i x y all within))
 
 -- what was told of some asks, and then of one more
 print_more : (asks : List Ask) (told : List (Told Answered)) (printed : Bytes) (asked : Ask) (t : Told Answered) (text : Bytes) → PrintAllTold asks told printed → PrintsTold asked t text

@@ -4,7 +4,9 @@ use Rattle.script_reader.specs.Lines.{bytes_left, lines_left}
 use Rattle.script_run.specs.Transcript.{start}
 use Rattle.script_run.specs.Session.{standing_in}
 use Rattle.script_run.specs.Steps.{walk_state, HasWalked, Takes, Closes, Breaks}
+use Rattle.beside.specs.Server.{use_of}
 use Rattle.script_run.proofs.Givens.{begins, then_front, took_all}
+use Rattle.script_run.proofs.Lanes.{walked_lanes, used_many}
 use Rattle.script_run.proofs.Walks.{on_err, some_of, none_of, begin, more, stops, finishes, may_answer_line, front_of_close, front_of_walk, front_of_break, front_of_load}
 use Rattle.script_run.proofs.walk.run.Goals as goal
 
@@ -83,6 +85,14 @@ returns-in-Some-clause-ended g c =
     rw (c.into_server-server.ensures.heap, c.into_server-server.ensures.lanes)
     (finishes c.args.modules (length c.args.askers.items) c.args.listed.now before (g.S.Source.seen c.args.script.now) left c.loop-reader.taken mid now (g.S.Source.seen c.step.new.script) c.in-Some.ending c.in_ok-errors-in-Some.errors
     c.in_ok-errors-in-Some.ensures c.loop-reader.invariant.walked closes)
+
+pub returns-in-Some-clause-idle : goal.returns-in-Some-clause-idle
+returns-in-Some-clause-idle g c =
+    let mid = walk_state (standing_in c.loop-reader.session) (g.F.Folder.seen c.loop-reader.folder) (g.K.Sink.seen c.loop-reader.out) in
+    let now = walk_state (standing_in c.step.new.session) (g.F.Folder.seen c.step.new.folder) (g.K.Sink.seen c.step.new.out) in
+    let left = lines_left c.loop-reader.reader (g.S.Source.seen c.loop-reader.script).left in
+    let closes = some_of c.in_ok-ending.field-0 c.in-Some.ending (λ how. Closes how c.loop-reader.taken left mid now) c.in-Some.is c.in_ok-ending.ensures.closes in
+    (c.into_server-server.ensures.idle, used_many use_of c.into_server-server.result.lanes mid.standing now.standing (length c.args.askers.items) c.into_server-server.ensures.lanes closes.standing (walked_lanes c.loop-reader.invariant.walked.walk))
 
 pub loop-reader-preserved : goal.loop-reader-preserved
 loop-reader-preserved g c =
