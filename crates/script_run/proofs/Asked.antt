@@ -47,7 +47,7 @@ found_there state asked answer found is = subst (λ program. IsAnswer program as
 
 -- ---- what is told
 
-moment_of : Meaning Payload → Moment
+abbrev pub moment_of : Meaning Payload → Moment
 moment_of m = record { version = m.version; state = m.committed }
 
 -- it is told of some program
@@ -78,7 +78,6 @@ prints_told asked told (Err e) found printed = tt
 -- ---- what is told of some asks, printed one after the other
 
 answered_at : (m : Meaning Payload) (w : Pending) (ls : List LaneUse) (asked : Ask) (told : Told Answered) → IsToldOf (moment_of m) asked told → IsFound told.answer → IsAnsweredAt (standing_of m w ls) told.version asked told.answer
-unfolding moment_of
 answered_at m w ls asked told is found = (is.version, found_there m.committed asked told.answer found is.answer)
 
 answered_by : (m n : Meaning Payload) (w v : Pending) (ls : List LaneUse) (asked : Ask) (told : Told Answered) → IsToldOfEither (moment_of m) (moment_of n) asked told → IsFound told.answer
@@ -143,7 +142,6 @@ prints_all asks told i old now every past (answered, all, sofar) =
 -- an ask line: it is told of the committed version
 pub asked_there : (m n : Meaning Payload) (w : Pending) (ls ks : List LaneUse) (h : Held) (asked : Ask) (told : Told Answered) (text printed : Bytes) → held m w ls ≡ h → n ≡ m → IsToldOf (moment_of m) asked told
     → ks ≡ lanes_after ls (told.version ∷ []) → PrintsTold asked told text → printed ≡ text → HasAsked asked (standing_in h) (standing_of n w ks) printed
-unfolding moment_of
 asked_there m n w ls ks h asked told text printed at same is lanes prints both =
     subst (λ (k : Held). HasAsked asked (standing_in k) (standing_of n w ks) printed) at (
       (λ i. standing_of (same i) w ((lanes ∙ ap (λ (v : ℕ). lanes_after ls (v ∷ [])) is.version) i)),
