@@ -86,13 +86,17 @@ answered_by m n w v ls asked told (inl is) found = inl (answered_at m w ls asked
 answered_by m n w v ls asked told (inr is) found = inr (answered_at n v ls asked told is found)
 
 -- what is told beside a recheck, of either of two moments, are the answers beside it
-pub answers_told : (m n : Meaning Payload) (w v : Pending) (ls : List LaneUse) (asks : List Ask) (told : List (Told Answered)) (answered : Bytes) → AllZip (IsToldOfEither (moment_of m) (moment_of n)) asks told
+answers_told : (m n : Meaning Payload) (w v : Pending) (ls : List LaneUse) (asks : List Ask) (told : List (Told Answered)) (answered : Bytes) → AllZip (IsToldOfEither (moment_of m) (moment_of n)) asks told
     → PrintAllTold asks told answered → AnswersBeside (standing_of m w ls) (standing_of n v ls) asks (versions told) answered
 answers_told m n w v ls [] [] answered all prints = prints
 answers_told m n w v ls [] (t ∷ told) answered all prints = absurd all
 answers_told m n w v ls (asked ∷ asks) [] answered all prints = absurd all
 answers_told m n w v ls (asked ∷ asks) (t ∷ told) answered all (first, rest, one, others, is) =
     (t.answer, rest, answered_by m n w v ls asked t all.0 one.0, answers_told m n w v ls asks told rest all.1 others, is ∙ ap (λ (b : Bytes). b ++ rest) one.1)
+
+pub answers_told_at : (m n : Meaning Payload) (w v : Pending) (ls : List LaneUse) (asks : List Ask) (told list : List (Told Answered)) (answered : Bytes) → list ≡ told → AllZip (IsToldOfEither (moment_of m) (moment_of n)) asks told
+    → PrintAllTold asks list answered → AnswersBeside (standing_of m w ls) (standing_of n v ls) asks (versions told) answered
+answers_told_at m n w v ls asks told list answered same all prints = answers_told m n w v ls asks told answered all (subst (λ (ts : List (Told Answered)). PrintAllTold asks ts answered) same prints)
 
 -- they are as many
 pub told_long : {X Y : Type 0} (F : X → Y → Type 0) (xs : List X) (ys : List Y) → AllZip F xs ys → length xs ≡ length ys

@@ -136,6 +136,7 @@ fault_of e (Ok t) = e
 fault_of e (Err f) = f
 
 same_fault : {T E : Type 0} (r : Result T E) (e f : E) → r ≡ Err e → r ≡ Err f → e ≡ f
+unfolding fault_of
 same_fault r e f is of = ap (fault_of e) (sym is ∙ of)
 
 -- a fault that is handed on counts as before

@@ -106,7 +106,7 @@ returns-in-Some-clause-idle g c =
     let now = walk_state (standing_in c.step.new.session) (g.F.Folder.seen c.step.new.folder) (g.K.Sink.seen c.step.new.out) in
     let left = lines_left c.loop-reader.reader (g.S.Source.seen c.loop-reader.script).left in
     let closes = some_of c.in_ok-ending.field-0 c.in-Some.ending (λ how. Closes how c.loop-reader.taken left mid now) c.in-Some.is c.in_ok-ending.ensures.closes in
-    (c.into_server-server.ensures.idle, used_many use_of c.into_server-server.result.lanes mid.standing now.standing (length c.args.askers.items) c.into_server-server.ensures.lanes closes.standing (walked_lanes c.loop-reader.invariant.walked.walk))
+    (c.into_server-server.ensures.idle, used_many use_of c.into_server-server.result.lanes mid.standing now.standing (length c.args.askers.items) c.into_server-server.ensures.lanes closes.standing (walked_lanes {told = (g.F.Folder.seen c.args.folder.now).told} c.loop-reader.invariant.walked.walk))
 
 pub loop-reader-preserved : goal.loop-reader-preserved
 loop-reader-preserved g c =
