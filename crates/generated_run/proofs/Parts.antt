@@ -85,8 +85,8 @@ pub new_may : (lanes : ℕ) (uses : List LaneUse) → uses ≡ replicate lanes n
 new_may lanes uses are = subst (MayAnswer 0) (sym are) (may_answer 0 0 (replicate lanes new_lane) (new_at_most lanes 0) (omega arith))
 
 -- there are as many as at first
-pub as_many_lanes : {L : Type 0} (use : L → LaneUse) (all : List L) (lanes : ℕ) (uses held : List LaneUse) → map use all ≡ held → held ≡ uses → uses ≡ replicate lanes new_lane → length all ≡ lanes
-as_many_lanes use all lanes uses held are still first = sym (length-map all use) ∙ ap length (are ∙ still ∙ first) ∙ length-replicate lanes new_lane
+pub as_many_lanes : {L : Type 0} (of_lane : L → LaneUse) (all : List L) (lanes : ℕ) (uses held : List LaneUse) → map of_lane all ≡ held → held ≡ uses → uses ≡ replicate lanes new_lane → length all ≡ lanes
+as_many_lanes of_lane all lanes uses held are still first = sym (length-map all of_lane) ∙ ap length (are ∙ still ∙ first) ∙ length-replicate lanes new_lane
 
 -- ---- what was written
 
@@ -153,8 +153,8 @@ module _ (most : ℕ) (folder : Program) where
     pub round_lanes : (t u : Standing) (before mid now : Option Bytes) → HasDone (TakesTurn most folder the_edit s) t before mid → HasDone (TakesTurn most folder (line.Recheck 0 []) t) u mid now → u.lanes ≡ s.lanes
     round_lanes t u before mid now first check = check_lanes check.prints ∙ edit_lanes first.prints
 
-    pub put_may : (t : Standing) (before mid : Option Bytes) → HasDone (TakesTurn most folder the_edit s) t before mid → MayAnswer 0 s.lanes → MayAnswer 0 t.lanes
-    put_may t before mid first may = subst (MayAnswer 0) (sym (edit_lanes first.prints)) may
+    pub put_may : (t : Standing) (before mid : Option Bytes) → HasDone (TakesTurn most folder the_edit s) t before mid → (asks : ℕ) → asks ≡ 0 → MayAnswer 0 s.lanes → MayAnswer asks t.lanes
+    put_may t before mid first asks none may = subst (λ (n : ℕ). MayAnswer n t.lanes) (sym none) (subst (MayAnswer 0) (sym (edit_lanes first.prints)) may)
 
     pub put_version : (t : Standing) (before mid : Option Bytes) → HasDone (TakesTurn most folder the_edit s) t before mid → t.version ≤ s.version
     put_version t before mid first = edit_version first.prints
@@ -176,26 +176,30 @@ module _ (most : ℕ) (folder : Program) where
             unbegun (Behind (line.Recheck 0 [] ∷ []) t) (check.0, check.1, goes_one most folder (line.Recheck 0 []) t check.0 check.1 check.2) mid now same
         of_check (inr turn) = one_begun (line.Recheck 0 []) t mid now turn
 
-    -- the same by the results of both turns, where the session still takes as many modules, and the folder is the same
-    module _ (t : Standing) (before mid : Option Bytes) (first : HasDone (TakesTurn most folder the_edit s) t before mid) {X E : Type 0} (result : Result X E) (m : ℕ) (f : Program) (modules : m ≡ most) (same : f ≡ folder) where
-      turned : (u : Standing) (now : Option Bytes) → HasDone (TakesTurn m f (line.Recheck 0 []) t) u mid now → HasDone (TakesTurn most folder (line.Recheck 0 []) t) u mid now
+    -- the same by the results of both turns, where the session still takes as many modules, the folder is the same, and nothing is asked
+    module _ (t : Standing) (before mid : Option Bytes) (first : HasDone (TakesTurn most folder the_edit s) t before mid) {X E : Type 0} (result : Result X E) (m : ℕ) (f : Program) (said : Line) (modules : m ≡ most) (same : f ≡ folder)
+        (is : said ≡ line.Recheck 0 []) where
+      turned : (u : Standing) (now : Option Bytes) → HasDone (TakesTurn m f said t) u mid now → HasDone (TakesTurn most folder (line.Recheck 0 []) t) u mid now
       turned u now check =
-          subst (λ (k : ℕ). HasDone (TakesTurn k folder (line.Recheck 0 []) t) u mid now) modules (subst (λ (g : Program). HasDone (TakesTurn m g (line.Recheck 0 []) t) u mid now) same check)
+          subst (λ (k : ℕ). HasDone (TakesTurn k folder (line.Recheck 0 []) t) u mid now) modules
+          (subst (λ (g : Program). HasDone (TakesTurn m g (line.Recheck 0 []) t) u mid now) same (subst (λ (l : Line). HasDone (TakesTurn m f l t) u mid now) is check))
 
-      broken : (now : Option Bytes) → BreaksOff m f (line.Recheck 0 []) t mid now → BreaksOff most folder (line.Recheck 0 []) t mid now
-      broken now breaks = subst (λ (k : ℕ). BreaksOff k folder (line.Recheck 0 []) t mid now) modules (subst (λ (g : Program). BreaksOff m g (line.Recheck 0 []) t mid now) same breaks)
+      broken : (now : Option Bytes) → BreaksOff m f said t mid now → BreaksOff most folder (line.Recheck 0 []) t mid now
+      broken now breaks =
+          subst (λ (k : ℕ). BreaksOff k folder (line.Recheck 0 []) t mid now) modules
+          (subst (λ (g : Program). BreaksOff m g (line.Recheck 0 []) t mid now) same (subst (λ (l : Line). BreaksOff m f l t mid now) is breaks))
 
-      pub round_ok : (u : Standing) (now : Option Bytes) → OnOk result (HasDone (TakesTurn m f (line.Recheck 0 []) t) u mid now) → OnOk result (HasDone (Behind (put_and_check (path, text)) s) u before now)
-      round_ok u now check = on_ok_weaker result (λ is. round_done t u before mid now first (turned u now is)) check
+      pub round_ok : (u : Standing) (now : Option Bytes) → OnOk result (HasDone (TakesTurn m f said t) u mid now) → OnOk result (HasDone (Behind (put_and_check (path, text)) s) u before now)
+      round_ok u now check = on_ok_weaker result (λ taken. round_done t u before mid now first (turned u now taken)) check
 
-      pub round_err : EachHasSizes → (now : Option Bytes) → OnErr result (BreaksOff m f (line.Recheck 0 []) t mid now) → OnErr result (HasBegun (Behind (put_and_check (path, text)) s) before now)
-      round_err each now breaks = on_err_weaker result (λ is. check_breaks each t before mid now first (broken now is)) breaks
+      pub round_err : EachHasSizes → (now : Option Bytes) → OnErr result (BreaksOff m f said t mid now) → OnErr result (HasBegun (Behind (put_and_check (path, text)) s) before now)
+      round_err each now breaks = on_err_weaker result (λ off. check_breaks each t before mid now first (broken now off)) breaks
 
-      pub version_ok : (u : Standing) (now : Option Bytes) → OnOk result (HasDone (TakesTurn m f (line.Recheck 0 []) t) u mid now) → OnOk result (u.version ≤ s.version + 1)
-      version_ok u now check = on_ok_weaker result (λ is. round_version t u before mid now first (turned u now is)) check
+      pub version_ok : (u : Standing) (now : Option Bytes) → OnOk result (HasDone (TakesTurn m f said t) u mid now) → OnOk result (u.version ≤ s.version + 1)
+      version_ok u now check = on_ok_weaker result (λ taken. round_version t u before mid now first (turned u now taken)) check
 
-      pub lanes_ok : (u : Standing) (now : Option Bytes) → OnOk result (HasDone (TakesTurn m f (line.Recheck 0 []) t) u mid now) → OnOk result (u.lanes ≡ s.lanes)
-      lanes_ok u now check = on_ok_weaker result (λ is. round_lanes t u before mid now first (turned u now is)) check
+      pub lanes_ok : (u : Standing) (now : Option Bytes) → OnOk result (HasDone (TakesTurn m f said t) u mid now) → OnOk result (u.lanes ≡ s.lanes)
+      lanes_ok u now check = on_ok_weaker result (λ taken. round_lanes t u before mid now first (turned u now taken)) check
 
   -- ---- edit by edit
 

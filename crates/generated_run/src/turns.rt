@@ -4,7 +4,8 @@ ghost use Rattle.std.specs.List.{flat_map};
 ghost use Rattle.flow_base.specs.Program.{IsRising, paths_of};
 ghost use Rattle.flow_base.specs.Causes.{Counts};
 ghost use Rattle.beside.specs.Uses.{new_lane, MayAnswer};
-ghost use Rattle.script_run.specs.Session.{IsNewServer, asks_of, standing_in};
+ghost use Rattle.script_run.specs.Transcript.{asks_of};
+ghost use Rattle.script_run.specs.Session.{IsNewServer, standing_in};
 ghost use Rattle.generated_run.specs.Run.{put_and_check, Goes};
 ghost use Rattle.generated_run.specs.Steps.{HasDone, HasBegun, Loads, TakesTurn, BreaksOff};
 

@@ -47,7 +47,7 @@ found_there state asked answer found is = subst (λ program. IsAnswer program as
 
 -- ---- what is told
 
-moment_of : Meaning Payload → Moment
+abbrev pub moment_of : Meaning Payload → Moment
 moment_of m = record { version = m.version; state = m.committed }
 
 -- it is told of some program
@@ -78,7 +78,6 @@ prints_told asked told (Err e) found printed = tt
 -- ---- what is told of some asks, printed one after the other
 
 answered_at : (m : Meaning Payload) (w : Pending) (ls : List LaneUse) (asked : Ask) (told : Told Answered) → IsToldOf (moment_of m) asked told → IsFound told.answer → IsAnsweredAt (standing_of m w ls) told.version asked told.answer
-unfolding moment_of
 answered_at m w ls asked told is found = (is.version, found_there m.committed asked told.answer found is.answer)
 
 answered_by : (m n : Meaning Payload) (w v : Pending) (ls : List LaneUse) (asked : Ask) (told : Told Answered) → IsToldOfEither (moment_of m) (moment_of n) asked told → IsFound told.answer
@@ -87,13 +86,17 @@ answered_by m n w v ls asked told (inl is) found = inl (answered_at m w ls asked
 answered_by m n w v ls asked told (inr is) found = inr (answered_at n v ls asked told is found)
 
 -- what is told beside a recheck, of either of two moments, are the answers beside it
-pub answers_told : (m n : Meaning Payload) (w v : Pending) (ls : List LaneUse) (asks : List Ask) (told : List (Told Answered)) (answered : Bytes) → AllZip (IsToldOfEither (moment_of m) (moment_of n)) asks told
+answers_told : (m n : Meaning Payload) (w v : Pending) (ls : List LaneUse) (asks : List Ask) (told : List (Told Answered)) (answered : Bytes) → AllZip (IsToldOfEither (moment_of m) (moment_of n)) asks told
     → PrintAllTold asks told answered → AnswersBeside (standing_of m w ls) (standing_of n v ls) asks (versions told) answered
 answers_told m n w v ls [] [] answered all prints = prints
 answers_told m n w v ls [] (t ∷ told) answered all prints = absurd all
 answers_told m n w v ls (asked ∷ asks) [] answered all prints = absurd all
 answers_told m n w v ls (asked ∷ asks) (t ∷ told) answered all (first, rest, one, others, is) =
     (t.answer, rest, answered_by m n w v ls asked t all.0 one.0, answers_told m n w v ls asks told rest all.1 others, is ∙ ap (λ (b : Bytes). b ++ rest) one.1)
+
+pub answers_told_at : (m n : Meaning Payload) (w v : Pending) (ls : List LaneUse) (asks : List Ask) (told list : List (Told Answered)) (answered : Bytes) → list ≡ told → AllZip (IsToldOfEither (moment_of m) (moment_of n)) asks told
+    → PrintAllTold asks list answered → AnswersBeside (standing_of m w ls) (standing_of n v ls) asks (versions told) answered
+answers_told_at m n w v ls asks told list answered same all prints = answers_told m n w v ls asks told answered all (subst (λ (ts : List (Told Answered)). PrintAllTold asks ts answered) same prints)
 
 -- they are as many
 pub told_long : {X Y : Type 0} (F : X → Y → Type 0) (xs : List X) (ys : List Y) → AllZip F xs ys → length xs ≡ length ys
@@ -103,11 +106,14 @@ told_long F (x ∷ xs) [] all = absurd all
 told_long F (x ∷ xs) (y ∷ ys) all = ap suc (told_long F xs ys all.1)
 
 -- what holds of all that stand beside one another holds at a place
-pub told_at : {X Y : Type 0} (F : X → Y → Type 0) (xs : List X) (ys : List Y) (i : ℕ) (x : X) (y : Y) → AllZip F xs ys → i < length xs → F (get_or xs i x) (get_or ys i y)
-told_at F [] ys i x y all within = absurd (omega arith)
-told_at F (a ∷ xs) [] i x y all within = absurd all
-told_at F (a ∷ xs) (b ∷ ys) zero x y all within = all.0
-told_at F (a ∷ xs) (b ∷ ys) (suc i) x y all within = told_at F xs ys i x y all.1 (omega arith)
+there : {X Y : Type 0} (F : X → Y → Type 0) (xs : List X) (ys : List Y) (i : ℕ) (x : X) (y : Y) → AllZip F xs ys → i < length xs → F (get_or xs i x) (get_or ys i y)
+there F [] ys i x y all within = absurd (omega arith)
+there F (a ∷ xs) [] i x y all within = absurd all
+there F (a ∷ xs) (b ∷ ys) zero x y all within = all.0
+there F (a ∷ xs) (b ∷ ys) (suc i) x y all within = there F xs ys i x y all.1 (omega arith)
+
+pub told_at : {X Y : Type 0} (F : X → Y → Type 0) (xs : List X) (ys : List Y) (i : ℕ) (x : X) (y : Y) → AllZip F xs ys → i < length xs → x ≡ get_or xs i x → y ≡ get_or ys i y → F x y
+told_at F xs ys i x y all within is at = subst (λ a. F a y) (sym is) (subst (λ b. F (get_or xs i x) b) (sym at) (there F xs ys i x y all within))
 
 -- what was told of some asks, and then of one more
 print_more : (asks : List Ask) (told : List (Told Answered)) (printed : Bytes) (asked : Ask) (t : Told Answered) (text : Bytes) → PrintAllTold asks told printed → PrintsTold asked t text
@@ -140,7 +146,6 @@ prints_all asks told i old now every past (answered, all, sofar) =
 -- an ask line: it is told of the committed version
 pub asked_there : (m n : Meaning Payload) (w : Pending) (ls ks : List LaneUse) (h : Held) (asked : Ask) (told : Told Answered) (text printed : Bytes) → held m w ls ≡ h → n ≡ m → IsToldOf (moment_of m) asked told
     → ks ≡ lanes_after ls (told.version ∷ []) → PrintsTold asked told text → printed ≡ text → HasAsked asked (standing_in h) (standing_of n w ks) printed
-unfolding moment_of
 asked_there m n w ls ks h asked told text printed at same is lanes prints both =
     subst (λ (k : Held). HasAsked asked (standing_in k) (standing_of n w ks) printed) at (
       (λ i. standing_of (same i) w ((lanes ∙ ap (λ (v : ℕ). lanes_after ls (v ∷ [])) is.version) i)),

@@ -1,7 +1,7 @@
 -- What the lanes answer beside a recheck.
-use Rattle.std.proofs.Common.{◌≡◌, ℕ, suc, ◌+◌, ◌≤◌, List, [], ◌∷◌, ◌++◌, length, Option, refl, sym, ap, ◌∙◌, subst, arith, inl, inr, ◌⊎◌}
+use Rattle.std.proofs.Common.{◌≡◌, ℕ, suc, ◌+◌, ◌≤◌, List, [], ◌∷◌, ◌++◌, length, map, Option, refl, sym, ap, ◌∙◌, subst, arith, inl, inr, ◌⊎◌}
 use Rattle.std.specs.List.{AllByRecursion}
-use Rattle.std.proofs.lemmas.List.{append-nil, length-replicate}
+use Rattle.std.proofs.lemmas.List.{append-nil, length-map, length-replicate}
 use Rattle.flow_base.specs.Program.{Bytes, Program}
 use Rattle.asks.specs.declared.ask.Ask.{Ask}
 use Rattle.answers_law.specs.Answers.{Answered}
@@ -118,3 +118,7 @@ turn_lanes (answers s asked answer is) = lanes_long s.lanes (s.version ∷ [])
 pub walked_lanes : {most lanes : ℕ} {told : Option Program} {listed taken : List Bytes} {s : Standing} {f : ℕ} {p : Bytes} → Walked most lanes told listed taken s f p → length s.lanes ≡ lanes
 walked_lanes {lanes = lanes} (loads s f p load) = ap (λ (ls : List LaneUse). length ls) (recheck_lanes load) ∙ length-replicate lanes new_lane
 walked_lanes (goes taken s f p bytes said t more_f more_p walk few short says turn) = turn_lanes turn ∙ walked_lanes walk
+
+-- what has these uses are as many as they
+pub used_many : {A : Type 0} (f : A → LaneUse) (xs : List A) (s t : Standing) (lanes : ℕ) → map f xs ≡ t.lanes → t ≡ s → length s.lanes ≡ lanes → length xs ≡ lanes
+used_many f xs s t lanes uses same many = sym (length-map xs f) ∙ (ap (λ (ls : List LaneUse). length ls) uses ∙ (ap (λ (x : Standing). length x.lanes) same ∙ many))

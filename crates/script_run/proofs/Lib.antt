@@ -5,6 +5,7 @@ pub mod Completing
 pub mod Fronts
 pub mod Givens
 pub mod Lanes
+pub mod Latest
 pub mod NewServers
 pub mod Once
 pub mod PendingEdits

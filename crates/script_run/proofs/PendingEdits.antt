@@ -34,12 +34,13 @@ use Rattle.analyst.specs.Work.{Work}
 use Rattle.beside.specs.Beside.{MayRecheck, HasRechecked, MayHaveRechecked, state_of}
 use Rattle.beside.specs.Recheck.{Commits, HasRoom, RecheckState, Rechecked, CountsReads}
 use Rattle.beside.specs.Uses.{LaneUse}
+use Rattle.beside.specs.Server.{IsRunning, uses_of}
 use Rattle.beside.specs.Writers.{meaning_in}
 use Rattle.beside.specs.declared.serving.Server.{Server}
 use Rattle.beside.specs.Outcome.{Outcome}
 use Rattle.beside.specs.Outcome.TheVariants as outcome
 use Rattle.script_run.specs.Transcript.{to_touch}
-use Rattle.script_run.specs.Session.{modules_in, program_in, program_with, held, StandOnCommitted, AreFew, CountsNoMore, StandsStill, IsReady, IsEmptyHeap, HasEnded, Limits}
+use Rattle.script_run.specs.Session.{modules_in, program_in, program_with, held, held_by, StandOnCommitted, AreFew, CountsNoMore, StandsStill, IsReady, IsEmptyHeap, HasEnded, Limits}
 use Rattle.script_run.proofs.Sessions.{first_modules}
 
 -- ---- paths to be read, put one behind the other
@@ -201,13 +202,18 @@ few_edited m root before after path edit (Err e) is ok err size few stood =
     few_at m root before.edits after.edits before.capacity after.capacity is err size (few_there m before stood root is)
 
 -- after a deletion
-pub ready_deleted : (m : Meaning Payload) (ls : List LaneUse) (before now : Pending) → IsReady (held m before ls) → CountsNoMore before now → StandsStill before now → now.capacity ≡ before.capacity → IsReady (held m now ls)
+ready_deleted : (m : Meaning Payload) (ls : List LaneUse) (before now : Pending) → IsReady (held m before ls) → CountsNoMore before now → StandsStill before now → now.capacity ≡ before.capacity → IsReady (held m now ls)
 ready_deleted m ls before now ready no_more stands size = record {
   closed = ready.closed;
   room = subst (HasRoom m) (sym size) ready.room;
   few = (let less = no_more (paths_of_rows (modules_in m.committed)) in let few = ready.few in omega (arith, less, size, few));
   stands = stands (paths_of_rows (modules_in m.committed)) ready.stands;
 }
+
+-- and a session with it
+pub still_ready : (server : Server) (before now : Pending) (analysts askers : ℕ) → IsReady (held_by server before) × IsRunning server × (0 < analysts) × (askers ≡ length server.lanes) → CountsNoMore before now → StandsStill before now
+    → now.capacity ≡ before.capacity → IsReady (held_by server now) × IsRunning server × (0 < analysts) × (askers ≡ length server.lanes)
+still_ready server before now analysts askers (ready, running, some, many) no_more stands size = (ready_deleted (meaning_in server.writer) (uses_of server.lanes) before now ready no_more stands size, running, some, many)
 
 -- where no edit waits
 counted_none : (root : Root) → counted (paths_of root) [] ≡ length root.modules

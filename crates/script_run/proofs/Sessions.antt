@@ -49,7 +49,7 @@ use Rattle.script_print.specs.Printed.{done_line, cancelled_line, fault_line, re
 use Rattle.script_line.specs.declared.line.Line.{Line}
 use Rattle.script_line.specs.declared.line.Line.TheVariants as line
 use Rattle.script_run.specs.Checked.{HasErrorCount}
-use Rattle.script_run.specs.Transcript.{Standing, start, to_touch, with_edit, modules_counted, GoesThrough, ComesTo, Rechecks, done, cancelled, cannot_read, AnswersBeside, Turns, blank, edits, refuses, touches, refuses_touch, deletes, rechecks, answers}
+use Rattle.script_run.specs.Transcript.{Standing, start, to_touch, with_edit, modules_counted, GoesThrough, ComesTo, Rechecks, done, cancelled, cannot_read, AnswersBeside, RechecksBeside, Turns, blank, edits, refuses, touches, refuses_touch, deletes, rechecks, answers}
 use Rattle.script_run.specs.Session.{modules_of, modules_in, program_in, program_with, Held, held, held_by, standing_of, standing_in, IsNewServer, faults_of, faults_in, faults_at, count_in, HasPlace, recheck_state, StopsAt, HasEnded, HasRechecked, HasTurned, HasAsked, HasEdited, HasDeleted, Limits, Prints, PrintsEdit}
 use Rattle.script_run.proofs.Checks.{same_errors, each_module}
 
@@ -314,8 +314,8 @@ module _ (stop : ℕ) (asks : List Ask) (before now : FolderSeen) (m m' : Meanin
       → HasEnded stop before now (held m w ls) (held m' w' ls') o → CountsReads before now o → before.faults < 2 ^ 64 → version ≡ m'.version → Prints o version line
       → AnswersBeside (standing_of m w ls) (standing_of m' w' ls) asks versions answered → NoneFalls ls versions → ls' ≡ lanes_after ls versions → printed ≡ line ++ answered
       → HasRechecked stop asks (standing_of m w ls) (standing_of m' w' ls') printed before now
-  rechecked_at o version line printed answered versions fits ended reads bounded is prints answers falls_not lanes both =
-      let one = heap_rechecked stop fits (recheck_state before w m ended.asked ended.work) (recheck_state now w' m' ended.asked' ended.work') ls ended.stops bounded o version line ended.rechecked reads is prints in
+  rechecked_at o version line printed answered versions low ended reads bounded is prints beside falls_not lanes both =
+      let one = heap_rechecked stop low (recheck_state before w m ended.asked ended.work) (recheck_state now w' m' ended.asked' ended.work') ls ended.stops bounded o version line ended.rechecked reads is prints in
       record {
         faults = one.faults;
         rechecks = record {
@@ -324,7 +324,7 @@ module _ (stop : ℕ) (asks : List Ask) (before now : FolderSeen) (m m' : Meanin
           rechecks = one.rechecks;
           versions = versions;
           answered = answered;
-          answers = answers;
+          answers = beside;
           falls_not = falls_not;
           leads = ap (standing_of m' w') lanes;
           prints = both;
@@ -336,9 +336,9 @@ module _ (stop : ℕ) (asks : List Ask) (before now : FolderSeen) (m m' : Meanin
       → HasEnded stop before now (held m w ls) (held m' w' ls') o → CountsReads before now o → before.faults < 2 ^ 64 → version ≡ m'.version → Prints o version line
       → AnswersBeside (standing_of m w ls) (standing_of m' w' ls) asks versions answered → NoneFalls ls versions → ls' ≡ lanes_after ls versions → printed ≡ line ++ answered
       → HasRechecked stop asks (standing_in h) (standing_of m' w' ls') printed before now
-  rechecked h o version line printed answered versions fits at ended reads bounded is prints answers falls_not lanes both =
+  rechecked h o version line printed answered versions low at ended reads bounded is prints beside falls_not lanes both =
       subst (λ (g : Held). HasRechecked stop asks (standing_in g) (standing_of m' w' ls') printed before now) at
-      (rechecked_at o version line printed answered versions fits ended reads bounded is prints answers falls_not lanes both)
+      (rechecked_at o version line printed answered versions low ended reads bounded is prints beside falls_not lanes both)
 
 -- ---- edits
 
@@ -397,10 +397,11 @@ pub turned_delete : (most : ℕ) (said : Line) (path : Bytes) (s s' : Standing) 
 turned_delete most said path s s' printed now bounded is (same, none) =
     of_turn most said (line.Delete path) s s' [] printed 0 now now is none (subst (λ t. Turns most now.told (line.Delete path) s t 0 []) (sym same) (deletes s path)) (rose_none now.faults now.faults bounded refl)
 
-pub turned_recheck : (most : ℕ) (said : Line) (stop : ℕ) (asks : List Ask) (s s' : Standing) (printed : Bytes) (before now : FolderSeen) → said ≡ line.Recheck stop asks → HasRechecked stop asks s s' printed before now
+pub turned_recheck : (most : ℕ) (said : Line) (stop : ℕ) (asks given : List Ask) (s s' : Standing) (printed : Bytes) (before now : FolderSeen) → said ≡ line.Recheck stop asks → given ≡ asks → HasRechecked stop given s s' printed before now
     → HasTurned most said s s' printed before now
-turned_recheck most said stop asks s s' printed before now is recheck =
-    of_turn most said (line.Recheck stop asks) s s' printed printed recheck.faults before now is refl (rechecks s s' stop asks recheck.faults printed recheck.rechecks) recheck.counted
+turned_recheck most said stop asks given s s' printed before now is same recheck =
+    of_turn most said (line.Recheck stop asks) s s' printed printed recheck.faults before now is refl
+    (rechecks s s' stop asks recheck.faults printed (subst (λ (its : List Ask). RechecksBeside before.told stop its s s' recheck.faults printed) same recheck.rechecks)) recheck.counted
 
 pub turned_ask : (most : ℕ) (said : Line) (asked : Ask) (s s' : Standing) (printed : Bytes) (now : FolderSeen) → now.faults < 2 ^ 64 → said ≡ line.Ask asked → HasAsked asked s s' printed
     → HasTurned most said s s' printed now now

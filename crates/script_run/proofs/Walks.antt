@@ -1,11 +1,13 @@
 -- The walk over the lines of a script, step by step.
 use Rattle.std.proofs.Common.{◌≡◌, ℕ, ◌+◌, ◌*◌, ◌≤◌, List, [], ◌∷◌, ◌++◌, length, Option, Some, None, refl, sym, ap, ◌∙◌, subst, arith, append_assoc, length-append}
 use Rattle.std.specs.Option.{option_map}
-use Rattle.std.specs.Prelude.{Result, Ok, Err, OnErr, IfSome, IfNone}
+use Rattle.std.specs.Prelude.{Result, Ok, Err, IsErrOf, OnErr, IfSome, IfNone}
 use Rattle.flow_base.specs.Program.{Bytes, Program}
-use Rattle.flow_base.specs.Causes.{RoseBy}
+use Rattle.flow_base.specs.Causes.{raised, RoseBy, Counts}
 use Rattle.flow_base.specs.Outside.{WhereTold, appended, HoldsFront}
 use Rattle.flow_base.specs.Seen.{FolderSeen, SourceSeen, SinkSeen, Outside}
+use Rattle.heap_core.specs.Meaning.{Meaning}
+use Rattle.payloads.specs.declared.payload.Payload.{Payload}
 use Rattle.affected_sizes.specs.Law.{EachHasSizes}
 use Rattle.answers_law.specs.Law.{EachHasAnswer}
 use Rattle.beside.specs.Uses.{LaneUse, MayAnswer, AnsweredAtMost}
@@ -16,7 +18,7 @@ use Rattle.script_reader.specs.Lines.{lines_left, TakesLine}
 use Rattle.script_run.specs.Checked.{HasErrorCount}
 use Rattle.script_run.specs.declared.ending.WalkEnd.{WalkEnd}
 use Rattle.script_run.specs.Transcript.{Standing, MOST_LINES, start, Rechecks, done, cancelled, cannot_read, RechecksBeside, asks_of, Turns, blank, edits, refuses, touches, refuses_touch, deletes, rechecks, answers, Walked, loads, goes, Ends, last_line, IsRun, IsRunSoFar}
-use Rattle.script_run.specs.Session.{HasRechecked, HasTurned}
+use Rattle.script_run.specs.Session.{program_in, HasRechecked, HasTurned}
 use Rattle.script_run.specs.declared.command.Command.{Command}
 use Rattle.script_run.specs.declared.command.Command.TheVariants as command
 use Rattle.script_run.specs.Steps.{WalkState, Reads, IsTaken, HasEnd, HaveAnswered, RoseByAtLeast, Takes, Closes, Breaks, silent, in_turn, in_end, BreaksOff, unsaid, begun, HasLoaded, BreaksLoad, unsaid_load, begun_load, HasWalked, HasRun, TookAllGiven, HasStopped, HasFront}
@@ -129,6 +131,25 @@ pub on_err : {T E : Type 0} (r : Result T E) (P : Type 0) → P → OnErr r P
 on_err (Ok t) P p = tt
 on_err (Err e) P p = p
 
+fault_of : {T E : Type 0} → E → Result T E → E
+fault_of e (Ok t) = e
+fault_of e (Err f) = f
+
+same_fault : {T E : Type 0} (r : Result T E) (e f : E) → r ≡ Err e → r ≡ Err f → e ≡ f
+unfolding fault_of
+same_fault r e f is of = ap (fault_of e) (sym is ∙ of)
+
+-- a fault that is handed on counts as before
+pub counts_handed : {T U E : Type 0} (r : Result T E) (s : Result U E) (e f fault : E) (before between now : ℕ) → r ≡ Err f → s ≡ Err e → e ≡ f → between ≡ before → Counts (IsErrOf r fault) between now → Counts (IsErrOf s fault) before now
+counts_handed {T} {U} {E} r s e f fault before between now was is same from counts =
+    let there : s ≡ Err fault → r ≡ Err fault = λ of. was ∙ ap (λ (x : E). Err x) (sym same ∙ same_fault s e fault is of) in
+    let back : r ≡ Err fault → s ≡ Err fault = λ of. is ∙ ap (λ (x : E). Err x) (same ∙ same_fault r f fault was of) in
+    record {
+      later = (let later = counts.later in omega (arith, from, later));
+      rises = λ of. counts.rises (there of) ∙ ap raised from;
+      stays = λ not_so. counts.stays (λ of. not_so (back of)) ∙ from;
+    }
+
 pub some_of : {A : Type 0} (o : Option A) (x : A) (P : A → Type 0) → o ≡ Some x → IfSome o P → P x
 some_of o x P is holds = subst (λ o. IfSome o P) is holds
 
@@ -224,6 +245,13 @@ module _ (most lanes : ℕ) (listed : List Bytes) (script : Option (List Bytes))
   }
 
 -- ---- whole runs
+
+-- what is left at the end means what the session did
+pub leaves_same : (most lanes : ℕ) (listed : List Bytes) (how : WalkEnd) (errors : ℕ) (m n : Meaning Payload) (ls ks : List LaneUse) (before now : Outside) → m ≡ n → ls ≡ ks
+    → HasRun most lanes listed how errors (program_in n.committed) n.version ks before now → HasRun most lanes listed how errors (program_in m.committed) m.version ls before now
+leaves_same most lanes listed how errors m n ls ks before now same uses run =
+    subst (λ (k : Meaning Payload). HasRun most lanes listed how errors (program_in k.committed) k.version ls before now) (sym same)
+    (subst (λ (us : List LaneUse). HasRun most lanes listed how errors (program_in n.committed) n.version us before now) (sym uses) run)
 
 -- the outside with this script, between two lines
 abbrev pub outside_at : WalkState → SourceSeen → Outside

@@ -147,7 +147,6 @@ impl<A: Analyst + PlaceAnalyst + Send + Drop> Session<A> {
     }
 
     /// From the next recheck on a path is no module. This prints nothing.
-    #[tactic(auto, using(crate::proofs::PendingEdits::ready_deleted))]
     fn delete(&mut self, path: Path) -> Result<Vec<u8>, NoMemory>
         ensures deleted { IfOk result (λ printed. HasDeleted path (standing_in self.old) (standing_in self.new) printed.items) }
         ensures modules { self.new.waiting.capacity ≡ self.old.waiting.capacity }

@@ -1,9 +1,11 @@
-use Rattle.std.proofs.Common.{refl, ap, ◌∙◌, arith, length}
+use Rattle.std.proofs.Common.{rules, refl, ap, ◌∙◌, arith, length}
+use Rattle.std.proofs.lemmas.Result.{err_from_is_err_and}
 use Rattle.heap_core.specs.Meaning.{Meaning}
 use Rattle.payloads.specs.declared.payload.Payload.{Payload}
 use Rattle.beside.specs.Server.{use_of}
+use Rattle.script_run.specs.declared.ending.RunFault.TheVariants.{SinkFault}
 use Rattle.script_run.specs.Session.{standing_in, program_in}
-use Rattle.script_run.proofs.Walks.{on_err}
+use Rattle.script_run.proofs.Walks.{on_err, counts_handed}
 use Rattle.generated_run.specs.Steps.{HasDone, HasBegun}
 use Rattle.generated_run.proofs.InOrder.{is_folder, made_distinct, as_many}
 use Rattle.generated_run.proofs.Parts.{all_rounds, not_begun, load_stops, edits_stop, line_stops, count_stops, has_generated, new_may, as_many_lanes}
@@ -74,3 +76,14 @@ returns-clause-idle g c = (
   as_many_lanes use_of c.into_server.result.lanes (length c.args.askers.items) c.in_ok-session.session.lanes c.put_and_check_all.new.session.lanes c.into_server.ensures.lanes c.in_ok-put_and_check_all.ensures.lanes
       c.in_ok-session.ensures.lanes,
 )
+
+pub returns-in_err-put_and_check_all-clause-counts : goal.returns-in_err-put_and_check_all-clause-counts
+returns-in_err-put_and_check_all-clause-counts g c =
+    let p = err_from_is_err_and c.from_residual-in_err-put_and_check_all.result c.from_residual-in_err-put_and_check_all.ensures.1 in
+    counts_handed c.put_and_check_all.result c.from_residual-in_err-put_and_check_all.result p.0 _ SinkFault _ _ _ c.in_err-put_and_check_all.was p.1 p.2 (c.in_ok-session.ensures.counts.stays (search rules)) c.put_and_check_all.ensures.counts
+
+pub returns-in_err-close-clause-counts : goal.returns-in_err-close-clause-counts
+returns-in_err-close-clause-counts g c =
+    let p = err_from_is_err_and c.from_residual-in_err-close.result c.from_residual-in_err-close.ensures.1 in
+    counts_handed c.close.result c.from_residual-in_err-close.result p.0 _ SinkFault _ _ _ c.in_err-close.was p.1 p.2 (c.in_ok-put_and_check_all.ensures.counts.stays (search rules) ∙ c.in_ok-session.ensures.counts.stays (search rules))
+    c.close.ensures.counts

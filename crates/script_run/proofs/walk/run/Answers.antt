@@ -1,11 +1,16 @@
 use Rattle.std.proofs.Common.{rules, refl, sym, ◌∙◌, subst, arith, [], length}
+use Rattle.std.proofs.lemmas.Result.{err_from_is_err_and}
 use Rattle.flow_base.specs.Seen.{outside}
 use Rattle.script_reader.specs.Lines.{bytes_left, lines_left}
 use Rattle.script_run.specs.Transcript.{start}
 use Rattle.script_run.specs.Session.{standing_in}
 use Rattle.script_run.specs.Steps.{walk_state, HasWalked, Takes, Closes, Breaks}
+use Rattle.beside.specs.Server.{use_of, uses_of}
+use Rattle.beside.specs.Writers.{meaning_in}
+use Rattle.script_run.specs.declared.ending.RunFault.TheVariants.{ScriptFault, SinkFault}
 use Rattle.script_run.proofs.Givens.{begins, then_front, took_all}
-use Rattle.script_run.proofs.Walks.{on_err, some_of, none_of, begin, more, stops, finishes, may_answer_line, front_of_close, front_of_walk, front_of_break, front_of_load}
+use Rattle.script_run.proofs.Lanes.{walked_lanes, used_many}
+use Rattle.script_run.proofs.Walks.{on_err, counts_handed, leaves_same, some_of, none_of, begin, more, stops, finishes, may_answer_line, front_of_close, front_of_walk, front_of_break, front_of_load}
 use Rattle.script_run.proofs.walk.run.Goals as goal
 
 pub returns-in_err-session-clause-front : goal.returns-in_err-session-clause-front
@@ -51,6 +56,16 @@ returns-in_err-ending-clause-stopped g c = λ is.
     (took_all c.loop-reader.invariant.walked.lines (g.S.Source.seen c.args.script.now).left (bytes_left c.loop-reader.reader (g.S.Source.seen c.loop-reader.script).left) (g.S.Source.seen c.step.new.script).left
     c.step.new.reader c.loop-reader.invariant.walked.leaves c.loop-reader.invariant.front (search rules) (search rules))
 
+pub returns-in_err-ending-clause-script_counts : goal.returns-in_err-ending-clause-script_counts
+returns-in_err-ending-clause-script_counts g c =
+    let p = err_from_is_err_and c.from_residual-in_err-ending.result c.from_residual-in_err-ending.ensures.1 in
+    counts_handed c.step.result c.from_residual-in_err-ending.result p.0 _ ScriptFault _ _ _ c.in_err-ending.was p.1 p.2 c.loop-reader.invariant.script_faults c.step.ensures.script_counts
+
+pub returns-in_err-ending-clause-sink_counts : goal.returns-in_err-ending-clause-sink_counts
+returns-in_err-ending-clause-sink_counts g c =
+    let p = err_from_is_err_and c.from_residual-in_err-ending.result c.from_residual-in_err-ending.ensures.1 in
+    counts_handed c.step.result c.from_residual-in_err-ending.result p.0 _ SinkFault _ _ _ c.in_err-ending.was p.1 p.2 c.loop-reader.invariant.sink_faults c.step.ensures.sink_counts
+
 pub returns-in_err-ending-clause-front : goal.returns-in_err-ending-clause-front
 returns-in_err-ending-clause-front g c =
     let before = walk_state (start c.args.listed.now (length c.args.askers.items)) (g.F.Folder.seen c.args.folder.now) (g.K.Sink.seen c.args.out.now) in
@@ -80,9 +95,18 @@ returns-in-Some-clause-ended g c =
     let now = walk_state (standing_in c.step.new.session) (g.F.Folder.seen c.step.new.folder) (g.K.Sink.seen c.step.new.out) in
     let left = lines_left c.loop-reader.reader (g.S.Source.seen c.loop-reader.script).left in
     let closes = some_of c.in_ok-ending.field-0 c.in-Some.ending (λ how. Closes how c.loop-reader.taken left mid now) c.in-Some.is c.in_ok-ending.ensures.closes in
-    rw (c.into_server-server.ensures.heap, c.into_server-server.ensures.lanes)
+    leaves_same c.args.modules (length c.args.askers.items) c.args.listed.now c.in-Some.ending c.in_ok-errors-in-Some.errors (meaning_in c.into_server-server.result.writer) c.step.new.session.heap (uses_of c.into_server-server.result.lanes)
+    c.step.new.session.lanes _ _ c.into_server-server.ensures.heap c.into_server-server.ensures.lanes
     (finishes c.args.modules (length c.args.askers.items) c.args.listed.now before (g.S.Source.seen c.args.script.now) left c.loop-reader.taken mid now (g.S.Source.seen c.step.new.script) c.in-Some.ending c.in_ok-errors-in-Some.errors
     c.in_ok-errors-in-Some.ensures c.loop-reader.invariant.walked closes)
+
+pub returns-in-Some-clause-idle : goal.returns-in-Some-clause-idle
+returns-in-Some-clause-idle g c =
+    let mid = walk_state (standing_in c.loop-reader.session) (g.F.Folder.seen c.loop-reader.folder) (g.K.Sink.seen c.loop-reader.out) in
+    let now = walk_state (standing_in c.step.new.session) (g.F.Folder.seen c.step.new.folder) (g.K.Sink.seen c.step.new.out) in
+    let left = lines_left c.loop-reader.reader (g.S.Source.seen c.loop-reader.script).left in
+    let closes = some_of c.in_ok-ending.field-0 c.in-Some.ending (λ how. Closes how c.loop-reader.taken left mid now) c.in-Some.is c.in_ok-ending.ensures.closes in
+    (c.into_server-server.ensures.idle, used_many use_of c.into_server-server.result.lanes mid.standing now.standing (length c.args.askers.items) c.into_server-server.ensures.lanes closes.standing (walked_lanes {told = (g.F.Folder.seen c.args.folder.now).told} c.loop-reader.invariant.walked.walk))
 
 pub loop-reader-preserved : goal.loop-reader-preserved
 loop-reader-preserved g c =

@@ -14,7 +14,7 @@ returns-in_err-close-in-Ends-clause-breaks g c =
     (breaks_end c.args.session.now.waiting.capacity c.in_ok-line.field-0 c.in-Ends.ending c.args.taken (lines_left c.args.reader.now (g.S.Source.seen c.args.script.now).left)
     (lines_left c.read_command.new.reader (g.S.Source.seen c.read_command.new.script).left) _ _ _ c.in-Ends.is c.in_ok-line.ensures.reads c.close.ensures.front)
 
-pub answer-in-Takes-requires-clause-pins : goal.answer-in-Takes-requires-clause-pins
-answer-in-Takes-requires-clause-pins g c κs within =
+pub answer-requires-clause-pins : goal.answer-requires-clause-pins
+answer-requires-clause-pins g c κs within =
     may_take c.in_ok-line.field-0 c.in-Takes.line c.args.taken (lines_left c.args.reader.now (g.S.Source.seen c.args.script.now).left) (lines_left c.read_command.new.reader (g.S.Source.seen c.read_command.new.script).left)
     c.args.session.now.lanes c.in-Takes.is c.in_ok-line.ensures.reads c.requires.pins
