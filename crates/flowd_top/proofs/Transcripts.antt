@@ -162,8 +162,8 @@ module _ (full : OneFull) (alike : RunsEndAlike) (one : OneRun) (one_command : O
         status_at h k e.program f.program m n is.0 is.1 first second,
         ends_alike h k e f is.0 is.1 is.2,
         λ quiet.
-          let whole = one most lanes folder a script p q h k e.program f.program e.version f.version e.lanes f.lanes quiet run also in
-          (whole.0, λ i. left_after (is.0 i) (one_end e f is.1 is.2 whole.1 i)),
+            let whole = one most lanes folder a script p q h k e.program f.program e.version f.version e.lanes f.lanes quiet run also in
+            (whole.0, λ i. left_after (is.0 i) (one_end e f is.1 is.2 whole.1 i)),
       )
 
   quiet : (most lanes : ℕ) (a : List Bytes) (n : ℕ) (p : Bytes) (h : WalkEnd) (e : RunEnd) → n ≡ 0 → IsRun most lanes (Some folder) a (Some script) n p h e.program e.version e.lanes → QuietRun most lanes a p h e
@@ -178,7 +178,7 @@ module _ (full : OneFull) (alike : RunsEndAlike) (one : OneRun) (one_command : O
       let same = one_command words d c others.0 makes.0 in
       let forms : Generated n' seed' ≡ Generated n seed = sym others.1 ∙ ap (λ (e : Command). e.form) same ∙ makes.1 in
       let is = one_made c.modules c.lanes n seed p q e.program f.program e.version f.version e.lanes f.lanes run
-          (subst (λ (j : ℕ). MadeRun c n j q f) (ap seed_in forms) (subst (λ (j : ℕ). MadeRun c j seed' q f) (ap number_in forms) (subst (λ (e : Command). MadeRun e n' seed' q f) same other))) in (
+      (subst (λ (j : ℕ). MadeRun c n j q f) (ap seed_in forms) (subst (λ (j : ℕ). MadeRun c j seed' q f) (ap number_in forms) (subst (λ (e : Command). MadeRun e n' seed' q f) same other))) in (
         status_at ending.Finished ending.Finished e.program f.program m k refl is.1 first second,
         (is.1, is.2),
         λ quiet. (is.0, ap Some (one_end e f is.1 is.2 is.3)),
