@@ -181,8 +181,7 @@ same_run one sized most lanes n seed p q a b v w x y run other =
     let t : Standing = record { program = b; version = w; waiting = other.waiting; lanes = y } in
     let loads = subst (λ f. Rechecks (Some f) 0 (start (paths_of f) lanes) other.loaded 0 other.load) same other.loads in
     let goes = subst (λ f. Goes most f (turns_of n seed) other.loaded t other.lines) same other.goes in
-    let is = same_runs one sized run.folder most lanes n seed run.loaded other.loaded run.load other.load s t run.lines other.lines run.loads loads run.goes goes in
-    (
+    let is = same_runs one sized run.folder most lanes n seed run.loaded other.loaded run.load other.load s t run.lines other.lines run.loads loads run.goes goes in (
       run.prints ∙ is.1 ∙ sym other.prints,
       ap (λ (r : Standing). r.program) is.0,
       ap (λ (r : Standing). r.version) is.0,

@@ -132,11 +132,12 @@ pub prints_more : (asks : List Ask) (told : List (Told Answered)) (i : ℕ) (ask
     → PrintsTo asks told i old now → PrintsTold asked t text → piece ≡ text → new ≡ now ++ piece → PrintsTo asks told (i + 1) old new
 prints_more asks told i asked t old now new text piece within there is at (answered, all, sofar) one same more =
     let next : take (i + 1) asks ≡ take i asks ++ asked ∷ [] = take_more asks i asked within ∙ ap (λ (a : Ask). take i asks ++ a ∷ []) (sym is) in
-    let after : take (i + 1) told ≡ take i told ++ t ∷ [] = take_more told i t there ∙ ap (λ (u : Told Answered). take i told ++ u ∷ []) (sym at) in
-    (answered ++ text,
-    subst (λ (l : List Ask). PrintAllTold l (take (i + 1) told) (answered ++ text)) (sym next)
-    (subst (λ (l : List (Told Answered)). PrintAllTold (take i asks ++ asked ∷ []) l (answered ++ text)) (sym after) (print_more (take i asks) (take i told) answered asked t text all one)),
-    more ∙ ((λ j. sofar j ++ same j) ∙ append_assoc old answered text))
+    let after : take (i + 1) told ≡ take i told ++ t ∷ [] = take_more told i t there ∙ ap (λ (u : Told Answered). take i told ++ u ∷ []) (sym at) in (
+      answered ++ text,
+      subst (λ (l : List Ask). PrintAllTold l (take (i + 1) told) (answered ++ text)) (sym next)
+          (subst (λ (l : List (Told Answered)). PrintAllTold (take i asks ++ asked ∷ []) l (answered ++ text)) (sym after) (print_more (take i asks) (take i told) answered asked t text all one)),
+      more ∙ ((λ j. sofar j ++ same j) ∙ append_assoc old answered text),
+    )
 
 pub prints_all : (asks : List Ask) (told : List (Told Answered)) (i : ℕ) (old now : Bytes) → AllZip IsToldOfSome asks told → length asks ≤ i → PrintsTo asks told i old now → (answered : Bytes) × PrintAllTold asks told answered × (now ≡ old ++ answered)
 prints_all asks told i old now every past (answered, all, sofar) =
