@@ -45,13 +45,13 @@ imported_value imports p is_type spec outer name token saying t b says e told ty
     is ∙ ap (top_binding name token constant) (ty ∙ ap value_said (told ∙ says.says spec outer)) ∙ ap (λ (c : Bool). import_binding p c spec outer name token) (sym e)
 
 -- an alias on a cycle
-pub recursive_yes : (w : World) (p : Program) (scope : Scope) (f t token : ℕ) (name : Bytes) (v : Ty) (is_one : Bool) (before after : Notes) → token ≡ suc f → is_one ≡ is_recursive p scope token name → is_one ≡ true →
+pub recursive_yes : (w : World) (p : Program) (scope : Scope) (f t token : ℕ) (name : Bytes) (v : Ty) (is_one : Bool) (before after : Notes) → token ≡ suc f → is_one ≡ is_recursive w p scope token name → is_one ≡ true →
     after ≡ name_fault (fault_at w token (suc token) RecursiveAlias name) before → after ≡ recursive_noted w p scope (g.alias f t name v) before
 recursive_yes w p scope f t token name v is_one before after at told e noted =
     noted ∙ ap (λ (k : ℕ). name_fault (fault_at w k (suc k) RecursiveAlias name) before) at
-    ∙ ap (λ (b : Bool). cond b (name_fault (fault_at w (suc f) (suc (suc f)) RecursiveAlias name) before) before) (sym e ∙ told ∙ ap (λ (k : ℕ). is_recursive p scope k name) at)
+    ∙ ap (λ (b : Bool). cond b (name_fault (fault_at w (suc f) (suc (suc f)) RecursiveAlias name) before) before) (sym e ∙ told ∙ ap (λ (k : ℕ). is_recursive w p scope k name) at)
 
-pub recursive_no : (w : World) (p : Program) (scope : Scope) (f t token : ℕ) (name : Bytes) (v : Ty) (is_one : Bool) (before : Notes) → token ≡ suc f → is_one ≡ is_recursive p scope token name → is_one ≡ false →
+pub recursive_no : (w : World) (p : Program) (scope : Scope) (f t token : ℕ) (name : Bytes) (v : Ty) (is_one : Bool) (before : Notes) → token ≡ suc f → is_one ≡ is_recursive w p scope token name → is_one ≡ false →
     before ≡ recursive_noted w p scope (g.alias f t name v) before
 recursive_no w p scope f t token name v is_one before at told e =
-    ap (λ (b : Bool). cond b (name_fault (fault_at w (suc f) (suc (suc f)) RecursiveAlias name) before) before) (sym e ∙ told ∙ ap (λ (k : ℕ). is_recursive p scope k name) at)
+    ap (λ (b : Bool). cond b (name_fault (fault_at w (suc f) (suc (suc f)) RecursiveAlias name) before) before) (sym e ∙ told ∙ ap (λ (k : ℕ). is_recursive w p scope k name) at)
