@@ -87,7 +87,8 @@ fn is_recursive(
     let world = around.world;
     let counts = is_bound_at(scope, name, token)?;
     let t = world.names.type_of_name(world.alloc, name)?;
-    Ok(counts && is_on_cycle(world.table, &t))
+    let on_cycle = is_on_cycle(world.table, &t);
+    Ok(counts && on_cycle)
 }
 
 // An alias that counts and whose name lies on a cycle is a fault.
