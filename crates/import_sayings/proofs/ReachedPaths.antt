@@ -1,5 +1,5 @@
 -- What numbers reach, as the modules that a module reaches.
-use Rattle.std.proofs.Common.{◌≡◌, ℕ, zero, suc, ◌+◌, ◌<◌, ◌≤◌, Bool, true, false, ◌||◌, ◌&&◌, ◌==◌, List, [], ◌∷◌, ◌++◌, length, take, drop, get_or, slice_get, Option, Some, None, cond, option_map, bytes_eq, refl, sym, ap, ◌∙◌, subst, ap₂, inl, inr, ◌⊎◌, arith, true≢false, unwrap_or, drop_of_length-le, drop-cons, add-one, take-suc, take_all, append_assoc, append-nil}
+use Rattle.std.proofs.Common.{◌≡◌, ℕ, zero, suc, ◌+◌, ◌<◌, ◌≤◌, Bool, true, false, ◌||◌, ◌&&◌, ◌==◌, List, [], ◌∷◌, ◌++◌, length, take, drop, get_or, slice_get, if◌then◌else◌, Option, Some, None, cond, option_map, bytes_eq, refl, sym, ap, ◌∙◌, subst, ap₂, inl, inr, ◌⊎◌, arith, true≢false, unwrap_or, drop_of_length-le, drop-cons, add-one, take-suc, take_all, append_assoc, append-nil}
 use Rattle.std.specs.List.{flat_map, list_any, cons_option}
 use Rattle.std.specs.Option.{option_to_list, option_or}
 use Rattle.std.specs.Ordering.{nat_cmp}
