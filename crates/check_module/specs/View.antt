@@ -1,6 +1,5 @@
 -- What a checker stands for.
-use Rattle.std.specs.Prelude.{ℕ, ◌≡◌, ◌↔◌, IsTrue, List, [], Option, Some, None, if◌then◌else◌}
-use Rattle.std.specs.Str.{bytes_eq}
+use Rattle.std.specs.Prelude.{ℕ, ◌≡◌, ◌↔◌, IsTrue, List, [], Option, Some, None}
 use Rattle.std.specs.Option.{option_or}
 use Rattle.flow_values.specs.declared.span.Span.{Span}
 use Rattle.js_grammar.specs.Items.{Items, Module, module_of}
@@ -8,7 +7,6 @@ use Rattle.alias_members.specs.MembersIn.{members_in}
 use Rattle.alias_table.specs.Aliases.{Row, Key, alias_type, IsCyclic}
 use Rattle.alias_table.specs.Table.{alias_of, is_marked}
 use Rattle.alias_table.specs.declared.table.AliasTable.{AliasTable}
-use Rattle.check_values.specs.Rows.{Bytes}
 use Rattle.check_values.specs.declared.signatures.Deps.{Deps}
 use Rattle.subtype_rules.specs.Answer.{below}
 use Rattle.check_world.specs.View.{meaning_in}
