@@ -14,6 +14,7 @@ use Rattle.typing.specs.Names.{type_name, Scope, binding_of}
 use Rattle.typing.specs.Changes.{Change}
 use Rattle.typing.specs.States.{World, Notes, Env, fault_at, name_fault, now_of}
 use Rattle.typing.specs.Functions.{Bound, none_bound}
+use Rattle.typing.specs.TypeFaults.{type_meant}
 use Rattle.module_errors.specs.Program.{Program, said, wrong_import, world_of}
 use Rattle.module_errors.specs.TopNames.{top_binding, import_binding, bind_importeds, bind_list, bind_default, bind_import, bind_alias, bind_export, bind_item, bind_items, changes_of_items, Exporting, exportings_of, exported_twice}
 use Rattle.module_errors.specs.Items.{specifier_found, specifier_read, wrong_at, imported_read, importeds_read, list_read, import_read, wrong_export, exporteds_read, exports_read, handed_on, list_handed_on, is_bound_at, is_on_cycle, alias_read, read_export, read_item_form, read_items}
