@@ -1,4 +1,3 @@
 pub mod InOrder
 pub mod OneRun
 pub mod Parts
-pub mod Script

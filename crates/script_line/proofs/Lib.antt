@@ -1,4 +1,3 @@
 pub mod Commanding
 pub mod Deciding
 pub mod Nothing
-pub mod Questions

@@ -1,7 +1,6 @@
 //! A script's lines: which bytes are which command.
 #![tactic(auto)]
 
-mod beside;
 mod laws;
 mod line;
 mod reading;
