@@ -96,7 +96,7 @@ def compiled(room):
     build, top = builder(), f"{room}/repository"
     os.makedirs(f"{top}/crates/{NAME}/src")
     for name in os.listdir(f"{TOP}/crates"):
-        os.symlink(f"{TOP}/crates/{name}", f"{top}/crates/{name}")
+        shutil.copytree(f"{TOP}/crates/{name}", f"{top}/crates/{name}", ignore=shutil.ignore_patterns("out"))
     shutil.copyfile(f"{TOP}/HANDLES", f"{top}/HANDLES")
     with open(f"{TOP}/crates.txt", encoding="utf-8") as crates, open(f"{top}/crates.txt", "w", encoding="utf-8") as to:
         to.write(f"{crates.read()}{NAME}: {USES}\n")
