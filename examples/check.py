@@ -24,6 +24,7 @@ WIDTH = 120
 # Why the program ended before it had told its errors.
 WHY = {
     1: "the program was not built",
+    65: "{folder} has a name that can't be a path",
     66: "{folder} can't be listed: it is no folder, may not be read, or has a name that can't be a path",
     69: "{folder} has too many modules: 4,096 are the most",
     70: "there was not enough memory to check {folder}",
@@ -34,6 +35,10 @@ Error = collections.namedtuple("Error", "path line column code details")
 
 class Ended(Exception):
     """The folder can't be checked: a sentence, and a status."""
+
+
+class Unread(Ended):
+    """A module can't be read, so nothing has changed. The next recheck tries again."""
 
 
 # The program.
@@ -54,7 +59,7 @@ class Program:
 
     def line(self):
         line = self.flowd.stdout.readline().decode()
-        if not line or line.startswith("limit "):
+        if not line or line.startswith(("limit ", "bad line ")):
             status = self.flowd.wait()
             raise Ended(WHY.get(status, "the program ended with status {status}").format(folder=self.folder, status=status), status)
         return line[:-1]
@@ -66,7 +71,7 @@ class Program:
             raise Ended(WHY[69].format(folder=self.folder), 69)
         if line.startswith("recheck cannot read "):
             path = os.path.normpath(os.path.join(self.folder, line[20:].rpartition(", still ")[0]))
-            raise Ended(f"{path} can't be read", 1)
+            raise Unread(f"{path} can't be read", 1)
         return int(line.split()[2])
 
     def recheck(self):
@@ -221,24 +226,28 @@ class Watch:
             self.sources = Sources(self.folder)
             try:
                 modules = self.take(changed, gone)
-            except Ended as why:
-                self.program, self.sources = None, before
-                print(f"check.py: {why.args[0]}", file=sys.stderr)
-            else:
                 self.show(modules, before, time.monotonic() - began)
+            except Ended as why:
+                self.sources = before
+                if not isinstance(why, Unread):
+                    self.program = None
+                print(f"check.py: {why.args[0]}", file=sys.stderr)
 
     def take(self, changed, gone):
-        """An edit for each changed module; how many modules there are then. The program begins anew where one is gone, or where no edit
-        can have its text."""
-        texts = {it: text_of(self.folder, it) for it in changed}
-        if gone or None in texts.values() or not self.program:
-            if self.program:
-                self.program.end()
+        """Tells the program what has changed, and checks again; how many modules there are then. The program begins anew where it has
+        ended."""
+        if not self.program:
             self.program = Program(self.folder)
             return self.program.load
-        for path, text in texts.items():
-            self.sources.put(path, text)
-            self.program.say(do="edit", path=path, text=text)
+        for path in gone:
+            self.program.say(do="delete", path=path)
+        for path in changed:
+            text = text_of(self.folder, path)
+            if text is None:
+                self.program.say(do="touch", path=path)
+            else:
+                self.sources.put(path, text)
+                self.program.say(do="edit", path=path, text=text)
         self.program.recheck()
         return len(self.files)
 

@@ -1,11 +1,12 @@
 #!/usr/bin/env python3
-"""Checks that what the documents name is there: files, crates, definitions, functions and cases. It runs no program.
+"""Checks that what the documents name is there: files, crates, definitions, functions and cases; and that the README stays short. It
+runs no program.
 
     tests/documents.py [WORD]       (only the cases whose name has this word)
 
 In docs/RULES.md `CRATE/FILE: NAME, NAME` is a file of the crate's specs/ that defines these names in the second column, and one of
 its src/ in the third one.
-In docs/MAP.md and docs/PROVED.md a word in backquotes that looks like a path is one, from the top, from crates/, or from a crate
+In all documents but docs/PROVING.md a word in backquotes that looks like a path is one, from the top, from crates/, or from a crate
 that stands in the same row or item; and a name is one that some file of the crates has. The last line is
 'N passed, M failed'.
 """
@@ -35,8 +36,13 @@ def text_of(path):
         return file.read()
 
 
+def uses():
+    """The libraries that each crate uses."""
+    return {name: used.split() for name, used in re.findall(r"(?m)^(\w+)[^#:\n]*:(.*)$", text_of("crates.txt"))}
+
+
 def crates():
-    return re.findall(r"(?m)^(\w+)[^#:\n]*:", text_of("crates.txt"))
+    return list(uses())
 
 
 @functools.lru_cache(maxsize=None)
@@ -100,16 +106,42 @@ def the_rules_name_what_is_there():
                 yield f"the case {row[3]!r}"
 
 
+def codes():
+    names = re.findall(r"(?m)^    (\w+),$", text_of("crates/check_values/src/codes.rt").split("enum Code")[1].split("}")[0])
+    return {re.sub("(?!^)([A-Z])", r"-\1", it).lower() for it in names}
+
+
 @case
 def each_code_has_a_rule():
-    codes = {re.sub("(?!^)([A-Z])", r"-\1", it).lower() for it in re.findall(r"(?m)^    (\w+),$", text_of("crates/check_values/src/codes.rt").split("enum Code")[1].split("}")[0])}
     told = set(re.findall(r"(?m)^\| `([a-z0-9-]+)` \|", text_of("docs/RULES.md").split("## Codes")[1]))
-    yield from sorted(codes ^ told)
+    yield from sorted(codes() ^ told)
+
+
+@case
+def the_numbers_of_codes_and_cases_are_told():
+    told = {
+        "README.md": [f"There are {len(codes())} codes"],
+        "docs/PROVED.md": [f"and {len(programs.written())} whole programs, each as a real folder"],
+    }
+    yield from (f"{page}: {it}" for page, all_told in told.items() for it in all_told if it not in text_of(page))
 
 
 @case
 def each_crate_stands_in_the_map():
     named = set(re.findall(r"`(?:crates/)?(\w+)[`/]", text_of("docs/MAP.md")))
+    yield from (it for it in crates() if it not in named)
+
+
+@case
+def each_crate_of_the_map_stands_on_those_above_it():
+    rows_of_crates = re.findall(r"(?m)^\| (`\w+`(?:, `\w+`)*) \|", text_of("docs/MAP.md"))
+    order = [it for row in rows_of_crates for it in re.findall(r"\w+", row) if it in uses()]
+    yield from (f"{it} on {below}" for at, it in enumerate(order) for below in uses()[it] if below in order[at:])
+
+
+@case
+def each_crate_stands_in_what_is_proved():
+    named = set(re.findall(r"`(\w+)`", text_of("docs/PROVED.md")))
     yield from (it for it in crates() if it not in named)
 
 
@@ -122,7 +154,7 @@ def places(part):
 def wrong_words(page):
     for part in re.split(r"\n(?=\||- |\d+\. |#|\n)", text_of(page)):
         for word in re.findall(r"`([^`\n]+)`", part):
-            if word in ("src/", "specs/", "proofs/", "must-fail/", "crates/NAME/must-fail/"):
+            if word in ("src/", "specs/", "proofs/", "must-fail/", "async", "ENOMEM") or "NAME" in word:
                 continue
             if PATH.fullmatch(word):
                 if not any(is_there(place + word) for place in places(part)):
@@ -141,6 +173,23 @@ def what_is_proved_names_what_is_there():
     yield from wrong_words("docs/PROVED.md")
 
 
+def definitions_in(text):
+    """The files that are named by `CRATE/specs/FILE.antt`, by `CRATE/specs/` with names in parentheses, or by that alone for all."""
+    found = set()
+    for crate, file, names in re.findall(r"`(\w+)/specs/(\w*(?:\.antt)?)`(?: \((`[^)]*)\))?", text):
+        files = [file] if file else [f"{it}.antt" for it in re.findall(r"`(\w+)`", names)]
+        files = files or [it for it in os.listdir(f"{TOP}/crates/{crate}/specs") if it.endswith(".antt") and it not in ("Lib.antt", "formers.antt")]
+        found.update(f"{crate}/specs/{it}" for it in files)
+    return found
+
+
+@case
+def the_other_documents_name_what_is_there():
+    """But for docs/PROVING.md, whose forms have names of no crate."""
+    for page in ("README.md", "docs/DECISIONS.md", "docs/PROGRESS.md", "examples/EDITORS.md"):
+        yield from wrong_words(page)
+
+
 @case
 def the_definitions_that_one_must_read_are_told():
     """All of them in docs/PROVED.md, and their number in the README."""
@@ -149,8 +198,8 @@ def the_definitions_that_one_must_read_are_told():
     told = f"{whole:,} lines in {len(files)} files, of which {bare:,} "
     if told not in text_of("README.md"):
         yield f"README.md: {told}"
-    named = set(re.findall(r"`(\w+)/specs/", text_of("docs/PROVED.md").partition("## What one must read")[2].partition("\n## ")[0]))
-    yield from (f"docs/PROVED.md: {it}" for it in sorted(named ^ set(statement.by_crate(files))))
+    told = text_of("docs/PROVED.md").partition("## What one must read")[2].partition("\n## ")[0]
+    yield from (f"docs/PROVED.md: {it}" for it in sorted(definitions_in(told) ^ {os.path.relpath(it, f"{TOP}/crates") for it in files}))
 
 
 @case
@@ -160,11 +209,50 @@ def the_index_of_forms_of_proof_names_forms():
 
 
 @case
+def each_form_of_proof_stands_in_the_index():
+    index, forms = text_of("docs/PROVING.md").split("## Definitions", 1)
+    named = tuple(re.findall(r"(?<!\*)\*([^*|]+)\*(?!\*)", index))
+    yield from (it for it in re.findall(r"(?m)^- \*\*(.+?)\*\*", forms) if not it.startswith(named))
+
+
+def pages():
+    return ["README.md", "examples/EDITORS.md", *(f"docs/{it}" for it in sorted(os.listdir(f"{TOP}/docs")))]
+
+
+def anchors(page):
+    """The headings of a page, as links name them."""
+    return {re.sub(r"[^\w -]", "", it).lower().replace(" ", "-") for it in re.findall(r"(?m)^#+ (.+)$", text_of(page))}
+
+
+@case
 def links_lead_somewhere():
-    for page in ("README.md", "examples/EDITORS.md", *(f"docs/{it}" for it in sorted(os.listdir(f"{TOP}/docs")))):
-        for target in re.findall(r"\]\(([^)#:]+)(?:#[^)]*)?\)", text_of(page)):
-            if not is_there(os.path.normpath(f"{os.path.dirname(page)}/{target}")):
-                yield f"{page}: {target}"
+    for page in pages():
+        for target, heading in re.findall(r"\]\(([^)#:]*)(?:#([^)]*))?\)", text_of(page)):
+            path = os.path.normpath(f"{os.path.dirname(page)}/{target}") if target else page
+            if not is_there(path) or (heading and heading not in anchors(path)):
+                yield f"{page}: {target}#{heading}"
+
+
+MOST_WORDS, LONGEST_SENTENCE = 2_250, 29
+
+
+def words_in(text):
+    return [it for it in text.split() if re.search(r"[^|:-]", it)]
+
+
+def sentences(text):
+    """Those of a page, without what stands in code blocks; a cell of a table is by itself."""
+    text = re.sub(r"(?ms)^```.*?^```$", "\n", text)
+    for part in re.split(r"\n\s*\n|\n(?=- |\d+\. |\|)|(?<!\\)\|", text):
+        yield from re.split(r"(?<=[.?!:])\s+(?=[A-Z`*\[])", part.strip())
+
+
+@case
+def the_readme_is_short():
+    text = text_of("README.md")
+    if len(words_in(text)) > MOST_WORDS:
+        yield f"it has {len(words_in(text))} words"
+    yield from (f"the sentence {it!r}" for it in sentences(text) if len(words_in(it)) > LONGEST_SENTENCE)
 
 
 def main():
@@ -174,7 +262,7 @@ def main():
         wrong = list(test())
         failed += bool(wrong)
         name = test.__name__.replace("_", " ")
-        print(f"FAILED: {name}: {len(wrong)} are not there: {'; '.join(wrong[:60])}" if wrong else f"ok: {name}")
+        print(f"FAILED: {name}: {len(wrong)} are not so: {'; '.join(wrong[:60])}" if wrong else f"ok: {name}")
     print(f"{len(chosen) - failed} passed, {failed} failed")
     return 1 if failed or not chosen else 0
 

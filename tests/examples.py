@@ -95,7 +95,8 @@ def folders_that_cannot_be_checked(root):
 def examples_of_codes():
     """The codes of the README's table, each with its example; None where that is said in words."""
     with open(f"{TOP}/README.md", encoding="utf-8") as readme:
-        return dict(re.findall(r"(?m)^\| `([a-z0-9-]+)` \|[^|]*\| (?:`(.*)`|.*) \|$", readme.read()))
+        rows = readme.read().partition("\n| code, details | example |\n")[2].partition("\n\n")[0]
+    return dict(re.findall(r"(?m)^\| `([a-z0-9-]+)`[^|]*\| (?:`(.*)`|.*) \|$", rows))
 
 
 def codes():
@@ -134,14 +135,14 @@ def the_recipe_of_an_editor_finds_each_error(root):
 class Watched:
     """check.py that watches a folder."""
 
-    def __init__(self, root):
-        self.out = subprocess.Popen([CHECK, "--watch", "."], cwd=root, stdout=subprocess.PIPE, stderr=subprocess.STDOUT, **HOW)
+    def __init__(self, root, how=HOW):
+        self.out = subprocess.Popen([CHECK, "--watch", "."], cwd=root, stdout=subprocess.PIPE, stderr=subprocess.STDOUT, **how)
         self.got = b""
 
     def expect(self, text):
         """Reads until a summary, and compares what is printed but for the seconds."""
         until = time.monotonic() + 30
-        while not re.search(rb"(?m) (modules?(, [0-9.]+ s)?|be read)\n\Z", self.got):
+        while not re.search(rb"(?m) (modules?(, [0-9.]+ s)?|be read|be a path)\n\Z", self.got):
             if not select.select([self.out.stdout], [], [], max(0, until - time.monotonic()))[0]:
                 raise AssertionError(f"it printed {self.got} in half a minute, and not {text}")
             more = os.read(self.out.stdout.fileno(), 65_536)
@@ -169,10 +170,19 @@ def put(path, text, size=None):
     os.replace(f"{path}.new", path)
 
 
+def counted(root):
+    """How check.py is to be run over a program that counts how often it is begun, and the file that has a line for each time."""
+    write(f"{root}/program", f'#!/bin/sh\necho begun >>"{root}/begun"\nexec "{FLOWD}" "$@"\n'.encode())
+    os.chmod(f"{root}/program", 0o755)
+    return {"env": {**os.environ, "FLOWD": f"{root}/program"}}, f"{root}/begun"
+
+
 @case
 def a_folder_that_is_watched(root):
+    """One program sees all changes."""
+    how, begun = counted(f"{root}/.once")
     write(f"{root}/a.js", BAD)
-    watched = Watched(root)
+    watched = Watched(root, how)
     try:
         watched.expect(shown("a.js") + "1 error in 1 of 1 module\n")
         put(f"{root}/b.js", BAD)
@@ -188,6 +198,24 @@ def a_folder_that_is_watched(root):
         watched.expect("check.py: b.js can't be read\n")
         put(f"{root}/b.js", BAD)
         watched.expect("new " + shown("b.js") + "1 error in 1 of 2 modules\n")
+        put(f"{root}/b.js", b"\xff")
+        watched.expect("gone " + shown("b.js") + "new b.js:1:1 not-utf8\n    1 | \ufffd\n      | ^\n1 error in 1 of 2 modules\n")
+    finally:
+        watched.end()
+    with open(begun, encoding="ascii") as lines:
+        expect(lines.read(), "begun\n")
+
+
+@case
+def a_name_that_is_no_path_comes_into_a_folder_that_is_watched(root):
+    write(f"{root}/a.js", GOOD)
+    watched = Watched(root)
+    try:
+        watched.expect("no errors in 1 module\n")
+        put(f"{root}/b\n.js", GOOD)
+        watched.expect("check.py: . has a name that can't be a path\n")
+        os.remove(f"{root}/b\n.js")
+        watched.expect("no errors in 1 module\n")
     finally:
         watched.end()
 

@@ -18,7 +18,7 @@ from concurrent.futures import ThreadPoolExecutor
 sys.path.insert(0, os.path.dirname(os.path.abspath(__file__)))
 import programs
 import real_folders
-from real_folders import BAD, BAD_WORDS, TOP, USAGE, LeftOut, write
+from real_folders import BAD, TOP, LeftOut, write
 
 PROVED, UNPROVED = f"{TOP}/crates/flowd/out/flowd", f"{TOP}/.flowd/unproved"
 NOTE = b"flowd: this program is not proved; ./build proves its sources and builds the proved one\n"
@@ -112,14 +112,6 @@ def a_build_that_fails(root):
     repository(root)
     program(f"{root}/build", "echo why >&2; exit 7")
     expect(launched(root, "x"), (1, b"", b"why\n"))
-
-
-@case
-def what_has_no_effect_yet_is_named(root):
-    told = b"flowd: --lanes is read, and has no effect yet\n"
-    for words, wanted in ((["--lanes", "0", root], told), ([root, "--lanes=17"], told), (["--workers", "0", root], b"")):
-        status, out, note = launched(TOP, *words)
-        expect((status, out, note.replace(NOTE, b"")), (BAD_WORDS, USAGE, wanted))
 
 
 @case

@@ -8,6 +8,7 @@ The last line is 'N passed, M failed'.
 
 import json
 import os
+import re
 import resource
 import select
 import signal
@@ -321,7 +322,7 @@ def lines_that_are_no_command(root):
         b'{"do":"recheck","stop":null}',
         b'{"do":"recheck","stop":[1]}',
         b'{"do":"recheck","stop":1,"stop":0}',
-        b'{"do":"recheck","asks":[]}',
+        b'{"do":"recheck","asks":{}}',
         b'{"do":"edit","path":"a/../b.js","text":""}',
         b'{"do":"edit","path":"a.js","text":1}',
         b'{"do":"edit","path":"a.js"}',
@@ -475,19 +476,19 @@ def the_example_of_a_client_prints_what_changed(root):
         raise AssertionError(f"it printed {ran.stdout} and ended with {ran.returncode}")
 
 
-def commands_of_the_readme():
-    """The commands over the examples that the README shows, each with what it shows that they print."""
-    with open(f"{TOP}/README.md", encoding="utf-8") as readme:
-        blocks = readme.read().split("```\n")[1::2]
-    parted = [block.removeprefix("$ ").partition("\n") for block in blocks if block.startswith("$ ")]
+def commands_of(page):
+    """The commands over the examples that a page shows, each with what it shows that they print."""
+    with open(f"{TOP}/{page}", encoding="utf-8") as text:
+        blocks = re.findall(r"(?ms)^```(\w*)\n(.*?)^```$", text.read())
+    parted = [block.removeprefix("$ ").partition("\n") for kind, block in blocks if not kind and block.startswith("$ ")]
     return [(command, printed.encode()) for command, _, printed in parted if "examples/" in command]
 
 
 @case
-def the_examples_print_what_the_readme_shows(root):
-    commands = commands_of_the_readme()
+def the_examples_print_what_the_documents_show(root):
+    commands = commands_of("README.md") + commands_of("examples/EDITORS.md")
     if len(commands) != 4:
-        raise AssertionError(f"the README shows {len(commands)} commands over the examples")
+        raise AssertionError(f"the documents show {len(commands)} commands over the examples")
     for command, printed in commands:
         command, env = command.replace("./flowd", FLOWD), {**os.environ, "FLOWD": FLOWD}
         ran = subprocess.run(["bash", "-o", "pipefail", "-c", command], cwd=TOP, env=env, capture_output=True, timeout=60)

@@ -1,1 +1,13 @@
+pub use Rattle.entity_heap.specs.Lanes
+pub use Rattle.entity_heap.specs.Plans
+pub use Rattle.entity_heap.specs.Writers
+pub use Rattle.lane_asks.specs.Dealing
+pub use Rattle.lane_asks.specs.Telling
+pub use Rattle.lane_asks.specs.declared.told.Told
+pub use Rattle.recheck_run.specs.Extent
+pub use Rattle.recheck_run.specs.Recheck
+pub use Rattle.recheck_run.specs.declared.outcome.Outcome
+pub use Rattle.request_core.specs.Works
 pub mod Beside
+pub mod Server
+pub mod Uses

@@ -1,5 +1,5 @@
 -- What the program answers, by the contract of its top call.
-use Rattle.std.proofs.Common.{◌≡◌, ℕ, zero, suc, ◌<◌, List, [], ◌∷◌, length, map, get_or, slice_get, Some, None, refl, sym, ap, ◌∙◌, subst, arith}
+use Rattle.std.proofs.Common.{◌≡◌, ℕ, zero, suc, ◌<◌, List, [], ◌∷◌, length, map, get_or, slice_get, Option, Some, None, refl, sym, ap, ◌∙◌, subst, arith}
 use Rattle.std.proofs.lemmas.Option.{none-some, same_Some}
 use Rattle.flow_base.specs.Causes.{raised, Counts}
 use Rattle.flow_base.specs.Program.{Bytes}
@@ -9,7 +9,7 @@ use Rattle.flow_base.specs.declared.outside.LastFault.TheVariants.{Never}
 use Rattle.command_words.specs.Words.{Says, place_in, place_of}
 use Rattle.command_words.specs.declared.command.Command.{Command}
 use Rattle.command_words.specs.declared.command.Form.TheVariants.{Folder}
-use Rattle.flowd_top.specs.Run.{Leaves}
+use Rattle.flowd_top.specs.Run.{Leaves, Server}
 use Rattle.flowd_top.specs.declared.status.Status.{Status}
 use Rattle.flowd_top.specs.declared.status.Status.TheVariants as status
 use Rattle.flowd_top.proofs.Endings.{nothing_left}
@@ -19,7 +19,8 @@ use Rattle.flowd.specs.Answer.{untouched, IsAnswer}
 pub nothing_done : (words : List Bytes) → IsAnswer words status.NoMemory
 nothing_done words = record {
   now = untouched;
-  leaves = nothing_left words untouched untouched refl;
+  kept = None;
+  leaves = (nothing_left words untouched untouched None refl, refl);
   script_counts = record { later = omega arith; rises = λ is. absurd (cc (is)); stays = λ other. refl };
   sink_counts = record { later = omega arith; rises = λ is. absurd (cc (is)); stays = λ other. refl };
   folder_fault = λ is. absurd (cc (is));
@@ -29,12 +30,13 @@ nothing_done words = record {
 opened : (m : ℕ) (l : LastFault) (s k : ℕ) → m ≡ 0 → l ≡ Never → s ≡ 0 → k ≡ 0 → outside (folder_seen None m l) (record { left = None; faults = s }) (record { written = None; faults = k }) ≡ untouched
 opened m l s k folder last script out = cc
 
-pub answered : (words : List Bytes) (result : Status) (m : ℕ) (l : LastFault) (s k : ℕ) (now : Outside) → m ≡ 0 → l ≡ Never → s ≡ 0 → k ≡ 0
-    → Leaves result words (outside (folder_seen None m l) (record { left = None; faults = s }) (record { written = None; faults = k })) now → Counts (result ≡ status.ScriptFault) s now.script.faults
+pub answered : (words : List Bytes) (result : Status) (m : ℕ) (l : LastFault) (s k : ℕ) (now : Outside) (kept : Option Server) → m ≡ 0 → l ≡ Never → s ≡ 0 → k ≡ 0
+    → Leaves result words (outside (folder_seen None m l) (record { left = None; faults = s }) (record { written = None; faults = k })) now kept → Counts (result ≡ status.ScriptFault) s now.script.faults
     → Counts (result ≡ status.SinkFault) k now.out.faults → (result ≡ status.FolderFault → now.folder.faults ≡ raised m) → IsAnswer words result
-answered words result m l s k now folder last script out leaves script_counts sink_counts folder_fault = record {
+answered words result m l s k now kept folder last script out leaves script_counts sink_counts folder_fault = record {
   now = now;
-  leaves = subst (λ before. Leaves result words before now) (opened m l s k folder last script out) leaves;
+  kept = kept;
+  leaves = subst (λ before. Leaves result words before now kept) (opened m l s k folder last script out) leaves;
   script_counts = subst (λ (n : ℕ). Counts (result ≡ status.ScriptFault) n now.script.faults) script script_counts;
   sink_counts = subst (λ (n : ℕ). Counts (result ≡ status.SinkFault) n now.out.faults) out sink_counts;
   folder_fault = subst (λ (n : ℕ). result ≡ status.FolderFault → now.folder.faults ≡ raised n) folder folder_fault;

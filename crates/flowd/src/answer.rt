@@ -52,6 +52,7 @@ fn answer<R: Threads + Wait + Sync>(threads: &R, rt: &HostRuntime, words: &[Stri
     let mut out = StdoutSink::new(rt);
     let alloc = rt.alloc();
     let maker = FlowAnalysts::new(alloc);
+    let mut kept = None;
     flowd::<_, _, _, _, _, FlowAnalyst, _>(
         threads,
         alloc,
@@ -61,6 +62,7 @@ fn answer<R: Threads + Wait + Sync>(threads: &R, rt: &HostRuntime, words: &[Stri
         &mut script,
         &mut out,
         &Open,
+        &mut kept,
     )
 }
 

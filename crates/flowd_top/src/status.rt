@@ -18,7 +18,8 @@ pub enum Status {
     ScriptFault = 67,
     /// The sink failed.
     SinkFault = 68,
-    /// The folder has too many files, a line of the script is too long, or it has too many lines.
+    /// The folder has too many files, a line of the script is too long or has too many questions, or there are too many
+    /// lines.
     Limit = 69,
     /// Memory was refused.
     NoMemory = 70,

@@ -1,4 +1,4 @@
-ghost use Rattle.std.specs.Prelude.{◌≡◌, ◌≤◌, ◌<◌, ◌⊎◌, ℕ, List, map, length, string_bytes, IfOk};
+ghost use Rattle.std.specs.Prelude.{◌≡◌, ◌≤◌, ◌<◌, ◌⊎◌, ℕ, List, map, length, string_bytes, None, IfOk, IfSome};
 ghost use Rattle.std.specs.Int.{IsInRange};
 ghost use Rattle.std.specs.List.{AllByRecursion};
 ghost use Rattle.flow_base.specs.Path.{IsNormalPath};
@@ -6,11 +6,12 @@ ghost use Rattle.flow_base.specs.Program.{Bytes, IsRising};
 ghost use Rattle.flow_base.specs.Causes.{raised, Counts};
 ghost use Rattle.flow_base.specs.Seen.{outside};
 ghost use Rattle.flow_base.specs.declared.outside.LastFault.TheVariants.{Listing};
-ghost use Rattle.command_words.specs.Words.{AreOfCommand};
+ghost use Rattle.generated_run.specs.Script.{IsIdle};
+ghost use Rattle.command_words.specs.Words.{AreOfCommand, Says};
 ghost use Rattle.command_words.specs.declared.command.Command as the_command;
 ghost use Rattle.script_print.specs.Printed.{files_line};
-ghost use Rattle.script_run.specs.declared.ending.WalkEnd.TheVariants.{Finished};
-ghost use Rattle.flowd_top.specs.Run.{NamesFolder, MakesUp, Leaves, RunLeaves, GeneratedLeaves, WritesLast, status_after};
+ghost use Rattle.generated_run.specs.WalkEnd.TheVariants.{Finished};
+ghost use Rattle.flowd_top.specs.Run.{NamesFolder, MakesUp, Leaves, RunLeaves, GeneratedLeaves, WritesLast, Keeps, left_after, end_of, status_after};
 
 use crate::Status;
 use affected_sizes::each_edit_has_sizes;
@@ -18,10 +19,11 @@ use analyst::Analyst;
 use answers_law::each_has_answer;
 use command_words::{Command, Form, one_command, read_words, usage};
 use flow_base::{Folder, FolderFault, List, NoMemory, Path, Sink, SinkFault, Source, Turnstile};
-use generated_run::{one_generated_run, run_generated};
+use generated_run::{
+    Ended, RunFault, Server, WalkEnd, one_generated_run, open_server, run, run_generated, write_all,
+};
 use place_analyst::{AnalystMaker, PlaceAnalyst};
 use script_print::files_line;
-use script_run::{Ended, RunFault, WalkEnd, empty_heap, run, write_all};
 use std::alloc::Global;
 use std::sync::Wait;
 use std::thread::Threads;
@@ -30,9 +32,11 @@ use std::thread::Threads;
 /// name a folder, it loads the modules of the folder, and then takes the lines of the script, edits, rechecks and
 /// questions, one after the other; what a line prints is written before the next one is read. Where they ask for modules
 /// that are made up, it makes these, and rechecks them after each of ten edits. As many analysts as the words say are
-/// made, and all recheck. At each poll of a recheck, and at each question, the turnstile is passed.
+/// made, and all recheck; questions are answered on as many lanes as they say, beside a recheck where its line has them. At
+/// each poll of a recheck, and at each question, the turnstile is passed.
 ///
-/// The status says how the run ended. Only want of memory may come without a cause.
+/// The status says how the run ended. Only want of memory may come without a cause. Where the script came to its end, the
+/// server on which all of it was done is kept.
 #[tactic(auto, using(crate::proofs::Endings::nothing_left))]
 pub fn flowd<
     R: Threads + Wait + Sync,
@@ -51,12 +55,18 @@ pub fn flowd<
     script: &mut S,
     out: &mut K,
     turns: &T,
+    kept: &mut Option<Server>,
 ) -> Status
+    requires { kept.old ≡ None }
+
     // What was printed is a whole transcript with this status; after a fault of the script all of one up to the last
     // whole line that the script gave, and after one of the sink, and at want of memory, a front of one, with no more read
-    // faults than the folder counted. After a fault of the folder nothing was printed.
+    // faults than the folder counted. After a fault of the folder nothing was printed. The server is kept where the script
+    // came to its end, and else none is: no transaction is open on it, its program and version are those at which this
+    // transcript ends, and so is what each of its lanes has answered.
     ensures printed { Leaves result (map string_bytes words.now)
-        (outside (F.seen folder.old) (S.seen script.old) (K.seen out.old)) (outside (F.seen folder.new) (S.seen script.new) (K.seen out.new)) }
+        (outside (F.seen folder.old) (S.seen script.old) (K.seen out.old)) (outside (F.seen folder.new) (S.seen script.new) (K.seen out.new)) kept.new }
+    ensures lanes { (c : the_command.Command) → Says (map string_bytes words.now) c → IfSome kept.new (λ server. length server.lanes ≡ c.lanes) }
 
     // Where the words are not of the command, or name no folder, neither the folder nor the script is touched.
     ensures no_command { (AreOfCommand (map string_bytes words.now) → ⊥) →
@@ -84,9 +94,11 @@ pub fn flowd<
         return write_last(out, usage(), Status::Usage);
     };
     match command.form {
-        Form::Folder { .. } => run_folder(rt, alloc, command, maker, folder, script, out, turns),
+        Form::Folder { .. } => run_folder(
+            rt, alloc, command, maker, folder, script, out, turns, kept,
+        ),
         Form::Generated { modules, seed } => {
-            run_made_up(rt, alloc, command, modules, seed, maker, out, turns)
+            run_made_up(rt, alloc, command, modules, seed, maker, out, turns, kept)
         }
     }
 }
@@ -98,7 +110,7 @@ fn run_folder<
     F: Folder,
     S: Source,
     K: Sink,
-    T: Turnstile,
+    T: Turnstile + Sync,
     A: Analyst + PlaceAnalyst + Send + Drop,
     M: AnalystMaker<A>,
 >(
@@ -110,11 +122,15 @@ fn run_folder<
     script: &mut S,
     out: &mut K,
     turns: &T,
+    kept: &mut Option<Server>,
 ) -> Status
     requires modules { IsInRange 1 4096 command.modules }
     requires workers { IsInRange 1 64 command.workers }
+    requires some_lanes { IsInRange 1 16 command.lanes }
+    requires kept { kept.old ≡ None }
     ensures printed { (words : List Bytes) → NamesFolder words command → Leaves result words
-        (outside (F.seen folder.old) (S.seen script.old) (K.seen out.old)) (outside (F.seen folder.new) (S.seen script.new) (K.seen out.new)) }
+        (outside (F.seen folder.old) (S.seen script.old) (K.seen out.old)) (outside (F.seen folder.new) (S.seen script.new) (K.seen out.new)) kept.new }
+    ensures lanes { IfSome kept.new (λ server. length server.lanes ≡ command.lanes) }
     ensures script_counts { Counts (result ≡ Status.ScriptFault) (S.seen script.old).faults (S.seen script.new).faults }
     ensures sink_counts { Counts (result ≡ Status.SinkFault) (K.seen out.old).faults (K.seen out.new).faults }
     ensures folder_fault { result ≡ Status.FolderFault → (F.seen folder.new).faults ≡ raised (F.seen folder.old).faults }
@@ -132,7 +148,9 @@ fn run_folder<
     if listed.len() > command.modules as usize {
         return refuse_files(alloc, &listed, out);
     }
-    run_over(rt, alloc, command, paths, maker, folder, script, out, turns)
+    run_over(
+        rt, alloc, command, paths, maker, folder, script, out, turns, kept,
+    )
 }
 
 // Each path is a normal one.
@@ -153,7 +171,7 @@ fn run_over<
     F: Folder,
     S: Source,
     K: Sink,
-    T: Turnstile,
+    T: Turnstile + Sync,
     A: Analyst + PlaceAnalyst + Send + Drop,
     M: AnalystMaker<A>,
 >(
@@ -166,12 +184,17 @@ fn run_over<
     script: &mut S,
     out: &mut K,
     turns: &T,
+    kept: &mut Option<Server>,
 ) -> Status
     requires modules { IsInRange 1 4096 command.modules }
     requires workers { IsInRange 1 64 command.workers }
+    requires some_lanes { IsInRange 1 16 command.lanes }
+    requires kept { kept.old ≡ None }
     requires rising { IsRising listed.now }
     requires few { length listed.now ≤ command.modules }
-    ensures leaves { RunLeaves command.modules listed.now (outside (F.seen folder.old) (S.seen script.old) (K.seen out.old)) (outside (F.seen folder.new) (S.seen script.new) (K.seen out.new)) result }
+    ensures leaves { RunLeaves command.modules command.lanes listed.now
+        (outside (F.seen folder.old) (S.seen script.old) (K.seen out.old)) (outside (F.seen folder.new) (S.seen script.new) (K.seen out.new)) result kept.new }
+    ensures lanes { IfSome kept.new (λ server. length server.lanes ≡ command.lanes) }
     ensures no_folder_fault { result ≡ Status.FolderFault → ⊥ }
     ensures script_counts { Counts (result ≡ Status.ScriptFault) (S.seen script.old).faults (S.seen script.new).faults }
     ensures sink_counts { Counts (result ≡ Status.SinkFault) (K.seen out.old).faults (K.seen out.new).faults }
@@ -181,16 +204,19 @@ fn run_over<
     each_edit_has_sizes();
     each_has_answer();
     let modules = command.modules;
-    let Ok(heap) = empty_heap(alloc, modules) else {
+    let Ok(server) = open_server(alloc, modules, command.lanes) else {
         return Status::NoMemory;
     };
     let Ok(analysts) = made(alloc, maker, command.workers) else {
         return Status::NoMemory;
     };
+    let Ok(askers) = made(alloc, maker, command.lanes) else {
+        return Status::NoMemory;
+    };
     match run(
-        rt, alloc, heap, modules, listed, analysts, folder, script, out, turns,
+        rt, alloc, server, modules, listed, analysts, askers, folder, script, out, turns,
     ) {
-        Ok(ended) => status_of(ended),
+        Ok(ended) => finish(ended, kept),
         Err(RunFault::ScriptFault) => Status::ScriptFault,
         Err(RunFault::SinkFault) => Status::SinkFault,
         Err(RunFault::NoMemory) => Status::NoMemory,
@@ -201,7 +227,7 @@ fn run_over<
 fn run_made_up<
     R: Threads + Wait + Sync,
     K: Sink,
-    T: Turnstile,
+    T: Turnstile + Sync,
     A: Analyst + PlaceAnalyst + Send + Drop,
     M: AnalystMaker<A>,
 >(
@@ -213,37 +239,45 @@ fn run_made_up<
     maker: &M,
     out: &mut K,
     turns: &T,
+    kept: &mut Option<Server>,
 ) -> Status
     requires modules { IsInRange 1 4096 command.modules }
     requires workers { IsInRange 1 64 command.workers }
+    requires some_lanes { IsInRange 1 16 command.lanes }
     requires made { IsInRange 1 command.modules n }
-    ensures leaves { GeneratedLeaves command.modules n seed (K.seen out.old).written (K.seen out.new).written result }
+    requires kept { kept.old ≡ None }
+    ensures leaves { GeneratedLeaves command.modules command.lanes n seed (K.seen out.old).written (K.seen out.new).written result kept.new }
+    ensures lanes { IfSome kept.new (λ server. length server.lanes ≡ command.lanes) }
     ensures sink_counts { Counts (result ≡ Status.SinkFault) (K.seen out.old).faults (K.seen out.new).faults }
 {
     one_generated_run();
-    let Ok(heap) = empty_heap(alloc, command.modules) else {
+    let Ok(server) = open_server(alloc, command.modules, command.lanes) else {
         return Status::NoMemory;
     };
     let Ok(analysts) = made(alloc, maker, command.workers) else {
         return Status::NoMemory;
     };
-    let errors = match run_generated(
+    let Ok(askers) = made(alloc, maker, command.lanes) else {
+        return Status::NoMemory;
+    };
+    let ended = match run_generated(
         rt,
         alloc,
-        heap,
+        server,
         command.modules,
         n,
         seed,
         analysts,
+        askers,
         out,
         turns,
     ) {
-        Ok(errors) => errors,
+        Ok(ended) => ended,
         Err(RunFault::SinkFault) => return Status::SinkFault,
         Err(RunFault::NoMemory) => return Status::NoMemory,
         Err(RunFault::ScriptFault) => unreachable!(),
     };
-    finished(errors)
+    finish(ended, kept)
 }
 
 // So many analysts.
@@ -261,15 +295,21 @@ fn made<A: Drop, M: AnalystMaker<A>>(
     Ok(analysts)
 }
 
-// The status of a run that came to its end.
-fn status_of<W: Drop>(ended: Ended<W>) -> Status
-    ensures { result ≡ status_after ended.ending ended.errors }
+// The status of a run that came to its end. Its server is kept where it was not cut short.
+fn finish(ended: Ended, kept: &mut Option<Server>) -> Status
+    requires idle { IsIdle ended.server }
+    requires kept { kept.old ≡ None }
+    ensures status { result ≡ status_after ended.ending ended.errors }
+    ensures kept { Keeps (left_after ended.ending (end_of ended.server)) kept.new }
+    ensures lanes { IfSome kept.new (λ server. length server.lanes ≡ length ended.server.lanes) }
 {
     match ended.ending {
-        WalkEnd::Finished => finished(ended.errors),
+        WalkEnd::Finished => {
+            *kept = Some(ended.server);
+            finished(ended.errors)
+        }
         WalkEnd::BadLine => Status::BadLine,
-        WalkEnd::LongLine => Status::Limit,
-        WalkEnd::ManyLines => Status::Limit,
+        WalkEnd::LongLine | WalkEnd::ManyLines | WalkEnd::ManyAsks { .. } => Status::Limit,
     }
 }
 

@@ -1,3 +1,4 @@
 pub mod InOrder
 pub mod OneRun
 pub mod Parts
+pub mod Script

@@ -5,6 +5,7 @@ use Rattle.std.proofs.lemmas.Bool.{cases_lt}
 use Rattle.std.proofs.lemmas.List.{append-nil}
 use Rattle.flow_base.specs.Program.{Bytes, Program, paths_of}
 use Rattle.check_values.specs.Rows.{Rows}
+use Rattle.beside.specs.Uses.{LaneUse}
 use Rattle.pending_edits.specs.Pending.{MayBecome, edited}
 use Rattle.pending_edits.specs.declared.edit.Edit.{Edit}
 use Rattle.pending_edits.specs.declared.edit.Edit.TheVariants.{Put}
@@ -18,6 +19,7 @@ use Rattle.script_print.specs.Printed.{done_line}
 use Rattle.script_run.specs.Checked.{HasErrorCount}
 use Rattle.script_run.specs.Transcript.{Standing, start, with_edit, modules_counted, ComesTo, Rechecks, done, cancelled, cannot_read, Turns, edits, refuses, rechecks}
 use Rattle.script_run.proofs.Checks.{one_count}
+use Rattle.script_run.proofs.Lanes.{beside_nothing, nothing_beside}
 use Rattle.generator.specs.Modules.{edits_of}
 use Rattle.generated_run.specs.Run.{IsFolder, put_and_check, turns_of, Goes, generated_line, IsGeneratedRun}
 use Rattle.generated_run.proofs.InOrder.{some_folder, one_folder}
@@ -57,8 +59,8 @@ module _ (each : EachHasSizes) (folder : Program) where
     ]
 
     -- the recheck behind an edit
-    pub some_check : (s : Standing) → (t : Standing) × (printed : Bytes) × Turns most (Some folder) (line.Recheck 0) s t 0 printed
-    some_check s = let recheck = some_recheck s in (recheck.0, recheck.1, rechecks s recheck.0 0 0 recheck.1 recheck.2)
+    pub some_check : (s : Standing) → (t : Standing) × (printed : Bytes) × Turns most (Some folder) (line.Recheck 0 []) s t 0 printed
+    some_check s = let recheck = some_recheck s in (recheck.0, recheck.1, rechecks s recheck.0 0 [] 0 recheck.1 (beside_nothing _ _ _ _ _ _ recheck.2))
 
     pub some_round : (s : Standing) (edit : Bytes × Bytes) → (t : Standing) × (printed : Bytes) × Goes most folder (put_and_check edit) s t printed
     some_round s edit =
@@ -66,8 +68,8 @@ module _ (each : EachHasSizes) (folder : Program) where
         let check = some_check first.0 in (
           check.0,
           first.1 ++ check.1,
-          goes_both most folder (line.Edit edit.0 edit.1 ∷ []) (line.Recheck 0 ∷ []) s first.0 check.0 first.1 check.1
-              (goes_one most folder (line.Edit edit.0 edit.1) s first.0 first.1 first.2) (goes_one most folder (line.Recheck 0) first.0 check.0 check.1 check.2),
+          goes_both most folder (line.Edit edit.0 edit.1 ∷ []) (line.Recheck 0 [] ∷ []) s first.0 check.0 first.1 check.1
+              (goes_one most folder (line.Edit edit.0 edit.1) s first.0 first.1 first.2) (goes_one most folder (line.Recheck 0 []) first.0 check.0 check.1 check.2),
         )
 
     pub some_rounds : (all : List (Bytes × Bytes)) (s : Standing) → (t : Standing) × (printed : Bytes) × Goes most folder (flat_map put_and_check all) s t printed
@@ -78,34 +80,37 @@ module _ (each : EachHasSizes) (folder : Program) where
         (rest.0, first.1 ++ rest.1, goes_both most folder (put_and_check edit) (flat_map put_and_check all) s first.0 rest.0 first.1 rest.1 first.2 rest.2)
 
 -- a load and the turns behind it make a run
-pub makes_run : (most n seed : ℕ) (folder : Program) (loaded ended : Standing) (load lines : Bytes) → IsFolder n seed folder → Rechecks (Some folder) 0 (start (paths_of folder)) loaded 0 load
-    → Goes most folder (turns_of n seed) loaded ended lines → IsGeneratedRun most n seed (load ++ (lines ++ generated_line n)) ended.program
-makes_run most n seed folder loaded ended load lines is_folder loads goes = record {
+pub makes_run : (most lanes n seed : ℕ) (folder : Program) (loaded ended : Standing) (load lines : Bytes) → IsFolder n seed folder → Rechecks (Some folder) 0 (start (paths_of folder) lanes) loaded 0 load
+    → Goes most folder (turns_of n seed) loaded ended lines → IsGeneratedRun most lanes n seed (load ++ (lines ++ generated_line n)) ended.program ended.version ended.lanes
+makes_run most lanes n seed folder loaded ended load lines is_folder loads goes = record {
   folder = folder;
   is_folder = is_folder;
   loaded = loaded;
   load = load;
   loads = loads;
-  ended = ended;
+  waiting = ended.waiting;
   lines = lines;
   goes = goes;
   prints = refl;
-  left = refl;
 }
 
--- what was loaded goes on to a whole run
-pub goes_on : EachHasSizes → (most n seed : ℕ) (folder : Program) (loaded : Standing) (load : Bytes) → IsFolder n seed folder → Rechecks (Some folder) 0 (start (paths_of folder)) loaded 0 load
-    → (more : Bytes) × (program : Program) × IsGeneratedRun most n seed (load ++ more) program
-goes_on each most n seed folder loaded load is_folder loads =
-    let rest = some_rounds each folder most (edits_of n seed) loaded in
-    (rest.1 ++ generated_line n, rest.0.program, makes_run most n seed folder loaded rest.0 load rest.1 is_folder loads rest.2)
+-- what such a run may print and where it may end, behind these bytes
+abbrev pub RunsOn : ℕ → ℕ → ℕ → ℕ → Bytes → Type 0
+RunsOn most lanes n seed before = (more : Bytes) × (program : Program) × (version : ℕ) × (uses : List LaneUse) × IsGeneratedRun most lanes n seed (before ++ more) program version uses
 
-pub some_run : EachHasSizes → (most n seed : ℕ) → n ≤ 4096 → (printed : Bytes) × (program : Program) × IsGeneratedRun most n seed printed program
-some_run each most n seed few =
+-- what was loaded goes on to a whole run
+pub goes_on : EachHasSizes → (most lanes n seed : ℕ) (folder : Program) (loaded : Standing) (load : Bytes) → IsFolder n seed folder → Rechecks (Some folder) 0 (start (paths_of folder) lanes) loaded 0 load
+    → RunsOn most lanes n seed load
+goes_on each most lanes n seed folder loaded load is_folder loads =
+    let rest = some_rounds each folder most (edits_of n seed) loaded in
+    (rest.1 ++ generated_line n, rest.0.program, rest.0.version, rest.0.lanes, makes_run most lanes n seed folder loaded rest.0 load rest.1 is_folder loads rest.2)
+
+pub some_run : EachHasSizes → (most lanes n seed : ℕ) → n ≤ 4096 → (printed : Bytes) × (program : Program) × (version : ℕ) × (uses : List LaneUse) × IsGeneratedRun most lanes n seed printed program version uses
+some_run each most lanes n seed few =
     let folder = some_folder n seed few in
-    let load = some_recheck each folder.0 (start (paths_of folder.0)) in
-    let on = goes_on each most n seed folder.0 load.0 load.1 folder.1 load.2 in
-    (load.1 ++ on.0, on.1, on.2)
+    let load = some_recheck each folder.0 (start (paths_of folder.0) lanes) in
+    let on = goes_on each most lanes n seed folder.0 load.0 load.1 folder.1 load.2 in
+    (load.1 ++ on.0, on.1, on.2, on.3, on.4)
 
 -- ---- one run
 
@@ -116,16 +121,16 @@ abbrev Same : Standing → Standing → Bytes → Bytes → Type 0
 Same s t p q = (s ≡ t) × (p ≡ q)
 
 same_done : (s : Standing) (a b : Program) (parsed parsed' checked checked' m n : ℕ) → a ≡ b → parsed ≡ parsed' → checked ≡ checked' → m ≡ n →
-    Same (record { program = a; version = s.version + 1; waiting = [] }) (record { program = b; version = s.version + 1; waiting = [] })
+    Same (record { program = a; version = s.version + 1; waiting = []; lanes = s.lanes }) (record { program = b; version = s.version + 1; waiting = []; lanes = s.lanes })
     (done_line (s.version + 1) parsed checked m) (done_line (s.version + 1) parsed' checked' n)
 same_done s a b parsed parsed' checked checked' m n same parses checks count = (
-  ap (λ (r : Program). let t : Standing = record { program = r; version = s.version + 1; waiting = [] } in t) same,
+  ap (λ (r : Program). let t : Standing = record { program = r; version = s.version + 1; waiting = []; lanes = s.lanes } in t) same,
   (λ i. done_line (s.version + 1) (parses i) (checks i) (count i)),
 )
 
 module _ (one : OneFull) (sized : HaveOneSize) (folder : Program) where
   both_done : (s : Standing) (a b : Program) (parsed parsed' checked checked' polls polls' m n : ℕ) → ComesTo (Some folder) s a parsed checked polls → ComesTo (Some folder) s b parsed' checked' polls'
-      → HasErrorCount a m → HasErrorCount b n → Same (record { program = a; version = s.version + 1; waiting = [] }) (record { program = b; version = s.version + 1; waiting = [] })
+      → HasErrorCount a m → HasErrorCount b n → Same (record { program = a; version = s.version + 1; waiting = []; lanes = s.lanes }) (record { program = b; version = s.version + 1; waiting = []; lanes = s.lanes })
       (done_line (s.version + 1) parsed checked m) (done_line (s.version + 1) parsed' checked' n)
   both_done s a b parsed parsed' checked checked' polls polls' m n comes also first second =
       let same = same_program folder a b s.program s.waiting comes.may also.may in
@@ -147,8 +152,8 @@ module _ (one : OneFull) (sized : HaveOneSize) (folder : Program) where
     same_edit (refuses s path text over) (edits s' path' text' few) = absurd (omega arith)
     same_edit (refuses s path text over) (refuses s' path' text' over') = (refl, refl)
 
-    same_check : {s t u : Standing} {f g : ℕ} {p q : Bytes} → Turns most (Some folder) (line.Recheck 0) s t f p → Turns most (Some folder) (line.Recheck 0) s u g q → f ≡ 0 → g ≡ 0 → Same t u p q
-    same_check (rechecks s t stop f p recheck) (rechecks s' u stop' g q other) quiet still = same_recheck recheck other refl quiet still
+    same_check : {s t u : Standing} {f g : ℕ} {p q : Bytes} → Turns most (Some folder) (line.Recheck 0 []) s t f p → Turns most (Some folder) (line.Recheck 0 []) s u g q → f ≡ 0 → g ≡ 0 → Same t u p q
+    same_check (rechecks s t stop asks f p recheck) (rechecks s' u stop' asks' g q other) quiet still = same_recheck (nothing_beside _ _ _ _ _ _ recheck) (nothing_beside _ _ _ _ _ _ other) refl quiet still
 
     joined : (a b c d e f : Bytes) → e ≡ a ++ c → f ≡ b ++ d → a ≡ b → c ≡ d → e ≡ f
     joined a b c d e f left right first second = cc
@@ -157,21 +162,28 @@ module _ (one : OneFull) (sized : HaveOneSize) (folder : Program) where
     same_rounds [] s t u p q goes also = (goes.0 ∙ sym also.0, goes.1 ∙ sym also.1)
     same_rounds (edit ∷ all) s t u p q (m, a, b, edits_one, (m', c, d, checks_one, rest, joins'), joins) (k, a', b', edits_other, (k', c', d', checks_other, rest', joins_other'), joins_other) =
         let first = same_edit edits_one edits_other in
-        let second = same_check checks_one (subst (λ r. Turns most (Some folder) (line.Recheck 0) r k' 0 c') (sym first.0) checks_other) refl refl in
+        let second = same_check checks_one (subst (λ r. Turns most (Some folder) (line.Recheck 0 []) r k' 0 c') (sym first.0) checks_other) refl refl in
         let third = same_rounds all m' t u d d' rest (subst (λ r. Goes most folder (flat_map put_and_check all) r u d') (sym second.0) rest') in
         (third.0, joined a a' b b' p q joins joins_other first.1 (joined c c' d d' b b' joins' joins_other' second.1 third.1))
 
-  same_runs : (most n seed : ℕ) (x y : Standing) (p q : Bytes) (s t : Standing) (a b : Bytes) → Rechecks (Some folder) 0 (start (paths_of folder)) x 0 p → Rechecks (Some folder) 0 (start (paths_of folder)) y 0 q
-      → Goes most folder (turns_of n seed) x s a → Goes most folder (turns_of n seed) y t b → (p ++ (a ++ generated_line n) ≡ q ++ (b ++ generated_line n)) × (s.program ≡ t.program)
-  same_runs most n seed x y p q s t a b loads also goes other =
+  same_runs : (most lanes n seed : ℕ) (x y : Standing) (p q : Bytes) (s t : Standing) (a b : Bytes) → Rechecks (Some folder) 0 (start (paths_of folder) lanes) x 0 p → Rechecks (Some folder) 0 (start (paths_of folder) lanes) y 0 q
+      → Goes most folder (turns_of n seed) x s a → Goes most folder (turns_of n seed) y t b → Same s t (p ++ (a ++ generated_line n)) (q ++ (b ++ generated_line n))
+  same_runs most lanes n seed x y p q s t a b loads also goes other =
       let load = same_recheck loads also refl refl refl in
       let rest = same_rounds most (edits_of n seed) x s t a b goes (subst (λ r. Goes most folder (turns_of n seed) r t b) (sym load.0) other) in
-      (λ i. load.1 i ++ (rest.1 i ++ generated_line n), ap (λ (r : Standing). r.program) rest.0)
+      (rest.0, λ i. load.1 i ++ (rest.1 i ++ generated_line n))
 
-pub same_run : OneFull → HaveOneSize → (most n seed : ℕ) (p q : Bytes) (a b : Program) → IsGeneratedRun most n seed p a → IsGeneratedRun most n seed q b → (p ≡ q) × (a ≡ b)
-same_run one sized most n seed p q a b run other =
+pub same_run : OneFull → HaveOneSize → (most lanes n seed : ℕ) (p q : Bytes) (a b : Program) (v w : ℕ) (x y : List LaneUse) → IsGeneratedRun most lanes n seed p a v x → IsGeneratedRun most lanes n seed q b w y
+    → (p ≡ q) × (a ≡ b) × (v ≡ w) × (x ≡ y)
+same_run one sized most lanes n seed p q a b v w x y run other =
     let same = one_folder n seed other.folder run.folder other.is_folder run.is_folder in
-    let loads = subst (λ f. Rechecks (Some f) 0 (start (paths_of f)) other.loaded 0 other.load) same other.loads in
-    let goes = subst (λ f. Goes most f (turns_of n seed) other.loaded other.ended other.lines) same other.goes in
-    let is = same_runs one sized run.folder most n seed run.loaded other.loaded run.load other.load run.ended other.ended run.lines other.lines run.loads loads run.goes goes in
-    (run.prints ∙ is.0 ∙ sym other.prints, sym run.left ∙ is.1 ∙ other.left)
+    let s : Standing = record { program = a; version = v; waiting = run.waiting; lanes = x } in
+    let t : Standing = record { program = b; version = w; waiting = other.waiting; lanes = y } in
+    let loads = subst (λ f. Rechecks (Some f) 0 (start (paths_of f) lanes) other.loaded 0 other.load) same other.loads in
+    let goes = subst (λ f. Goes most f (turns_of n seed) other.loaded t other.lines) same other.goes in
+    let is = same_runs one sized run.folder most lanes n seed run.loaded other.loaded run.load other.load s t run.lines other.lines run.loads loads run.goes goes in (
+      run.prints ∙ is.1 ∙ sym other.prints,
+      ap (λ (r : Standing). r.program) is.0,
+      ap (λ (r : Standing). r.version) is.0,
+      ap (λ (r : Standing). r.lanes) is.0,
+    )

@@ -1,9 +1,9 @@
 -- The parts of a run on made-up modules, and what was written of them.
-use Rattle.std.proofs.Common.{◌≡◌, ℕ, ◌+◌, ◌<◌, ◌≤◌, List, [], ◌∷◌, ◌++◌, length, take, drop, get_or, Option, Some, refl, sym, ap, ◌∙◌, subst, arith, inl, inr}
+use Rattle.std.proofs.Common.{◌≡◌, ℕ, ◌+◌, ◌<◌, ◌≤◌, List, [], ◌∷◌, ◌++◌, length, map, replicate, take, drop, get_or, Option, Some, refl, sym, ap, ◌∙◌, subst, arith, inl, inr}
 use Rattle.std.specs.List.{flat_map}
 use Rattle.std.specs.Prelude.{Result, OnOk, OnErr}
 use Rattle.std.proofs.lemmas.Result.{on_ok_weaker, on_err_weaker}
-use Rattle.std.proofs.lemmas.List.{take-append-drop}
+use Rattle.std.proofs.lemmas.List.{take-append-drop, length-map, length-replicate}
 use Rattle.std.proofs.lemmas.Grind.{flat_map-append}
 use Rattle.std.proofs.lemmas.List.FromFn.{length-map-range_with_len}
 use Rattle.named_rows.proofs.Lists.{flat_more}
@@ -12,12 +12,15 @@ use Rattle.flow_base.specs.Outside.{appended, HoldsFront}
 use Rattle.flow_base.specs.Program.{Bytes, Program, paths_of}
 use Rattle.flow_base.specs.Seen.{FolderSeen}
 use Rattle.affected_sizes.specs.Law.{EachHasSizes}
+use Rattle.beside.specs.Uses.{LaneUse, new_lane, MayAnswer}
+use Rattle.beside.proofs.Uses.{may_answer, new_at_most}
 use Rattle.script_line.specs.declared.line.Line.{Line}
 use Rattle.script_line.specs.declared.line.Line.TheVariants as line
 use Rattle.script_run.specs.Checked.{HasErrorCount}
 use Rattle.script_run.specs.Session.{HasRechecked, HasTurned}
 use Rattle.script_run.specs.Transcript.{Standing, start, Rechecks, done, cancelled, cannot_read, Turns, edits, refuses, rechecks}
 use Rattle.script_run.proofs.Completing.{front_longer}
+use Rattle.script_run.proofs.Lanes.{nothing_beside}
 use Rattle.script_run.proofs.Fronts.{appended_none, front_none, front_all, front_behind}
 use Rattle.script_run.proofs.Writing.{appended_twice}
 use Rattle.generator.specs.Draws.{edited}
@@ -31,11 +34,11 @@ use Rattle.generated_run.proofs.OneRun.{goes_one, goes_both, some_check, some_ro
 no_fault : (faults before now : ℕ) → before ≡ 0 → now ≡ 0 → RoseBy faults before now → faults ≡ 0
 no_fault faults before now first last rose = omega (arith, first, last, rose)
 
-pub quiet_load : (folder : Program) (s t : Standing) (printed : Bytes) (before now : FolderSeen) → s ≡ start (paths_of folder) → before.told ≡ Some folder → before.faults ≡ 0 → now.faults ≡ 0
-    → HasRechecked 0 s t printed before now → Loads folder t printed
-quiet_load folder s t printed before now is told first last load =
-    subst (λ f. Rechecks (Some folder) 0 (start (paths_of folder)) t f printed) (no_fault load.faults before.faults now.faults first last load.counted)
-    (subst (λ w. Rechecks w 0 (start (paths_of folder)) t load.faults printed) told (subst (λ r. Rechecks before.told 0 r t load.faults printed) is load.rechecks))
+pub quiet_load : (lanes : ℕ) (folder : Program) (s t : Standing) (printed : Bytes) (before now : FolderSeen) → s ≡ start (paths_of folder) lanes → before.told ≡ Some folder → before.faults ≡ 0 → now.faults ≡ 0
+    → HasRechecked 0 [] s t printed before now → Loads lanes folder t printed
+quiet_load lanes folder s t printed before now is told first last load =
+    subst (λ f. Rechecks (Some folder) 0 (start (paths_of folder) lanes) t f printed) (no_fault load.faults before.faults now.faults first last load.counted)
+    (subst (λ w. Rechecks w 0 (start (paths_of folder) lanes) t load.faults printed) told (subst (λ r. Rechecks before.told 0 r t load.faults printed) is (nothing_beside _ _ _ _ _ _ load.rechecks)))
 
 pub quiet_turn : (most : ℕ) (folder : Program) (said : Line) (s t : Standing) (printed : Bytes) (before now : FolderSeen) → before.told ≡ Some folder → before.faults ≡ 0 → now.faults ≡ 0
     → HasTurned most said s t printed before now → TakesTurn most folder said s t printed
@@ -50,15 +53,40 @@ recheck_version (done s program parsed checked polls errors comes through counts
 recheck_version (cancelled s program parsed checked polls comes some within) = omega arith
 recheck_version (cannot_read s path touched) = omega arith
 
-pub done_version : (folder : Program) (t : Standing) (printed : Bytes) → Loads folder t printed → t.version ≤ 1
-done_version folder t printed loads = omega (arith, recheck_version loads)
+pub done_version : (lanes : ℕ) (folder : Program) (t : Standing) (printed : Bytes) → Loads lanes folder t printed → t.version ≤ 1
+done_version lanes folder t printed loads = omega (arith, recheck_version loads)
 
 edit_version : {most : ℕ} {told : Option Program} {path text : Bytes} {s t : Standing} {f : ℕ} {p : Bytes} → Turns most told (line.Edit path text) s t f p → t.version ≤ s.version
 edit_version (edits s path text few) = omega arith
 edit_version (refuses s path text many) = omega arith
 
-check_version : {most : ℕ} {told : Option Program} {stop : ℕ} {s t : Standing} {f : ℕ} {p : Bytes} → Turns most told (line.Recheck stop) s t f p → t.version ≤ s.version + 1
-check_version (rechecks s t stop f p recheck) = recheck_version recheck
+check_version : {most : ℕ} {told : Option Program} {stop : ℕ} {s t : Standing} {f : ℕ} {p : Bytes} → Turns most told (line.Recheck stop []) s t f p → t.version ≤ s.version + 1
+check_version (rechecks s t stop asks f p recheck) = recheck_version (nothing_beside _ _ _ _ _ _ recheck)
+
+-- ---- lanes
+
+recheck_lanes : {told : Option Program} {stop : ℕ} {s t : Standing} {f : ℕ} {printed : Bytes} → Rechecks told stop s t f printed → t.lanes ≡ s.lanes
+recheck_lanes (done s program parsed checked polls errors comes through counts) = refl
+recheck_lanes (cancelled s program parsed checked polls comes some within) = refl
+recheck_lanes (cannot_read s path touched) = refl
+
+edit_lanes : {most : ℕ} {told : Option Program} {path text : Bytes} {s t : Standing} {f : ℕ} {p : Bytes} → Turns most told (line.Edit path text) s t f p → t.lanes ≡ s.lanes
+edit_lanes (edits s path text few) = refl
+edit_lanes (refuses s path text many) = refl
+
+check_lanes : {most : ℕ} {told : Option Program} {stop : ℕ} {s t : Standing} {f : ℕ} {p : Bytes} → Turns most told (line.Recheck stop []) s t f p → t.lanes ≡ s.lanes
+check_lanes (rechecks s t stop asks f p recheck) = recheck_lanes (nothing_beside _ _ _ _ _ _ recheck)
+
+pub load_lanes : (lanes : ℕ) (folder : Program) (t : Standing) (printed : Bytes) → Loads lanes folder t printed → t.lanes ≡ replicate lanes new_lane
+load_lanes lanes folder t printed loads = recheck_lanes loads
+
+-- new lanes may answer
+pub new_may : (lanes : ℕ) (uses : List LaneUse) → uses ≡ replicate lanes new_lane → MayAnswer 0 uses
+new_may lanes uses are = subst (MayAnswer 0) (sym are) (may_answer 0 0 (replicate lanes new_lane) (new_at_most lanes 0) (omega arith))
+
+-- there are as many as at first
+pub as_many_lanes : {L : Type 0} (of_lane : L → LaneUse) (all : List L) (lanes : ℕ) (uses held : List LaneUse) → map of_lane all ≡ held → held ≡ uses → uses ≡ replicate lanes new_lane → length all ≡ lanes
+as_many_lanes of_lane all lanes uses held are still first = sym (length-map all of_lane) ∙ ap length (are ∙ still ∙ first) ∙ length-replicate lanes new_lane
 
 -- ---- what was written
 
@@ -114,13 +142,19 @@ module _ (most : ℕ) (folder : Program) where
     abbrev the_edit : Line
     the_edit = line.Edit path text
 
-    pub round_done : (t u : Standing) (before mid now : Option Bytes) → HasDone (TakesTurn most folder the_edit s) t before mid → HasDone (TakesTurn most folder (line.Recheck 0) t) u mid now
+    pub round_done : (t u : Standing) (before mid now : Option Bytes) → HasDone (TakesTurn most folder the_edit s) t before mid → HasDone (TakesTurn most folder (line.Recheck 0 []) t) u mid now
         → HasDone (Behind (put_and_check (path, text)) s) u before now
     round_done t u before mid now first check =
-        done_more (the_edit ∷ []) (line.Recheck 0 ∷ []) s t u before mid now (one_done the_edit s t before mid first) (one_done (line.Recheck 0) t u mid now check)
+        done_more (the_edit ∷ []) (line.Recheck 0 [] ∷ []) s t u before mid now (one_done the_edit s t before mid first) (one_done (line.Recheck 0 []) t u mid now check)
 
-    pub round_version : (t u : Standing) (before mid now : Option Bytes) → HasDone (TakesTurn most folder the_edit s) t before mid → HasDone (TakesTurn most folder (line.Recheck 0) t) u mid now → u.version ≤ s.version + 1
+    pub round_version : (t u : Standing) (before mid now : Option Bytes) → HasDone (TakesTurn most folder the_edit s) t before mid → HasDone (TakesTurn most folder (line.Recheck 0 []) t) u mid now → u.version ≤ s.version + 1
     round_version t u before mid now first check = omega (arith, edit_version first.prints, check_version check.prints)
+
+    pub round_lanes : (t u : Standing) (before mid now : Option Bytes) → HasDone (TakesTurn most folder the_edit s) t before mid → HasDone (TakesTurn most folder (line.Recheck 0 []) t) u mid now → u.lanes ≡ s.lanes
+    round_lanes t u before mid now first check = check_lanes check.prints ∙ edit_lanes first.prints
+
+    pub put_may : (t : Standing) (before mid : Option Bytes) → HasDone (TakesTurn most folder the_edit s) t before mid → (asks : ℕ) → asks ≡ 0 → MayAnswer 0 s.lanes → MayAnswer asks t.lanes
+    put_may t before mid first asks none may = subst (λ (n : ℕ). MayAnswer n t.lanes) (sym none) (subst (MayAnswer 0) (sym (edit_lanes first.prints)) may)
 
     pub put_version : (t : Standing) (before mid : Option Bytes) → HasDone (TakesTurn most folder the_edit s) t before mid → t.version ≤ s.version
     put_version t before mid first = edit_version first.prints
@@ -128,37 +162,44 @@ module _ (most : ℕ) (folder : Program) where
     pub put_breaks : EachHasSizes → (before now : Option Bytes) → BreaksOff most folder the_edit s before now → HasBegun (Behind (put_and_check (path, text)) s) before now
     put_breaks each before now (inl same) = unbegun (Behind (put_and_check (path, text)) s) (some_round each folder most s (path, text)) before now same
     put_breaks each before now (inr turn) =
-        begun_on (the_edit ∷ []) (line.Recheck 0 ∷ []) s before now
-        (λ t. let check = some_check each folder most t in (check.0, check.1, goes_one most folder (line.Recheck 0) t check.0 check.1 check.2)) (one_begun the_edit s before now turn)
+        begun_on (the_edit ∷ []) (line.Recheck 0 [] ∷ []) s before now
+        (λ t. let check = some_check each folder most t in (check.0, check.1, goes_one most folder (line.Recheck 0 []) t check.0 check.1 check.2)) (one_begun the_edit s before now turn)
 
-    pub check_breaks : EachHasSizes → (t : Standing) (before mid now : Option Bytes) → HasDone (TakesTurn most folder the_edit s) t before mid → BreaksOff most folder (line.Recheck 0) t mid now
+    pub check_breaks : EachHasSizes → (t : Standing) (before mid now : Option Bytes) → HasDone (TakesTurn most folder the_edit s) t before mid → BreaksOff most folder (line.Recheck 0 []) t mid now
         → HasBegun (Behind (put_and_check (path, text)) s) before now
     check_breaks each t before mid now first breaks =
-        begun_behind (the_edit ∷ []) (line.Recheck 0 ∷ []) s t before mid now (one_done the_edit s t before mid first) (of_check breaks)
+        begun_behind (the_edit ∷ []) (line.Recheck 0 [] ∷ []) s t before mid now (one_done the_edit s t before mid first) (of_check breaks)
       where
-        of_check : BreaksOff most folder (line.Recheck 0) t mid now → HasBegun (Behind (line.Recheck 0 ∷ []) t) mid now
+        of_check : BreaksOff most folder (line.Recheck 0 []) t mid now → HasBegun (Behind (line.Recheck 0 [] ∷ []) t) mid now
         of_check (inl same) =
             let check = some_check each folder most t in
-            unbegun (Behind (line.Recheck 0 ∷ []) t) (check.0, check.1, goes_one most folder (line.Recheck 0) t check.0 check.1 check.2) mid now same
-        of_check (inr turn) = one_begun (line.Recheck 0) t mid now turn
+            unbegun (Behind (line.Recheck 0 [] ∷ []) t) (check.0, check.1, goes_one most folder (line.Recheck 0 []) t check.0 check.1 check.2) mid now same
+        of_check (inr turn) = one_begun (line.Recheck 0 []) t mid now turn
 
-    -- the same by the results of both turns, where the session still takes as many modules, and the folder is the same
-    module _ (t : Standing) (before mid : Option Bytes) (first : HasDone (TakesTurn most folder the_edit s) t before mid) {X E : Type 0} (result : Result X E) (m : ℕ) (f : Program) (modules : m ≡ most) (same : f ≡ folder) where
-      turned : (u : Standing) (now : Option Bytes) → HasDone (TakesTurn m f (line.Recheck 0) t) u mid now → HasDone (TakesTurn most folder (line.Recheck 0) t) u mid now
+    -- the same by the results of both turns, where the session still takes as many modules, the folder is the same, and nothing is asked
+    module _ (t : Standing) (before mid : Option Bytes) (first : HasDone (TakesTurn most folder the_edit s) t before mid) {X E : Type 0} (result : Result X E) (m : ℕ) (f : Program) (said : Line) (modules : m ≡ most) (same : f ≡ folder)
+        (is : said ≡ line.Recheck 0 []) where
+      turned : (u : Standing) (now : Option Bytes) → HasDone (TakesTurn m f said t) u mid now → HasDone (TakesTurn most folder (line.Recheck 0 []) t) u mid now
       turned u now check =
-          subst (λ (k : ℕ). HasDone (TakesTurn k folder (line.Recheck 0) t) u mid now) modules (subst (λ (g : Program). HasDone (TakesTurn m g (line.Recheck 0) t) u mid now) same check)
+          subst (λ (k : ℕ). HasDone (TakesTurn k folder (line.Recheck 0 []) t) u mid now) modules
+          (subst (λ (g : Program). HasDone (TakesTurn m g (line.Recheck 0 []) t) u mid now) same (subst (λ (l : Line). HasDone (TakesTurn m f l t) u mid now) is check))
 
-      broken : (now : Option Bytes) → BreaksOff m f (line.Recheck 0) t mid now → BreaksOff most folder (line.Recheck 0) t mid now
-      broken now breaks = subst (λ (k : ℕ). BreaksOff k folder (line.Recheck 0) t mid now) modules (subst (λ (g : Program). BreaksOff m g (line.Recheck 0) t mid now) same breaks)
+      broken : (now : Option Bytes) → BreaksOff m f said t mid now → BreaksOff most folder (line.Recheck 0 []) t mid now
+      broken now breaks =
+          subst (λ (k : ℕ). BreaksOff k folder (line.Recheck 0 []) t mid now) modules
+          (subst (λ (g : Program). BreaksOff m g (line.Recheck 0 []) t mid now) same (subst (λ (l : Line). BreaksOff m f l t mid now) is breaks))
 
-      pub round_ok : (u : Standing) (now : Option Bytes) → OnOk result (HasDone (TakesTurn m f (line.Recheck 0) t) u mid now) → OnOk result (HasDone (Behind (put_and_check (path, text)) s) u before now)
-      round_ok u now check = on_ok_weaker result (λ is. round_done t u before mid now first (turned u now is)) check
+      pub round_ok : (u : Standing) (now : Option Bytes) → OnOk result (HasDone (TakesTurn m f said t) u mid now) → OnOk result (HasDone (Behind (put_and_check (path, text)) s) u before now)
+      round_ok u now check = on_ok_weaker result (λ taken. round_done t u before mid now first (turned u now taken)) check
 
-      pub round_err : EachHasSizes → (now : Option Bytes) → OnErr result (BreaksOff m f (line.Recheck 0) t mid now) → OnErr result (HasBegun (Behind (put_and_check (path, text)) s) before now)
-      round_err each now breaks = on_err_weaker result (λ is. check_breaks each t before mid now first (broken now is)) breaks
+      pub round_err : EachHasSizes → (now : Option Bytes) → OnErr result (BreaksOff m f said t mid now) → OnErr result (HasBegun (Behind (put_and_check (path, text)) s) before now)
+      round_err each now breaks = on_err_weaker result (λ off. check_breaks each t before mid now first (broken now off)) breaks
 
-      pub version_ok : (u : Standing) (now : Option Bytes) → OnOk result (HasDone (TakesTurn m f (line.Recheck 0) t) u mid now) → OnOk result (u.version ≤ s.version + 1)
-      version_ok u now check = on_ok_weaker result (λ is. round_version t u before mid now first (turned u now is)) check
+      pub version_ok : (u : Standing) (now : Option Bytes) → OnOk result (HasDone (TakesTurn m f said t) u mid now) → OnOk result (u.version ≤ s.version + 1)
+      version_ok u now check = on_ok_weaker result (λ taken. round_version t u before mid now first (turned u now taken)) check
+
+      pub lanes_ok : (u : Standing) (now : Option Bytes) → OnOk result (HasDone (TakesTurn m f said t) u mid now) → OnOk result (u.lanes ≡ s.lanes)
+      lanes_ok u now check = on_ok_weaker result (λ taken. round_lanes t u before mid now first (turned u now taken)) check
 
   -- ---- edit by edit
 
@@ -222,37 +263,41 @@ all_rounds P most n seed m folder f all t modules same are holds =
     subst (λ (k : ℕ). P (Goes k folder (turns_of n seed) t)) modules
     (subst (λ (g : Program). P (Goes m g (turns_of n seed) t)) same (subst (λ edits. P (Goes m f (flat_map put_and_check edits) t)) are holds))
 
-module _ (each : EachHasSizes) (most n seed : ℕ) where
-  pub not_begun : n ≤ 4096 → (before now : Option Bytes) → now ≡ before → HasGeneratedFront most n seed before now
+module _ (each : EachHasSizes) (most lanes n seed : ℕ) where
+  pub not_begun : n ≤ 4096 → (before now : Option Bytes) → now ≡ before → HasGeneratedFront most lanes n seed before now
   not_begun few before now same =
-      let run = some_run each most n seed few in
-      record { printed = run.0; program = run.1; run = run.2; front = front_none before now run.0 same }
+      let run = some_run each most lanes n seed few in
+      record { printed = run.0; program = run.1; version = run.2; uses = run.3; run = run.4; front = front_none before now run.0 same }
 
   module _ (folder : Program) (is_folder : IsFolder n seed folder) where
-    pub load_stops : (before now : Option Bytes) → HasBegun (Loads folder) before now → HasGeneratedFront most n seed before now
+    pub load_stops : (before now : Option Bytes) → HasBegun (Loads lanes folder) before now → HasGeneratedFront most lanes n seed before now
     load_stops before now load =
-        let on = goes_on each most n seed folder load.standing load.printed is_folder load.prints in
-        record { printed = load.printed ++ on.0; program = on.1; run = on.2; front = front_longer before now load.printed on.0 load.front }
+        let on = goes_on each most lanes n seed folder load.standing load.printed is_folder load.prints in
+        record { printed = load.printed ++ on.0; program = on.1; version = on.2; uses = on.3; run = on.4; front = front_longer before now load.printed on.0 load.front }
 
-    pub edits_stop : (t : Standing) (before mid now : Option Bytes) → HasDone (Loads folder) t before mid → HasBegun (Goes most folder (turns_of n seed) t) mid now → HasGeneratedFront most n seed before now
+    pub edits_stop : (t : Standing) (before mid now : Option Bytes) → HasDone (Loads lanes folder) t before mid → HasBegun (Goes most folder (turns_of n seed) t) mid now → HasGeneratedFront most lanes n seed before now
     edits_stop t before mid now load rest = record {
       printed = load.printed ++ (rest.printed ++ generated_line n);
       program = rest.standing.program;
-      run = makes_run most n seed folder t rest.standing load.printed rest.printed is_folder load.prints rest.prints;
+      version = rest.standing.version;
+      uses = rest.standing.lanes;
+      run = makes_run most lanes n seed folder t rest.standing load.printed rest.printed is_folder load.prints rest.prints;
       front = front_behind before mid now load.printed (rest.printed ++ generated_line n) load.written (front_longer mid now rest.printed (generated_line n) rest.front);
     }
 
-    module _ (t u : Standing) (before mid last now : Option Bytes) (load : HasDone (Loads folder) t before mid) (rest : HasDone (Goes most folder (turns_of n seed) t) u mid last) where
+    module _ (t u : Standing) (before mid last now : Option Bytes) (load : HasDone (Loads lanes folder) t before mid) (rest : HasDone (Goes most folder (turns_of n seed) t) u mid last) where
       abbrev whole : Bytes
       whole = load.printed ++ (rest.printed ++ generated_line n)
 
-      is_run : IsGeneratedRun most n seed whole u.program
-      is_run = makes_run most n seed folder t u load.printed rest.printed is_folder load.prints rest.prints
+      is_run : IsGeneratedRun most lanes n seed whole u.program u.version u.lanes
+      is_run = makes_run most lanes n seed folder t u load.printed rest.printed is_folder load.prints rest.prints
 
-      pub line_stops : HoldsFront last now (generated_line n) → HasGeneratedFront most n seed before now
+      pub line_stops : HoldsFront last now (generated_line n) → HasGeneratedFront most lanes n seed before now
       line_stops front = record {
         printed = whole;
         program = u.program;
+        version = u.version;
+        uses = u.lanes;
         run = is_run;
         front = front_behind before mid now load.printed (rest.printed ++ generated_line n) load.written (front_behind mid last now rest.printed (generated_line n) rest.written front);
       }
@@ -262,8 +307,16 @@ module _ (each : EachHasSizes) (most n seed : ℕ) where
           line ∙ ap (λ held. appended held (generated_line n)) rest.written ∙ appended_twice mid rest.printed (generated_line n)
           ∙ ap (λ held. appended held (rest.printed ++ generated_line n)) load.written ∙ appended_twice before load.printed (rest.printed ++ generated_line n)
 
-      pub has_generated : (errors : ℕ) → now ≡ appended last (generated_line n) → HasErrorCount u.program errors → HasGenerated most n seed errors before now
-      has_generated errors line counts = record { printed = whole; program = u.program; run = is_run; written = all_written line; counts = counts }
+      pub has_generated : (errors : ℕ) (program : Program) (version : ℕ) (uses : List LaneUse) → program ≡ u.program → version ≡ u.version → uses ≡ u.lanes → now ≡ appended last (generated_line n) → HasErrorCount u.program errors
+          → HasGenerated most lanes n seed errors program version uses before now
+      has_generated errors program version uses is at lanes_are line counts = record {
+        printed = whole;
+        run =
+            subst (λ (p : Program). IsGeneratedRun most lanes n seed whole p version uses) (sym is)
+            (subst (λ (v : ℕ). IsGeneratedRun most lanes n seed whole u.program v uses) (sym at) (subst (λ x. IsGeneratedRun most lanes n seed whole u.program u.version x) (sym lanes_are) is_run));
+        written = all_written line;
+        counts = subst (λ p. HasErrorCount p errors) (sym is) counts;
+      }
 
-      pub count_stops : now ≡ appended last (generated_line n) → HasGeneratedFront most n seed before now
+      pub count_stops : now ≡ appended last (generated_line n) → HasGeneratedFront most lanes n seed before now
       count_stops line = line_stops (front_all last now (generated_line n) line)

@@ -18,9 +18,9 @@ pub record HasBegun (Prints : Standing → Bytes → Type 0) (before now : Optio
   pub prints : Prints standing printed
   pub front : HoldsFront before now printed
 
--- the load of a folder
-abbrev pub Loads : Program → Standing → Bytes → Type 0
-Loads folder t printed = Rechecks (Some folder) 0 (start (paths_of folder)) t 0 printed
+-- the load of a folder, over so many lanes
+abbrev pub Loads : ℕ → Program → Standing → Bytes → Type 0
+Loads lanes folder t printed = Rechecks (Some folder) 0 (start (paths_of folder) lanes) t 0 printed
 
 -- a turn
 abbrev pub TakesTurn : ℕ → Program → Line → Standing → Standing → Bytes → Type 0

@@ -1,7 +1,10 @@
-ghost use Rattle.std.specs.Prelude.{◌≤◌, ◌<◌, length, IfOk, OnErr, IsErrOf};
+ghost use Rattle.std.specs.Prelude.{◌≡◌, ◌≤◌, ◌<◌, length, IfOk, OnErr, IsErrOf};
 ghost use Rattle.std.specs.Int.{IsInRange};
 ghost use Rattle.flow_base.specs.Causes.{Counts};
-ghost use Rattle.script_run.specs.Session.{IsEmptyHeap};
+ghost use Rattle.beside.specs.Writers.{meaning_in};
+ghost use Rattle.beside.specs.Server.{uses_of};
+ghost use Rattle.script_run.specs.declared.ending.WalkEnd.TheVariants.{Finished};
+ghost use Rattle.script_run.specs.Session.{IsNewServer, IsIdle, program_in};
 ghost use Rattle.generated_run.specs.Run.{HasGenerated, HasGeneratedFront};
 
 use crate::folders::{folder_of, paths_in};
@@ -9,20 +12,19 @@ use crate::printing::close;
 use crate::turns::{load, put_and_check_all};
 use affected_sizes::each_edit_has_sizes;
 use analyst::Analyst;
+use beside::Server;
 use flow_base::{Sink, Turnstile};
 use generator::generate;
-use heap_core::HeapWriter;
-use payloads::Payload;
 use place_analyst::PlaceAnalyst;
-use script_run::RunFault;
+use script_run::{Ended, RunFault, WalkEnd};
 use std::alloc::Global;
 use std::sync::Wait;
 use std::thread::Threads;
 
-/// A run on `n` modules that are made up by a seed, into a heap for so many modules that has none: the load,
-/// the ten edits, each put and rechecked, and a last line. What each prints is written before the next one begins. All
-/// analysts recheck. At each poll of a recheck the turnstile is passed. It gives the number of errors of the program that
-/// was committed last.
+/// A run on `n` modules that are made up by a seed, on a new server for so many modules: the load, the ten
+/// edits, each put and rechecked, and a last line. What each prints is written before the next one begins. All
+/// analysts recheck, and each lane has an asker. At each poll of a recheck the turnstile is passed. The server is given
+/// back as the run leaves it.
 ///
 /// # Errors
 ///
@@ -30,27 +32,30 @@ use std::thread::Threads;
 /// what the run prints is written then.
 pub fn run_generated<
     R: Threads + Wait + Sync,
-    W: HeapWriter<Payload> + Drop,
     K: Sink,
-    T: Turnstile,
+    T: Turnstile + Sync,
     A: Analyst + PlaceAnalyst + Send + Drop,
 >(
     rt: &R,
     alloc: Global,
-    heap: W,
+    server: Server,
     modules: u32,
     n: u32,
     seed: u64,
     analysts: Vec<A>,
+    askers: Vec<A>,
     out: &mut K,
     turns: &T,
-) -> Result<u64, RunFault>
-    requires empty { IsEmptyHeap (W.meaning heap) modules }
+) -> Result<Ended, RunFault>
+    requires new { IsNewServer server modules (length askers.items) }
     requires made { IsInRange 1 4096 n }
     requires few { n ≤ modules }
     requires some { 0 < length analysts.items }
-    ensures generated { IfOk result (λ errors. HasGenerated modules n seed errors (K.seen out.old).written (K.seen out.new).written) }
-    ensures front { OnErr result (HasGeneratedFront modules n seed (K.seen out.old).written (K.seen out.new).written) }
+    ensures finished { IfOk result (λ ended. ended.ending ≡ Finished) }
+    ensures generated { IfOk result (λ ended. HasGenerated modules (length askers.items) n seed ended.errors (program_in (meaning_in ended.server.writer).committed) (meaning_in ended.server.writer).version (uses_of ended.server.lanes)
+        (K.seen out.old).written (K.seen out.new).written) }
+    ensures idle { IfOk result (λ ended. IsIdle ended.server × (length ended.server.lanes ≡ length askers.items)) }
+    ensures front { OnErr result (HasGeneratedFront modules (length askers.items) n seed (K.seen out.old).written (K.seen out.new).written) }
     ensures counts { Counts (IsErrOf result RunFault.SinkFault) (K.seen out.old).faults (K.seen out.new).faults }
     ensures no_script { IsErrOf result RunFault.ScriptFault → ⊥ }
 {
@@ -62,16 +67,22 @@ pub fn run_generated<
     let mut session = load(
         rt,
         alloc,
-        heap,
+        server,
         modules,
         paths,
         analysts,
+        askers,
         &mut folder,
         out,
         turns,
     )?;
     let edits = generated.edits.as_slice();
-    put_and_check_all(rt, &mut session, &mut folder, out, turns, edits)?;
+    put_and_check_all(rt, alloc, &mut session, &mut folder, out, turns, edits)?;
     close(alloc, n, out)?;
-    Ok(session.errors()?)
+    let errors = session.errors()?;
+    Ok(Ended {
+        ending: WalkEnd::Finished,
+        errors,
+        server: session.into_server(),
+    })
 }

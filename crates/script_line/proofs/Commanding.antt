@@ -1,5 +1,5 @@
 -- A line says one command at most: a blank one is no JSON text, and an object has one word at the key `do`.
-use Rattle.std.proofs.Common.{◌≡◌, ℕ, ◌==◌, eqb-true, List, [], ◌∷◌, Option, Some, None, refl, sym, ap, ◌∙◌, subst, inl, inr, ◌⊎◌}
+use Rattle.std.proofs.Common.{◌≡◌, ℕ, ◌<◌, ◌≤◌, ◌==◌, eqb-true, List, [], ◌∷◌, length, Option, Some, None, refl, sym, ap, ◌∙◌, subst, inl, inr, arith}
 use Rattle.std.specs.Prelude.{codes, IsTrue, option_and_then, bytes_eq, if◌then◌else◌}
 use Rattle.std.specs.List.{AllByRecursion}
 use Rattle.std.specs.Option.{option_map}
@@ -19,7 +19,8 @@ use Rattle.ask_line.proofs.Deciding.{asks_or_not}
 use Rattle.ask_line.proofs.Words.{same_ask}
 use Rattle.script_line.specs.declared.line.Line.{Line}
 use Rattle.script_line.specs.declared.line.Line.TheVariants.{Blank, Edit, Delete, Touch, Recheck, Ask, End}
-use Rattle.script_line.specs.Says.{is_blank, stop_in, Commands, IsBlankLine, Says}
+use Rattle.script_line.specs.Says.{is_blank, stop_in, HasBeside, Commands, IsBlankLine, IsCommand, asks_beside, MOST_ASKS, Says, SaysTooMany}
+use Rattle.script_line.proofs.Questions.{SomeOrNone, same_beside, beside_or_none}
 
 -- ---- a blank line is no JSON text
 
@@ -67,7 +68,7 @@ do_word Blank = []
 do_word (Edit path text) = codes "edit"
 do_word (Delete path) = codes "delete"
 do_word (Touch path) = codes "touch"
-do_word (Recheck stop) = codes "recheck"
+do_word (Recheck stop asks) = codes "recheck"
 do_word (Ask ask) = codes "ask"
 do_word End = codes "end"
 
@@ -76,7 +77,7 @@ has_word value Blank is = absurd is
 has_word value (Edit path text) is = is.0
 has_word value (Delete path) is = is.0
 has_word value (Touch path) is = is.0
-has_word value (Recheck stop) is = is.0
+has_word value (Recheck stop asks) is = is.0
 has_word value (Ask ask) is = is.0
 has_word value End is = is
 
@@ -85,29 +86,41 @@ has_word value End is = is
 abbrev edit_by : Option Bytes → Option Bytes → Option Line
 edit_by path text = option_and_then (λ p. option_map (Edit p) text) path
 
--- what a value asks, if it asks something
-abbrev asked_by : {value : Data} → ((a : the_ask.Ask) × Asks value a) ⊎ ((a : the_ask.Ask) → Asks value a → ⊥) → Option the_ask.Ask
-asked_by (inl asks) = Some asks.0
-asked_by (inr never) = None
+-- the thing that is there, if there is one
+abbrev found : {X : Type 0} {P : X → Type 0} → SomeOrNone P → Option X
+found (inl some) = Some some.0
+found (inr never) = None
 
+is_found : {X : Type 0} (P : X → Type 0) (o : SomeOrNone P) (x : X) → ((a b : X) → P a → P b → a ≡ b) → P x → found o ≡ Some x
+is_found P (inl some) x same is = ap Some (same some.0 x some.1 is)
+is_found P (inr never) x same is = absurd (never x is)
+
+-- what a value asks, if it asks something
 abbrev asked_in : Data → Option the_ask.Ask
-asked_in value = asked_by (asks_or_not value)
+asked_in value = found (asks_or_not value)
 
 is_asked : (value : Data) (asked : the_ask.Ask) → Asks value asked → asked_in value ≡ Some asked
-is_asked value asked is = by (asks_or_not value) where
-  by : (o : ((a : the_ask.Ask) × Asks value a) ⊎ ((a : the_ask.Ask) → Asks value a → ⊥)) → asked_by o ≡ Some asked
-  by (inl asks) = ap Some (same_ask value asks.0 asked asks.1 is)
-  by (inr never) = absurd (never asked is)
+is_asked value asked = is_found (Asks value) (asks_or_not value) asked (same_ask value)
 
 abbrev ask_by : Option Data → Option Line
 ask_by inner = option_map Ask (option_and_then asked_in inner)
+
+-- the questions beside a recheck, if they are well-formed
+abbrev beside_in : Data → Option (List the_ask.Ask)
+beside_in value = found (beside_or_none value)
+
+is_beside : (value : Data) (asks : List the_ask.Ask) → HasBeside asks value → beside_in value ≡ Some asks
+is_beside value asks = is_found (λ l. HasBeside l value) (beside_or_none value) asks (same_beside value)
+
+abbrev recheck_by : Option ℕ → Option (List the_ask.Ask) → Option Line
+recheck_by stop asks = option_and_then (λ s. option_map (Recheck s) asks) stop
 
 abbrev pub line_by : Bytes → Data → Option Line
 line_by word value =
     if bytes_eq word (codes "edit") then edit_by (text_at (codes "path") value) (text_at (codes "text") value) else
     if bytes_eq word (codes "delete") then option_map Delete (text_at (codes "path") value) else
     if bytes_eq word (codes "touch") then option_map Touch (text_at (codes "path") value) else
-    if bytes_eq word (codes "recheck") then option_map Recheck (stop_in value) else
+    if bytes_eq word (codes "recheck") then recheck_by (stop_in value) (beside_in value) else
     if bytes_eq word (codes "ask") then ask_by (get (codes "ask") value) else
     if bytes_eq word (codes "end") then Some End else None
 
@@ -116,7 +129,7 @@ is_by_word value Blank is = absurd is
 is_by_word value (Edit path text) is = λ i. edit_by (is.1 i) (is.3 i)
 is_by_word value (Delete path) is = ap (option_map Delete) is.1
 is_by_word value (Touch path) is = ap (option_map Touch) is.1
-is_by_word value (Recheck stop) is = ap (option_map Recheck) is.1
+is_by_word value (Recheck stop asks) is = λ i. recheck_by (is.1 i) (is_beside value asks is.2 i)
 is_by_word value (Ask asked) is = ap ask_by is.1.1 ∙ ap (option_map Ask) (is_asked is.1.0 asked is.1.2)
 is_by_word value End is = refl
 
@@ -127,9 +140,29 @@ same_command value a b is also =
 
 -- ---- lines
 
+one_command : (bytes : Bytes) (a b : Line) → IsCommand bytes a → IsCommand bytes b → a ≡ b
+one_command bytes a b is also = same_command is.0 a b is.2 (subst (λ value. Commands value b) (same_Some also.0 is.0 (sym also.1.1 ∙ is.1.1)) also.2)
+
 pub same_line : (bytes : Bytes) (a b : Line) → Says bytes a → Says bytes b → a ≡ b
 same_line bytes a b (inl blank) (inl also) = blank.1 ∙ sym also.1
-same_line bytes a b (inl blank) (inr json) = absurd (none-some _ (sym (blank_is_no_json bytes blank.0) ∙ json.1.1))
-same_line bytes a b (inr json) (inl blank) = absurd (none-some _ (sym (blank_is_no_json bytes blank.0) ∙ json.1.1))
-same_line bytes a b (inr json) (inr also) =
-    same_command json.0 a b json.2 (subst (λ value. Commands value b) (same_Some also.0 json.0 (sym also.1.1 ∙ json.1.1)) also.2)
+same_line bytes a b (inl blank) (inr json) = absurd (none-some _ (sym (blank_is_no_json bytes blank.0) ∙ json.0.1.1))
+same_line bytes a b (inr json) (inl blank) = absurd (none-some _ (sym (blank_is_no_json bytes blank.0) ∙ json.0.1.1))
+same_line bytes a b (inr json) (inr also) = one_command bytes a b json.0 also.0
+
+-- too many questions are of one number
+pub same_many : (bytes : Bytes) (m n : ℕ) → SaysTooMany bytes m → SaysTooMany bytes n → m ≡ n
+same_many bytes m n many also = sym many.2 ∙ ap (λ l. length (asks_beside l)) (one_command bytes many.0 also.0 many.1 also.1) ∙ also.2
+
+-- what is said has no more questions than there may be
+pub within_most : (bytes : Bytes) (l : Line) → Says bytes l → length (asks_beside l) ≤ MOST_ASKS
+within_most bytes l (inl blank) = let none : length (asks_beside l) ≡ 0 = ap (λ b. length (asks_beside b)) blank.1 in omega (arith, none)
+within_most bytes l (inr says) = says.1
+
+pub says_not_both : (bytes : Bytes) (l : Line) (count : ℕ) → Says bytes l → SaysTooMany bytes count → ⊥
+says_not_both bytes l count (inl blank) many = none-some _ (sym (blank_is_no_json bytes blank.0) ∙ many.1.1.1)
+says_not_both bytes l count (inr says) many =
+    let same : length (asks_beside many.0) ≡ length (asks_beside l) = ap (λ b. length (asks_beside b)) (one_command bytes many.0 l many.1 says.0) in
+    let is : length (asks_beside many.0) ≡ count = many.2 in
+    let over : MOST_ASKS < count = many.3 in
+    let within : length (asks_beside l) ≤ MOST_ASKS = says.1 in
+    omega (arith, same, is, over, within)

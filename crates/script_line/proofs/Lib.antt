@@ -1,3 +1,4 @@
 pub mod Commanding
 pub mod Deciding
 pub mod Nothing
+pub mod Questions

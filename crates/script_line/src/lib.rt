@@ -1,6 +1,7 @@
 //! A script's lines: which bytes are which command.
 #![tactic(auto)]
 
+mod beside;
 mod laws;
 mod line;
 mod reading;

@@ -1,7 +1,7 @@
 ghost use Rattle.std.specs.Prelude.{◌≡◌};
 
 use asks::Ask;
-use flow_values::{Path, Text};
+use flow_values::{List, Path, Text};
 
 /// What a line of a script says.
 #[derive(Debug, Drop)]
@@ -14,9 +14,9 @@ pub enum Line {
     Delete { path: Path },
     /// The next recheck reads the path from the folder.
     Touch { path: Path },
-    /// The pending edits are checked and committed. At the poll `stop`, counted from 1, the recheck
-    /// is cancelled; 0 stands for none.
-    Recheck { stop: u64 },
+    /// The pending edits are checked and committed, and meanwhile the questions are answered. At the
+    /// poll `stop`, counted from 1, the recheck is cancelled; 0 stands for none.
+    Recheck { stop: u64, asks: List<Ask> },
     /// A question of the committed version.
     Ask(Ask),
     /// The script ends here.
@@ -28,6 +28,8 @@ pub enum Line {
 pub enum LineFault {
     /// The line is neither blank nor a command.
     BadLine,
+    /// The line would be a command, but it has more questions than 64: so many.
+    TooManyAsks { count: u64 },
     /// Memory was refused.
     NoMemory,
 }

@@ -1,18 +1,21 @@
-ghost use Rattle.std.specs.Prelude.{◌≡◌, ◌↔◌, ℕ, List, Some, None, IfOk, IfSome, IfNone, IsTrue, IsErrOf, IsSome, All, codes, option_and_then};
+ghost use Rattle.std.specs.Prelude.{◌≡◌, ◌↔◌, ◌<◌, ◌≤◌, ℕ, List, length, Some, None, IfOk, IfErr, IfSome, IfNone, IsTrue, IsErrOf, IsSome, All, codes, option_and_then};
 ghost use Rattle.std.specs.Option.{option_map};
-ghost use Rattle.serde_json.specs.Data.{Data};
 ghost use Rattle.serde_json.specs.Find.{get, as_number, as_u64};
 ghost use Rattle.serde_json.specs.View.{view};
 ghost use Rattle.ask_line.specs.Asking.{text_at, HasText};
-ghost use Rattle.script_line.specs.Says.{is_blank, IsJson, Lacks, poll_of, stop_in, Commands, IsBlankLine, Says};
+ghost use Rattle.script_line.specs.Says.{is_blank, poll_of, stop_in, Commands, IsBlankLine, IsCommand, asks_beside, MOST_ASKS, Says, SaysTooMany, SaysNothing};
 ghost use Rattle.flow_values.specs.Path.{IsNormalPath};
 ghost use Rattle.script_line.specs.declared.line.Line.{Line};
 
+use crate::beside::beside_in;
 use crate::{Line, LineFault};
 use ask_line::read_ask;
 use flow_values::{NoMemory, Path, PathFault, Text};
 use serde_json::Value;
 use std::alloc::Global;
+
+// The most questions beside a recheck.
+const MOST_ASKS: usize = 64;
 
 // The text at a key, where there is one.
 fn text_at<'a>(value: &'a Value, key: &str) -> Option<&'a str>
@@ -94,17 +97,18 @@ fn stop_in(value: &Value) -> Option<u64>
     }
 }
 
-fn recheck_of(value: &Value) -> Option<Line>
+fn recheck_of(alloc: Global, value: &Value) -> Result<Option<Line>, NoMemory>
     requires { HasText (codes "do") (codes "recheck") (view value.now) }
-    ensures found { IfSome result (Commands (view value.now)) }
-    ensures none { IfNone result ((l : Line) → Commands (view value.now) l → ⊥) }
+    ensures found { IfOk result (λ line. IfSome line (Commands (view value.now))) }
+    ensures none { IfOk result (λ line. IfNone line ((l : Line) → Commands (view value.now) l → ⊥)) }
 {
-    let stop = stop_in(value)?;
-    if value.get("asks").is_none() {
-        Some(Line::Recheck { stop })
-    } else {
-        None
-    }
+    let Some(stop) = stop_in(value) else {
+        return Ok(None);
+    };
+    let Some(asks) = beside_in(alloc, value)? else {
+        return Ok(None);
+    };
+    Ok(Some(Line::Recheck { stop, asks }))
 }
 
 fn ask_of(alloc: Global, value: &Value) -> Result<Option<Line>, NoMemory>
@@ -121,7 +125,7 @@ fn ask_of(alloc: Global, value: &Value) -> Result<Option<Line>, NoMemory>
     Ok(Some(Line::Ask(ask)))
 }
 
-// The command that an object is.
+// The command that an object is, however many questions it has.
 fn command_of(alloc: Global, value: &Value) -> Result<Option<Line>, NoMemory>
     ensures found { IfOk result (λ line. IfSome line (Commands (view value.now))) }
     ensures none { IfOk result (λ line. IfNone line ((l : Line) → Commands (view value.now) l → ⊥)) }
@@ -130,7 +134,7 @@ fn command_of(alloc: Global, value: &Value) -> Result<Option<Line>, NoMemory>
         Some("edit") => edit_of(alloc, value),
         Some("delete") => delete_of(alloc, value),
         Some("touch") => touch_of(alloc, value),
-        Some("recheck") => Ok(recheck_of(value)),
+        Some("recheck") => recheck_of(alloc, value),
         Some("ask") => ask_of(alloc, value),
         Some("end") => Ok(Some(Line::End)),
         _ => Ok(None),
@@ -145,10 +149,10 @@ fn is_blank_line(bytes: &[u8]) -> bool
         .all(|b| *b == b' ' || *b == b'\t' || *b == b'\r')
 }
 
-// The command that the bytes are, where they are JSON at all.
+// The command that the bytes are, where they are JSON at all, however many questions it has.
 fn command_in(alloc: Global, bytes: &[u8]) -> Result<Option<Line>, NoMemory>
-    ensures found { IfOk result (λ line. IfSome line (λ l. (value : Data) × IsJson bytes.now value × Commands value l)) }
-    ensures none { IfOk result (λ line. IfNone line ((l : Line) → ((value : Data) × IsJson bytes.now value × Commands value l) → ⊥)) }
+    ensures found { IfOk result (λ line. IfSome line (IsCommand bytes.now)) }
+    ensures none { IfOk result (λ line. IfNone line ((l : Line) → IsCommand bytes.now l → ⊥)) }
 {
     match Value::from_slice(alloc, bytes) {
         Ok(value) => command_of(alloc, &value),
@@ -162,21 +166,47 @@ fn command_in(alloc: Global, bytes: &[u8]) -> Result<Option<Line>, NoMemory>
     }
 }
 
+// The number of questions beside a line's recheck.
+fn ask_count(line: &Line) -> usize
+    ensures { result ≡ length (asks_beside line.now) }
+{
+    match line {
+        Line::Recheck { asks, .. } => asks.len(),
+        _ => 0,
+    }
+}
+
+// A command, where it has no more questions than there may be.
+fn within_limit(line: Line) -> Result<Line, LineFault>
+    ensures within { IfOk result (λ same. (same ≡ line) × (length (asks_beside same) ≤ MOST_ASKS)) }
+    ensures past { IfErr result (λ fault. (fault ≡ LineFault.TooManyAsks (length (asks_beside line))) × (MOST_ASKS < length (asks_beside line))) }
+{
+    let count = ask_count(&line);
+    if count > MOST_ASKS {
+        return Err(LineFault::TooManyAsks {
+            count: count as u64,
+        });
+    }
+    Ok(line)
+}
+
 /// What a line of a script says, without its LF. A blank line and a command are read; keys of an
 /// object that the command doesn't name are ignored, and of a repeated key the last one counts.
 ///
 /// # Errors
 ///
-/// `BadLine` exactly where the bytes say nothing, and `NoMemory` where memory is refused.
+/// `TooManyAsks` exactly where the bytes would say a command, but it has more than 64 questions, and
+/// `BadLine` exactly where they say nothing else. `NoMemory` where memory is refused.
 pub fn read_line(alloc: Global, bytes: &[u8]) -> Result<Line, LineFault>
     ensures says { IfOk result (Says bytes.now) }
-    ensures bad { IsErrOf result LineFault.BadLine → (l : Line) → Says bytes.now l → ⊥ }
+    ensures many { (count : ℕ) → IsErrOf result (LineFault.TooManyAsks count) → SaysTooMany bytes.now count }
+    ensures bad { IsErrOf result LineFault.BadLine → SaysNothing bytes.now }
 {
     if is_blank_line(bytes) {
         return Ok(Line::Blank);
     }
     match command_in(alloc, bytes)? {
-        Some(line) => Ok(line),
+        Some(line) => within_limit(line),
         None => Err(LineFault::BadLine),
     }
 }

@@ -34,3 +34,7 @@ long_line = codes "limit line 4194305\n"
 
 abbrev pub many_lines : Bytes
 many_lines = codes "limit lines 1048577\n"
+
+-- a recheck with too many questions beside it
+abbrev pub many_asks_line : ℕ → Bytes
+many_asks_line count = codes "limit asks " ++ (decimal count ++ end_of_line)

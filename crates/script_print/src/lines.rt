@@ -1,5 +1,5 @@
 ghost use Rattle.std.specs.Prelude.{◌≡◌, string_bytes, IfOk};
-ghost use Rattle.script_print.specs.Printed.{done_line, cancelled_line, fault_line, refused_line, bad_line, files_line, long_line, many_lines};
+ghost use Rattle.script_print.specs.Printed.{done_line, cancelled_line, fault_line, refused_line, bad_line, files_line, long_line, many_lines, many_asks_line};
 
 use flow_base::{NoMemory, Path};
 use std::alloc::Global;
@@ -92,4 +92,15 @@ pub fn many_lines() -> &'static [u8]
     ensures { result.now ≡ many_lines }
 {
     b"limit lines 1048577\n"
+}
+
+/// The line that ends a script at a recheck with so many questions beside it.
+///
+/// # Errors
+///
+/// `NoMemory` where memory is refused.
+pub fn many_asks(alloc: Global, count: u64) -> Result<String, NoMemory>
+    ensures { IfOk result (λ text. string_bytes text ≡ many_asks_line count) }
+{
+    Ok(format!(in alloc; "limit asks {count}\n")?)
 }

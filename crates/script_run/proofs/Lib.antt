@@ -2,9 +2,11 @@ pub mod Asked
 pub mod Checks
 pub mod Commands
 pub mod Completing
-pub mod EmptyHeaps
 pub mod Fronts
 pub mod Givens
+pub mod Lanes
+pub mod Latest
+pub mod NewServers
 pub mod Once
 pub mod PendingEdits
 pub mod Sessions

@@ -1,6 +1,7 @@
 -- The edits that wait for the next recheck.
-use Rattle.std.proofs.Common.{◌≡◌, ℕ, zero, suc, ◌+◌, ◌*◌, ◌^◌, ◌<◌, ◌≤◌, Bool, cond, List, [], ◌∷◌, ◌++◌, length, take, get_or, refl, sym, ap, ◌∙◌, subst, arith}
-use Rattle.std.specs.Prelude.{Result, Ok, Err, OnOk, OnErr}
+use Rattle.std.proofs.Common.{◌≡◌, ℕ, zero, suc, ◌+◌, ◌*◌, ◌^◌, ◌<◌, ◌≤◌, Bool, cond, List, [], ◌∷◌, ◌++◌, length, take, get_or, refl, sym, ap, ◌∙◌, subst, arith, inl, inr}
+use Rattle.std.specs.Prelude.{Result, Ok, Err, Some, IfOk, OnOk, OnErr}
+use Rattle.std.proofs.lemmas.Option.{same_Some}
 use Rattle.std.specs.Map.{keys_of, values_of}
 use Rattle.std.specs.Ordering.{nat_cmp, match_ordering, ordering_reverse}
 use Rattle.std.specs.Cmp.Lexicographic.{slice_cmp, nat_list_cmp_total}
@@ -27,11 +28,19 @@ use Rattle.pending_edits.specs.declared.edit.Edit.TheVariants.{Touch, Delete}
 use Rattle.pending_edits.specs.declared.edit.EditFault.{EditFault}
 use Rattle.pending_edits.specs.declared.edit.EditFault.TheVariants.{TooManyModules, NoMemory}
 use Rattle.edited_root.proofs.Rooted.{few_modules}
-use Rattle.recheck_run.specs.Recheck.{Commits, HasRoom, RecheckState, Rechecked}
-use Rattle.recheck_run.specs.declared.outcome.Outcome.{Outcome}
-use Rattle.recheck_run.specs.declared.outcome.Outcome.TheVariants as outcome
+use Rattle.flow_base.specs.Seen.{FolderSeen}
+use Rattle.stops.specs.Asked.{stop_seen, yes_answers_by}
+use Rattle.analyst.specs.Work.{Work}
+use Rattle.beside.specs.Beside.{MayRecheck, HasRechecked, MayHaveRechecked, state_of}
+use Rattle.beside.specs.Recheck.{Commits, HasRoom, RecheckState, Rechecked, CountsReads}
+use Rattle.beside.specs.Uses.{LaneUse}
+use Rattle.beside.specs.Server.{IsRunning, uses_of}
+use Rattle.beside.specs.Writers.{meaning_in}
+use Rattle.beside.specs.declared.serving.Server.{Server}
+use Rattle.beside.specs.Outcome.{Outcome}
+use Rattle.beside.specs.Outcome.TheVariants as outcome
 use Rattle.script_run.specs.Transcript.{to_touch}
-use Rattle.script_run.specs.Session.{modules_in, program_in, program_with, held, StandOnCommitted, AreFew, CountsNoMore, StandsStill, IsReady, IsEmptyHeap, Limits}
+use Rattle.script_run.specs.Session.{modules_in, program_in, program_with, held, held_by, StandOnCommitted, AreFew, CountsNoMore, StandsStill, IsReady, IsEmptyHeap, HasEnded, Limits}
 use Rattle.script_run.proofs.Sessions.{first_modules}
 
 -- ---- paths to be read, put one behind the other
@@ -193,21 +202,26 @@ few_edited m root before after path edit (Err e) is ok err size few stood =
     few_at m root before.edits after.edits before.capacity after.capacity is err size (few_there m before stood root is)
 
 -- after a deletion
-pub ready_deleted : (m : Meaning Payload) (before now : Pending) → IsReady (held m before) → CountsNoMore before now → StandsStill before now → now.capacity ≡ before.capacity → IsReady (held m now)
-ready_deleted m before now ready no_more stands size = record {
+ready_deleted : (m : Meaning Payload) (ls : List LaneUse) (before now : Pending) → IsReady (held m before ls) → CountsNoMore before now → StandsStill before now → now.capacity ≡ before.capacity → IsReady (held m now ls)
+ready_deleted m ls before now ready no_more stands size = record {
   closed = ready.closed;
   room = subst (HasRoom m) (sym size) ready.room;
   few = (let less = no_more (paths_of_rows (modules_in m.committed)) in let few = ready.few in omega (arith, less, size, few));
   stands = stands (paths_of_rows (modules_in m.committed)) ready.stands;
 }
 
+-- and a session with it
+pub still_ready : (server : Server) (before now : Pending) (analysts askers : ℕ) → IsReady (held_by server before) × IsRunning server × (0 < analysts) × (askers ≡ length server.lanes) → CountsNoMore before now → StandsStill before now
+    → now.capacity ≡ before.capacity → IsReady (held_by server now) × IsRunning server × (0 < analysts) × (askers ≡ length server.lanes)
+still_ready server before now analysts askers (ready, running, some, many) no_more stands size = (ready_deleted (meaning_in server.writer) (uses_of server.lanes) before now ready no_more stands size, running, some, many)
+
 -- where no edit waits
 counted_none : (root : Root) → counted (paths_of root) [] ≡ length root.modules
 counted_none root = let many = length-map root.modules (λ (row : RootRow). row.path) in omega (arith, many)
 
 -- a session over a heap without a module
-pub ready_empty : (m : Meaning Payload) (modules : ℕ) (waiting : Pending) → IsEmptyHeap m modules → waiting.capacity ≡ modules → counted [] waiting.edits ≤ modules → StandsOn [] waiting → IsReady (held m waiting)
-ready_empty m modules waiting empty capacity few stands = record {
+pub ready_empty : (m : Meaning Payload) (modules : ℕ) (waiting : Pending) (ls : List LaneUse) → IsEmptyHeap m modules → waiting.capacity ≡ modules → counted [] waiting.edits ≤ modules → StandsOn [] waiting → IsReady (held m waiting ls)
+ready_empty m modules waiting ls empty capacity few stands = record {
   closed = empty.closed;
   room = subst (HasRoom m) (sym capacity) empty.room;
   few = few_at m (record { modules = [] }) waiting.edits waiting.edits modules waiting.capacity empty.commits refl capacity few;
@@ -238,6 +252,81 @@ module _ (before now : RecheckState) where
   few_after (outcome.Cancelled poll) recheck size few = same_few recheck.same few
   few_after (outcome.ReadFault path) recheck size few = same_few recheck.0 few
   few_after outcome.NoMemory recheck size few = same_few recheck.same few
+
+-- what a session needs stays, whether nothing was done or a recheck that ended in some way
+pub record HasStayed (before now : RecheckState) (ks : List LaneUse) : Type 0 where
+  pub ready : IsReady (held now.heap now.edits ks)
+  pub capacity : now.edits.capacity ≡ before.edits.capacity
+  pub told : now.folder.told ≡ before.folder.told
+  pub later : before.folder.faults ≤ now.folder.faults
+
+module _ (old new : Server) (before now : RecheckState) (ls ks : List LaneUse) where
+  stayed_rechecked : (o : Outcome) → HasRechecked new.heap old.writer new.writer before now o → now.heap ≡ meaning_in new.writer → IsReady (held before.heap before.edits ls) → HasStayed before now ks
+  stayed_rechecked o recheck is ready = record {
+    ready = record {
+      closed = ap (λ (m : Meaning Payload). m.is_open) is ∙ recheck.closed;
+      room = subst (λ (m : Meaning Payload). HasRoom m now.edits.capacity) (sym is) recheck.room;
+      few = few_after before now o recheck.result recheck.capacity ready.few;
+      stands = stand_after before now o recheck.result ready.stands;
+    };
+    capacity = recheck.capacity;
+    told = recheck.told;
+    later = recheck.later;
+  }
+
+  same_ready : before ≡ now → IsReady (held before.heap before.edits ls) → IsReady (held now.heap now.edits ks)
+  same_ready same ready =
+      let there : IsReady (held now.heap now.edits ls) = subst (λ (r : RecheckState). IsReady (held r.heap r.edits ls)) same ready in
+      record { closed = there.closed; room = there.room; few = there.few; stands = there.stands }
+
+  stayed : MayHaveRechecked new.heap old.writer new.writer before now → now.heap ≡ meaning_in new.writer → IsReady (held before.heap before.edits ls) → HasStayed before now ks
+  stayed (inl same) is ready = record {
+    ready = same_ready (sym same) ready;
+    capacity = ap (λ (r : RecheckState). r.edits.capacity) same;
+    told = ap (λ (r : RecheckState). r.folder.told) same;
+    later = (let faults = ap (λ (r : RecheckState). r.folder.faults) same in omega (arith, faults));
+  }
+  stayed (inr (o, recheck)) is ready = stayed_rechecked o recheck is ready
+
+  pub has_stayed : {T E : Type 0} (r : Result (Outcome × T) E) → IfOk r (λ done. HasRechecked new.heap old.writer new.writer before now done.0) → OnErr r (MayHaveRechecked new.heap old.writer new.writer before now) → now.heap ≡ meaning_in new.writer
+      → IsReady (held before.heap before.edits ls) → HasStayed before now ks
+  has_stayed (Ok done) ok err is ready = stayed (inr (done.0, ok)) is ready
+  has_stayed (Err e) ok err is ready = stayed err is ready
+
+-- one who is asked, and says yes at a question, ended a recheck
+module _ (old new : Server) (edits edits' : Pending) (folder folder' : FolderSeen) (ls ks : List LaneUse) (work work' : Work) (stop k q k' q' : ℕ) (at : k ≡ stop) (unasked : q ≡ 0) where
+  ended : (o : Outcome)
+      → HasRechecked new.heap old.writer new.writer (state_of folder edits old.writer (stop_seen (Some k) q (yes_answers_by k q)) work) (state_of folder' edits' new.writer (stop_seen (Some k') q' (yes_answers_by k' q')) work') o
+      → HasEnded stop folder folder' (held (meaning_in old.writer) edits ls) (held (meaning_in new.writer) edits' ks) o
+  ended o recheck = record {
+    work = work;
+    work' = work';
+    asked = stop_seen (Some k) q (yes_answers_by k q);
+    asked' = stop_seen (Some k') q' (yes_answers_by k' q');
+    stops = record {
+      told = ap Some at;
+      unasked = unasked;
+      no_yes = λ i. yes_answers_by (at i) (unasked i);
+      yes = ap (λ j. yes_answers_by j q') (same_Some k' k recheck.told_stop ∙ at);
+    };
+    rechecked = recheck.result;
+  }
+
+  pub has_ended : {T E : Type 0} (r : Result (Outcome × T) E)
+      → IfOk r (λ done. HasRechecked new.heap old.writer new.writer (state_of folder edits old.writer (stop_seen (Some k) q (yes_answers_by k q)) work) (state_of folder' edits' new.writer (stop_seen (Some k') q' (yes_answers_by k' q')) work') done.0)
+      → IfOk r (λ done. HasEnded stop folder folder' (held (meaning_in old.writer) edits ls) (held (meaning_in new.writer) edits' ks) done.0)
+  has_ended (Ok done) ok = ended done.0 ok
+  has_ended (Err e) ok = tt
+
+  pub has_read : {T E : Type 0} (r : Result (Outcome × T) E)
+      → IfOk r (λ done. HasRechecked new.heap old.writer new.writer (state_of folder edits old.writer (stop_seen (Some k) q (yes_answers_by k q)) work) (state_of folder' edits' new.writer (stop_seen (Some k') q' (yes_answers_by k' q')) work') done.0)
+      → IfOk r (λ done. CountsReads folder folder' done.0)
+  has_read (Ok done) ok = ok.reads
+  has_read (Err e) ok = tt
+
+-- a session may begin a recheck
+pub may_recheck : (server : Server) (edits : Pending) (ls : List LaneUse) → (meaning_in server.writer).version + 1 < 2 ^ 31 → IsReady (held (meaning_in server.writer) edits ls) → MayRecheck server.writer edits
+may_recheck server edits ls version ready = record { closed = ready.closed; version = version; room = ready.room; fit = few_there (meaning_in server.writer) edits ready.few }
 
 -- ---- an edit
 

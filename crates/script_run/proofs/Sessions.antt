@@ -1,5 +1,5 @@
 -- A heap of modules and the edits that wait, as the walk sees them.
-use Rattle.std.proofs.Common.{◌≡◌, ◌⊎◌, ℕ, zero, suc, ◌+◌, ◌^◌, ◌<◌, ◌≤◌, List, [], ◌∷◌, length, Some, None, refl, sym, ap, ◌∙◌, subst, arith, inl, inr}
+use Rattle.std.proofs.Common.{◌≡◌, ◌⊎◌, ℕ, zero, suc, ◌+◌, ◌^◌, ◌<◌, ◌≤◌, List, [], ◌∷◌, ◌++◌, length, replicate, Some, None, refl, sym, ap, ◌∙◌, subst, arith, inl, inr}
 use Rattle.std.specs.Prelude.{slice_get, Result, Ok, Err, IfOk, OnOk, OnErr}
 use Rattle.std.specs.Coded.{coded_list}
 use Rattle.std.specs.List.{AllByRecursion}
@@ -34,20 +34,23 @@ use Rattle.pending_edits.specs.declared.edit.Edit.TheVariants.{Put, Touch, Delet
 use Rattle.pending_edits.specs.declared.edit.EditFault.{EditFault}
 use Rattle.pending_edits.specs.declared.edit.EditFault.TheVariants.{TooManyModules, NoMemory}
 use Rattle.stops.specs.Asked.{StopSeen, yes_answers_by}
-use Rattle.analyst.specs.Work.{Work}
-use Rattle.recheck_run.specs.Extent.{Extent, Affects, polls}
-use Rattle.recheck_run.specs.Recheck.{Commits, RecheckState, Rechecked, CountsReads}
-use Rattle.recheck_run.specs.Recheck as recheck_run
-use Rattle.recheck_run.specs.declared.outcome.Outcome.{Outcome}
-use Rattle.recheck_run.specs.declared.outcome.Outcome.TheVariants as outcome
+use Rattle.beside.specs.Uses.{LaneUse, new_lane, lanes_after, NoneFalls}
+use Rattle.beside.specs.Server.{uses_of}
+use Rattle.beside.specs.Writers.{meaning_in}
+use Rattle.beside.specs.declared.serving.Server.{Server}
+use Rattle.beside.specs.Extent.{Extent, Affects, polls}
+use Rattle.beside.specs.Recheck.{Commits, RecheckState, Rechecked, CountsReads}
+use Rattle.beside.specs.Recheck as rechecking
+use Rattle.beside.specs.Outcome.{Outcome}
+use Rattle.beside.specs.Outcome.TheVariants as outcome
 use Rattle.affected_sizes.specs.Polls.{AreBatches}
 use Rattle.affected_sizes.specs.Sizes.{AreSizes}
 use Rattle.script_print.specs.Printed.{done_line, cancelled_line, fault_line, refused_line}
 use Rattle.script_line.specs.declared.line.Line.{Line}
 use Rattle.script_line.specs.declared.line.Line.TheVariants as line
 use Rattle.script_run.specs.Checked.{HasErrorCount}
-use Rattle.script_run.specs.Transcript.{Standing, start, to_touch, with_edit, modules_counted, GoesThrough, ComesTo, Rechecks, done, cancelled, cannot_read, Turns, blank, edits, refuses, touches, refuses_touch, deletes, rechecks, answers}
-use Rattle.script_run.specs.Session.{modules_of, modules_in, program_in, program_with, Held, held, standing_of, standing_in, IsEmptyHeap, faults_of, faults_in, faults_at, count_in, HasPlace, recheck_state, StopsAt, HasEnded, HasRechecked, HasTurned, HasEdited, HasDeleted, Limits, Prints, PrintsAnswer, PrintsEdit}
+use Rattle.script_run.specs.Transcript.{Standing, start, to_touch, with_edit, modules_counted, GoesThrough, ComesTo, Rechecks, done, cancelled, cannot_read, AnswersBeside, RechecksBeside, Turns, blank, edits, refuses, touches, refuses_touch, deletes, rechecks, answers}
+use Rattle.script_run.specs.Session.{modules_of, modules_in, program_in, program_with, Held, held, held_by, standing_of, standing_in, IsNewServer, faults_of, faults_in, faults_at, count_in, HasPlace, recheck_state, StopsAt, HasEnded, HasRechecked, HasTurned, HasAsked, HasEdited, HasDeleted, Limits, Prints, PrintsEdit}
 use Rattle.script_run.proofs.Checks.{same_errors, each_module}
 
 -- ---- counts
@@ -150,23 +153,29 @@ placed state state' root modules few fit first same is =
 
 -- ---- rechecks
 
-same_standing : (p q : Program) (v w : ℕ) (r t : Rows Edit) → p ≡ q → v ≡ w → r ≡ t →
-    (let a : Standing = record { program = p; version = v; waiting = r } in a) ≡ (let b : Standing = record { program = q; version = w; waiting = t } in b)
-same_standing p q v w r t ps vs rs = cc
+same_standing : (p q : Program) (v w : ℕ) (r t : Rows Edit) (l k : List LaneUse) → p ≡ q → v ≡ w → r ≡ t → l ≡ k →
+    (let a : Standing = record { program = p; version = v; waiting = r; lanes = l } in a) ≡ (let b : Standing = record { program = q; version = w; waiting = t; lanes = k } in b)
+same_standing p q v w r t l k ps vs rs ls = cc
+
+-- a recheck with nothing beside it, its line, and that the folder counted as many faults in it as it prints read faults
+record OneRecheck (stop : ℕ) (s s' : Standing) (line : Bytes) (before now : FolderSeen) : Type 0 where
+  faults : ℕ
+  rechecks : Rechecks before.told stop s s' faults line
+  counted : RoseBy faults before.faults now.faults
 
 module _ (stop : ℕ) (s s' : Standing) (line : Bytes) (before now : FolderSeen) where
   rechecks_done : (program : Program) (parsed checked polls errors : ℕ) → ComesTo before.told s program parsed checked polls → GoesThrough stop polls → HasErrorCount program errors →
-      (let t : Standing = record { program = program; version = s.version + 1; waiting = [] } in t) ≡ s' →
-      done_line (s.version + 1) parsed checked errors ≡ line → before.faults < 2 ^ 64 → now.faults ≡ before.faults → HasRechecked stop s s' line before now
+      (let t : Standing = record { program = program; version = s.version + 1; waiting = []; lanes = s.lanes } in t) ≡ s' →
+      done_line (s.version + 1) parsed checked errors ≡ line → before.faults < 2 ^ 64 → now.faults ≡ before.faults → OneRecheck stop s s' line before now
   rechecks_done program parsed checked polls errors comes through counts is prints bounded same = record {
     faults = 0;
     rechecks = subst (λ t. Rechecks before.told stop s t 0 line) is
-        (subst (λ l. Rechecks before.told stop s (record { program = program; version = s.version + 1; waiting = [] }) 0 l) prints (done s program parsed checked polls errors comes through counts));
+        (subst (λ l. Rechecks before.told stop s (record { program = program; version = s.version + 1; waiting = []; lanes = s.lanes }) 0 l) prints (done s program parsed checked polls errors comes through counts));
     counted = rose_none before.faults now.faults bounded same;
   }
 
   rechecks_cancelled : (program : Program) (parsed checked polls : ℕ) → ComesTo before.told s program parsed checked polls → 1 ≤ stop → stop ≤ polls → s ≡ s' → cancelled_line stop s'.version ≡ line
-      → before.faults < 2 ^ 64 → now.faults ≡ before.faults → HasRechecked stop s s' line before now
+      → before.faults < 2 ^ 64 → now.faults ≡ before.faults → OneRecheck stop s s' line before now
   rechecks_cancelled program parsed checked polls comes some within is prints bounded same = record {
     faults = 0;
     rechecks = subst (λ t. Rechecks before.told stop s t 0 line) is
@@ -174,7 +183,7 @@ module _ (stop : ℕ) (s s' : Standing) (line : Bytes) (before now : FolderSeen)
     counted = rose_none before.faults now.faults bounded same;
   }
 
-  rechecks_not : (path : Bytes) → IsTouched s.waiting path → s ≡ s' → fault_line path s'.version ≡ line → now.faults ≡ raised before.faults → HasRechecked stop s s' line before now
+  rechecks_not : (path : Bytes) → IsTouched s.waiting path → s ≡ s' → fault_line path s'.version ≡ line → now.faults ≡ raised before.faults → OneRecheck stop s s' line before now
   rechecks_not path touched is prints rose = record {
     faults = 1;
     rechecks = subst (λ t. Rechecks before.told stop s t 1 line) is (subst (λ l. Rechecks before.told stop s s 1 l) (ap (λ (t : Standing). fault_line path t.version) is ∙ prints) (cannot_read s path touched));
@@ -248,15 +257,16 @@ stops_there stop poll before now fits stops asked at =
 committed_program : (m : Meaning Payload) (root : Root) → Commits m root → program_in m.committed ≡ program_of root
 committed_program m root is = ap program_with (first_modules m.committed (payload.Root root) is)
 
--- a session over a heap without a module, with these paths to be read, stands at the start
-pub begins_empty : (m : Meaning Payload) (modules : ℕ) (waiting : Pending) (listed : List Bytes) → IsEmptyHeap m modules → waiting.edits ≡ to_touch listed → standing_of m waiting ≡ start listed
-begins_empty m modules waiting listed empty is =
-    same_standing (program_in m.committed) [] m.version 0 waiting.edits (to_touch listed) (committed_program m (record { modules = [] }) empty.commits) empty.version is
+-- a session over a new server, with these paths to be read, stands at the start
+pub begins_empty : (server : Server) (modules lanes : ℕ) (waiting : Pending) (listed : List Bytes) → IsNewServer server modules lanes → waiting.edits ≡ to_touch listed → standing_in (held_by server waiting) ≡ start listed lanes
+begins_empty server modules lanes waiting listed new is =
+    let m = meaning_in server.writer in
+    same_standing (program_in m.committed) [] m.version 0 waiting.edits (to_touch listed) (uses_of server.lanes) (replicate lanes new_lane) (committed_program m (record { modules = [] }) new.empty.commits) new.empty.version is new.uses
 
 -- a recheck of the heap is one of the walk
-module _ (stop : ℕ) (fits : stop < 2 ^ 64) (before now : RecheckState) (stops : StopsAt stop before.stop now.stop) (bounded : before.folder.faults < 2 ^ 64) where
+module _ (stop : ℕ) (fits : stop < 2 ^ 64) (before now : RecheckState) (ls : List LaneUse) (stops : StopsAt stop before.stop now.stop) (bounded : before.folder.faults < 2 ^ 64) where
   -- the edit of the committed program is one of the walk's
-  comes_to : (old new : Root) (n : Extent) → recheck_run.Edits before old new n → ComesTo before.folder.told (standing_of before.heap before.edits) (program_of new) n.parsed n.checked (polls n)
+  comes_to : (old new : Root) (n : Extent) → rechecking.Edits before old new n → ComesTo before.folder.told (standing_of before.heap before.edits ls) (program_of new) n.parsed n.checked (polls n)
   comes_to old new n is =
       let was = sym (committed_program before.heap old is.was) in
       record {
@@ -264,22 +274,22 @@ module _ (stop : ℕ) (fits : stop < 2 ^ 64) (before now : RecheckState) (stops 
         sizes = subst (λ p. AreSizes p (program_of new) n.parsed n.checked (polls n)) was (sizes_by (program_of old) (program_of new) n is.affects);
       }
 
-  stays : (now.heap ≡ before.heap) × (now.edits ≡ before.edits) → standing_of before.heap before.edits ≡ standing_of now.heap now.edits
+  stays : (now.heap ≡ before.heap) × (now.edits ≡ before.edits) → standing_of before.heap before.edits ls ≡ standing_of now.heap now.edits ls
   stays same =
-      same_standing (program_in before.heap.committed) (program_in now.heap.committed) before.heap.version now.heap.version before.edits.edits now.edits.edits
-      (ap (λ (n : Meaning Payload). program_in n.committed) (sym same.0)) (ap (λ (n : Meaning Payload). n.version) (sym same.0)) (ap (λ (w : Pending). w.edits) (sym same.1))
+      same_standing (program_in before.heap.committed) (program_in now.heap.committed) before.heap.version now.heap.version before.edits.edits now.edits.edits ls ls
+      (ap (λ (n : Meaning Payload). program_in n.committed) (sym same.0)) (ap (λ (n : Meaning Payload). n.version) (sym same.0)) (ap (λ (w : Pending). w.edits) (sym same.1)) refl
 
   heap_rechecked : (o : Outcome) (version : ℕ) (line : Bytes) → Rechecked before now o → CountsReads before.folder now.folder o → version ≡ now.heap.version → Prints o version line
-      → HasRechecked stop (standing_of before.heap before.edits) (standing_of now.heap now.edits) line before.folder now.folder
+      → OneRecheck stop (standing_of before.heap before.edits ls) (standing_of now.heap now.edits ls) line before.folder now.folder
   heap_rechecked (outcome.Done v parsed checked errors) version line recheck reads is prints =
       let new = program_of recheck.new in
       let n = recheck.extent in
-      rechecks_done stop (standing_of before.heap before.edits) (standing_of now.heap now.edits) line before.folder now.folder new n.parsed n.checked (polls n) errors
+      rechecks_done stop (standing_of before.heap before.edits ls) (standing_of now.heap now.edits ls) line before.folder now.folder new n.parsed n.checked (polls n) errors
       (comes_to recheck.old recheck.new n recheck.edits)
       (goes_through stop (polls n) before.stop now.stop fits stops recheck.questions recheck.no_yes)
       ∣ (recheck.results, recheck.full, recheck.counts.2) ∣₁
-      (same_standing new (program_in now.heap.committed) (before.heap.version + 1) now.heap.version [] now.edits.edits
-      (sym (committed_program now.heap recheck.new recheck.is)) (sym recheck.next.0) (sym recheck.rest))
+      (same_standing new (program_in now.heap.committed) (before.heap.version + 1) now.heap.version [] now.edits.edits ls ls
+      (sym (committed_program now.heap recheck.new recheck.is)) (sym recheck.next.0) (sym recheck.rest) refl)
       (ap (λ k. done_line k n.parsed n.checked errors) (sym recheck.next.0 ∙ sym recheck.next.1)
       ∙ ap (λ k. done_line v k n.checked errors) (sym recheck.counts.0)
       ∙ ap (λ k. done_line v parsed k errors) (sym recheck.counts.1)
@@ -288,45 +298,70 @@ module _ (stop : ℕ) (fits : stop < 2 ^ 64) (before now : RecheckState) (stops 
   heap_rechecked (outcome.Cancelled poll) version line recheck reads is prints =
       let n = recheck.extent in
       let there = stops_there stop poll before.stop now.stop prints.0 stops recheck.questions recheck.at in
-      rechecks_cancelled stop (standing_of before.heap before.edits) (standing_of now.heap now.edits) line before.folder now.folder (program_of recheck.new) n.parsed n.checked (polls n)
+      rechecks_cancelled stop (standing_of before.heap before.edits ls) (standing_of now.heap now.edits ls) line before.folder now.folder (program_of recheck.new) n.parsed n.checked (polls n)
       (comes_to recheck.old recheck.new n recheck.edits)
       (let some = recheck.some in omega (arith, there, some)) (let few = recheck.few in omega (arith, there, few))
       (stays recheck.same)
       ((λ i. cancelled_line (there i) (sym is i)) ∙ sym prints.1)
       bounded reads
   heap_rechecked (outcome.ReadFault path) version line recheck reads is prints =
-      rechecks_not stop (standing_of before.heap before.edits) (standing_of now.heap now.edits) line before.folder now.folder path recheck.2 (stays recheck.0) (ap (fault_line path) (sym is) ∙ sym prints) reads.0
+      rechecks_not stop (standing_of before.heap before.edits ls) (standing_of now.heap now.edits ls) line before.folder now.folder path recheck.2 (stays recheck.0) (ap (fault_line path) (sym is) ∙ sym prints) reads.0
   heap_rechecked outcome.NoMemory version line recheck reads is prints = absurd prints
 
-pub rechecked : (stop : ℕ) (before now : FolderSeen) (m m' : Meaning Payload) (w w' : Pending) (h : Held) (work work' : Work) (o : Outcome) (version : ℕ) (line : Bytes) → stop < 2 ^ 64 → held m w ≡ h
-    → HasEnded stop before now (held m w) (held m' w') work work' o → CountsReads before now o → before.faults < 2 ^ 64 → version ≡ m'.version → Prints o version line
-    → HasRechecked stop (standing_in h) (standing_of m' w') line before now
-rechecked stop before now m m' w w' h work work' o version line fits at ended reads bounded is prints =
-    subst (λ (g : Held). HasRechecked stop (standing_in g) (standing_of m' w') line before now) at
-    (heap_rechecked stop fits (recheck_state before w m ended.asked work) (recheck_state now w' m' ended.asked' work') ended.stops bounded o version line ended.rechecked reads is prints)
+-- with asks beside it
+module _ (stop : ℕ) (asks : List Ask) (before now : FolderSeen) (m m' : Meaning Payload) (w w' : Pending) (ls ls' : List LaneUse) where
+  rechecked_at : (o : Outcome) (version : ℕ) (line printed answered : Bytes) (versions : List ℕ) → stop < 2 ^ 64
+      → HasEnded stop before now (held m w ls) (held m' w' ls') o → CountsReads before now o → before.faults < 2 ^ 64 → version ≡ m'.version → Prints o version line
+      → AnswersBeside (standing_of m w ls) (standing_of m' w' ls) asks versions answered → NoneFalls ls versions → ls' ≡ lanes_after ls versions → printed ≡ line ++ answered
+      → HasRechecked stop asks (standing_of m w ls) (standing_of m' w' ls') printed before now
+  rechecked_at o version line printed answered versions low ended reads bounded is prints beside falls_not lanes both =
+      let one = heap_rechecked stop low (recheck_state before w m ended.asked ended.work) (recheck_state now w' m' ended.asked' ended.work') ls ended.stops bounded o version line ended.rechecked reads is prints in
+      record {
+        faults = one.faults;
+        rechecks = record {
+          next = standing_of m' w' ls;
+          line = line;
+          rechecks = one.rechecks;
+          versions = versions;
+          answered = answered;
+          answers = beside;
+          falls_not = falls_not;
+          leads = ap (standing_of m' w') lanes;
+          prints = both;
+        };
+        counted = one.counted;
+      }
+
+  pub rechecked : (h : Held) (o : Outcome) (version : ℕ) (line printed answered : Bytes) (versions : List ℕ) → stop < 2 ^ 64 → held m w ls ≡ h
+      → HasEnded stop before now (held m w ls) (held m' w' ls') o → CountsReads before now o → before.faults < 2 ^ 64 → version ≡ m'.version → Prints o version line
+      → AnswersBeside (standing_of m w ls) (standing_of m' w' ls) asks versions answered → NoneFalls ls versions → ls' ≡ lanes_after ls versions → printed ≡ line ++ answered
+      → HasRechecked stop asks (standing_in h) (standing_of m' w' ls') printed before now
+  rechecked h o version line printed answered versions low at ended reads bounded is prints beside falls_not lanes both =
+      subst (λ (g : Held). HasRechecked stop asks (standing_in g) (standing_of m' w' ls') printed before now) at
+      (rechecked_at o version line printed answered versions low ended reads bounded is prints beside falls_not lanes both)
 
 -- ---- edits
 
-module _ (before after : Pending) (m : Meaning Payload) (path printed : Bytes) (new : Edit) where
+module _ (before after : Pending) (m : Meaning Payload) (ls : List LaneUse) (path printed : Bytes) (new : Edit) where
   edited_with : {T : Type 0} (put : Result T EditFault) → OnOk put (after.edits ≡ pending.with_edit before.edits path new) → OnErr put (after.edits ≡ before.edits)
-      → Limits before.capacity (modules_counted (with_edit (standing_of m before) path new)) put → PrintsEdit put printed → HasEdited before.capacity path new (standing_of m before) (standing_of m after) printed
-  edited_with (Ok x) ok err few prints = inl (few, same_standing (program_in m.committed) (program_in m.committed) m.version m.version after.edits (pending.with_edit before.edits path new) refl refl ok, prints)
+      → Limits before.capacity (modules_counted (with_edit (standing_of m before ls) path new)) put → PrintsEdit put printed → HasEdited before.capacity path new (standing_of m before ls) (standing_of m after ls) printed
+  edited_with (Ok x) ok err few prints = inl (few, same_standing (program_in m.committed) (program_in m.committed) m.version m.version after.edits (pending.with_edit before.edits path new) ls ls refl refl ok refl, prints)
   edited_with (Err (TooManyModules count)) ok err many prints =
-      inr (many.0, same_standing (program_in m.committed) (program_in m.committed) m.version m.version after.edits before.edits refl refl err, prints ∙ ap refused_line many.1)
+      inr (many.0, same_standing (program_in m.committed) (program_in m.committed) m.version m.version after.edits before.edits ls ls refl refl err refl, prints ∙ ap refused_line many.1)
   edited_with (Err NoMemory) ok err few prints = absurd prints
 
-pub edited_there : {T V E : Type 0} (put : Result T EditFault) (line : Result V E) (text : V → Bytes) (m : Meaning Payload) (before after : Pending) (h : Held) (path : Bytes) (new : Edit) → held m before ≡ h
-    → OnOk put (after.edits ≡ pending.with_edit before.edits path new) → OnErr put (after.edits ≡ before.edits) → Limits before.capacity (modules_counted (with_edit (standing_of m before) path new)) put
-    → IfOk line (λ v. PrintsEdit put (text v)) → IfOk line (λ v. HasEdited h.waiting.capacity path new (standing_in h) (standing_of m after) (text v))
-edited_there put (Ok v) text m before after h path new at ok err limits prints =
-    subst (λ (k : Held). HasEdited k.waiting.capacity path new (standing_in k) (standing_of m after) (text v)) at (edited_with before after m path (text v) new put ok err limits prints)
-edited_there put (Err e) text m before after h path new at ok err limits prints = tt
+pub edited_there : {T V E : Type 0} (put : Result T EditFault) (line : Result V E) (text : V → Bytes) (m : Meaning Payload) (before after : Pending) (ls : List LaneUse) (h : Held) (path : Bytes) (new : Edit) → held m before ls ≡ h
+    → OnOk put (after.edits ≡ pending.with_edit before.edits path new) → OnErr put (after.edits ≡ before.edits) → Limits before.capacity (modules_counted (with_edit (standing_of m before ls) path new)) put
+    → IfOk line (λ v. PrintsEdit put (text v)) → IfOk line (λ v. HasEdited h.waiting.capacity path new (standing_in h) (standing_of m after ls) (text v))
+edited_there put (Ok v) text m before after ls h path new at ok err limits prints =
+    subst (λ (k : Held). HasEdited k.waiting.capacity path new (standing_in k) (standing_of m after ls) (text v)) at (edited_with before after m ls path (text v) new put ok err limits prints)
+edited_there put (Err e) text m before after ls h path new at ok err limits prints = tt
 
-pub deleted_there : (m : Meaning Payload) (before after : Pending) (h : Held) (path printed : Bytes) → held m before ≡ h → after.edits ≡ pending.with_edit before.edits path Delete → printed ≡ []
-    → HasDeleted path (standing_in h) (standing_of m after) printed
-deleted_there m before after h path printed at ok none =
-    subst (λ (k : Held). HasDeleted path (standing_in k) (standing_of m after) printed) at
-    (same_standing (program_in m.committed) (program_in m.committed) m.version m.version after.edits (pending.with_edit before.edits path Delete) refl refl ok, none)
+pub deleted_there : (m : Meaning Payload) (before after : Pending) (ls : List LaneUse) (h : Held) (path printed : Bytes) → held m before ls ≡ h → after.edits ≡ pending.with_edit before.edits path Delete → printed ≡ []
+    → HasDeleted path (standing_in h) (standing_of m after ls) printed
+deleted_there m before after ls h path printed at ok none =
+    subst (λ (k : Held). HasDeleted path (standing_in k) (standing_of m after ls) printed) at
+    (same_standing (program_in m.committed) (program_in m.committed) m.version m.version after.edits (pending.with_edit before.edits path Delete) ls ls refl refl ok refl, none)
 
 -- ---- turns
 
@@ -362,13 +397,14 @@ pub turned_delete : (most : ℕ) (said : Line) (path : Bytes) (s s' : Standing) 
 turned_delete most said path s s' printed now bounded is (same, none) =
     of_turn most said (line.Delete path) s s' [] printed 0 now now is none (subst (λ t. Turns most now.told (line.Delete path) s t 0 []) (sym same) (deletes s path)) (rose_none now.faults now.faults bounded refl)
 
-pub turned_recheck : (most : ℕ) (said : Line) (stop : ℕ) (s s' : Standing) (text printed : Bytes) (before now : FolderSeen) → said ≡ line.Recheck stop → printed ≡ text → HasRechecked stop s s' text before now
+pub turned_recheck : (most : ℕ) (said : Line) (stop : ℕ) (asks given : List Ask) (s s' : Standing) (printed : Bytes) (before now : FolderSeen) → said ≡ line.Recheck stop asks → given ≡ asks → HasRechecked stop given s s' printed before now
     → HasTurned most said s s' printed before now
-turned_recheck most said stop s s' text printed before now is same recheck =
-    of_turn most said (line.Recheck stop) s s' text printed recheck.faults before now is same (rechecks s s' stop recheck.faults text recheck.rechecks) recheck.counted
+turned_recheck most said stop asks given s s' printed before now is same recheck =
+    of_turn most said (line.Recheck stop asks) s s' printed printed recheck.faults before now is refl
+    (rechecks s s' stop asks recheck.faults printed (subst (λ (its : List Ask). RechecksBeside before.told stop its s s' recheck.faults printed) same recheck.rechecks)) recheck.counted
 
-pub turned_ask : (most : ℕ) (said : Line) (asked : Ask) (s s' : Standing) (printed : Bytes) (now : FolderSeen) → now.faults < 2 ^ 64 → said ≡ line.Ask asked → s' ≡ s → PrintsAnswer s.version s.program asked printed
+pub turned_ask : (most : ℕ) (said : Line) (asked : Ask) (s s' : Standing) (printed : Bytes) (now : FolderSeen) → now.faults < 2 ^ 64 → said ≡ line.Ask asked → HasAsked asked s s' printed
     → HasTurned most said s s' printed now now
-turned_ask most said asked s s' printed now bounded is same answer =
+turned_ask most said asked s s' printed now bounded is (leads, answer) =
     of_turn most said (line.Ask asked) s s' (answer_lines s.version asked answer.0) printed 0 now now is answer.2
-    (subst (λ t. Turns most now.told (line.Ask asked) s t 0 (answer_lines s.version asked answer.0)) (sym same) (answers s asked answer.0 answer.1)) (rose_none now.faults now.faults bounded refl)
+    (subst (λ t. Turns most now.told (line.Ask asked) s t 0 (answer_lines s.version asked answer.0)) (sym leads) (answers s asked answer.0 answer.1)) (rose_none now.faults now.faults bounded refl)

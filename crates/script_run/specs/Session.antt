@@ -1,5 +1,5 @@
--- What a heap of modules and the edits that wait are to the walk.
-use Rattle.std.specs.Prelude.{◌≡◌, ◌<◌, ◌⊎◌, ℕ, ◌+◌, ◌^◌, ◌≤◌, Bool, false, List, [], ◌∷◌, length, slice_get, Option, Some, None, Result, Ok, Err, refl}
+-- What a server of modules and the edits that wait are to the walk.
+use Rattle.std.specs.Prelude.{◌≡◌, ◌<◌, ◌⊎◌, ℕ, ◌+◌, ◌^◌, ◌≤◌, Bool, false, List, [], ◌∷◌, ◌++◌, length, replicate, slice_get, Option, Some, None, Result, Ok, Err, refl}
 use Rattle.std.specs.Coded.{Coded, code_by, coded×, coded_ℕ, coded_bool, coded_list}
 use Rattle.flow_base.specs.Causes.{RoseBy}
 use Rattle.flow_base.specs.Program.{Bytes, Program}
@@ -20,15 +20,22 @@ use Rattle.pending_edits.specs.declared.edit.Edit.{Edit}
 use Rattle.pending_edits.specs.declared.edit.Edit.TheVariants.{Delete}
 use Rattle.pending_edits.specs.declared.edit.EditFault.{EditFault}
 use Rattle.pending_edits.specs.declared.edit.EditFault.TheVariants.{TooManyModules, NoMemory}
-use Rattle.recheck_run.specs.Recheck.{Commits, HasRoom, RecheckState, Rechecked}
-use Rattle.recheck_run.specs.declared.outcome.Outcome.{Outcome}
-use Rattle.recheck_run.specs.declared.outcome.Outcome.TheVariants as outcome
+use Rattle.beside.specs.Recheck.{Commits, HasRoom, RecheckState, Rechecked}
+use Rattle.beside.specs.Outcome.{Outcome}
+use Rattle.beside.specs.Outcome.TheVariants as outcome
+use Rattle.beside.specs.Uses.{LaneUse, lane_use_code, new_lane}
+use Rattle.beside.specs.Server.{IsRunning, uses_of}
+use Rattle.beside.specs.declared.serving.Server.{Server}
+use Rattle.beside.specs.Writers.{meaning_in}
 use Rattle.script_line.specs.declared.line.Line.{Line}
-use Rattle.script_run.specs.Transcript.{Standing, with_edit, modules_counted, Rechecks, Turns}
+use Rattle.script_run.specs.Transcript.{Standing, with_edit, after_asks, modules_counted, RechecksBeside, Turns}
 use Rattle.script_print.specs.Printed.{done_line, cancelled_line, fault_line, refused_line}
 use Rattle.stops.specs.Asked.{StopSeen, yes_answers_by}
 use Rattle.analyst.specs.Work.{Work}
 use Rattle.asks.specs.declared.ask.Ask.{Ask}
+use Rattle.asks.specs.declared.answer.AskFault.TheVariants as ask_fault
+use Rattle.heap_answers.specs.States.{Answers}
+use Rattle.beside.specs.Told.{Told}
 use Rattle.answers_law.specs.Answers.{Answered, IsAnswer}
 use Rattle.answer_print.specs.Lines.{answer_lines}
 
@@ -54,14 +61,15 @@ program_with modules = program_of (record { modules = modules })
 abbrev pub program_in : List Payload → Program
 program_in state = program_with (modules_in state)
 
--- where the walk stands, by the heap and the edits that wait
-abbrev pub standing_of : Meaning Payload → Pending → Standing
-standing_of m waiting = record { program = program_in m.committed; version = m.version; waiting = waiting.edits }
+-- where the walk stands, by the heap, the edits that wait, and what the lanes have answered
+abbrev pub standing_of : Meaning Payload → Pending → List LaneUse → Standing
+standing_of m waiting lanes = record { program = program_in m.committed; version = m.version; waiting = waiting.edits; lanes = lanes }
 
--- what a session holds: what its heap means, and the edits that wait
+-- what a session holds: what its heap means, the edits that wait, and what the lanes have answered
 pub record Held : Type 0 where
   pub heap : Meaning Payload
   pub waiting : Pending
+  pub lanes : List LaneUse
 
 -- it is told apart from others by its parts
 abbrev meaning_code : Coded (Meaning Payload)
@@ -78,14 +86,20 @@ waiting_code =
     (λ w. (w.edits, (w.capacity, (w.found, w.unseen)))) (λ p. record { edits = p.0; capacity = p.1.0; found = p.1.1.0; unseen = p.1.1.1 }) (λ _. refl)
 
 abbrev pub held_code : Coded Held
-held_code = code_by (Meaning Payload × Pending) (coded× meaning_code waiting_code) (λ h. (h.heap, h.waiting)) (λ p. record { heap = p.0; waiting = p.1 }) (λ _. refl)
+held_code =
+    code_by (Meaning Payload × (Pending × List LaneUse)) (coded× meaning_code (coded× waiting_code (coded_list lane_use_code))) (λ h. (h.heap, (h.waiting, h.lanes)))
+    (λ p. record { heap = p.0; waiting = p.1.0; lanes = p.1.1 }) (λ _. refl)
 
-abbrev pub held : Meaning Payload → Pending → Held
-held heap waiting = record { heap = heap; waiting = waiting }
+abbrev pub held : Meaning Payload → Pending → List LaneUse → Held
+held heap waiting lanes = record { heap = heap; waiting = waiting; lanes = lanes }
+
+-- what a server and the edits that wait are
+abbrev pub held_by : Server → Pending → Held
+held_by server waiting = held (meaning_in server.writer) waiting (uses_of server.lanes)
 
 -- where the walk of a session stands
 abbrev pub standing_in : Held → Standing
-standing_in h = standing_of h.heap h.waiting
+standing_in h = standing_of h.heap h.waiting h.lanes
 
 -- edits stand on the program that is committed
 abbrev pub StandOnCommitted : Meaning Payload → Pending → Type 0
@@ -115,6 +129,18 @@ pub record IsEmptyHeap (m : Meaning Payload) (modules : ℕ) : Type 0 where
   pub version : m.version ≡ 0
   pub closed : m.is_open ≡ false
   pub room : HasRoom m modules
+
+-- a server for this many modules and with so many lanes, before any recheck: it has no module, and has answered nothing
+pub record IsNewServer (server : Server) (modules lanes : ℕ) : Type 0 where
+  pub running : IsRunning server
+  pub empty : IsEmptyHeap (meaning_in server.writer) modules
+  pub many : length server.lanes ≡ lanes
+  pub uses : uses_of server.lanes ≡ replicate lanes new_lane
+
+-- a server on which no transaction is open
+pub record IsIdle (server : Server) : Type 0 where
+  pub running : IsRunning server
+  pub closed : (meaning_in server.writer).is_open ≡ false
 
 -- what is committed has a root, and fits it
 pub may_be_read : {P : Type 0} {fits : ℕ → P → ℕ → P → Type 0} {m : Meaning P} → IsSound fits m → (0 < length m.committed) × AllFit fits m.committed
@@ -163,17 +189,19 @@ pub record StopsAt (stop : ℕ) (before now : StopSeen) : Type 0 where
   pub yes : now.yes_answers ≡ yes_answers_by stop now.questions
 
 -- A recheck that is to stop at this poll, or at none where that is 0, ended like this.
-pub record HasEnded (stop : ℕ) (folder folder' : FolderSeen) (h h' : Held) (work work' : Work) (o : Outcome) : Type 0 where
+pub record HasEnded (stop : ℕ) (folder folder' : FolderSeen) (h h' : Held) (o : Outcome) : Type 0 where
+  pub work : Work
+  pub work' : Work
   pub asked : StopSeen
   pub asked' : StopSeen
   pub stops : StopsAt stop asked asked'
   pub rechecked : Rechecked (recheck_state folder h.waiting h.heap asked work) (recheck_state folder' h'.waiting h'.heap asked' work') o
 
--- a recheck that is to stop at this poll, or at none where that is 0, what it prints, and that the folder counted as many faults in it as
--- it prints read faults
-pub record HasRechecked (stop : ℕ) (s s' : Standing) (printed : Bytes) (before now : FolderSeen) : Type 0 where
+-- a recheck that is to stop at this poll, or at none where that is 0, with these asks beside it, what it prints, and that the folder
+-- counted as many faults in it as it prints read faults
+pub record HasRechecked (stop : ℕ) (asks : List Ask) (s s' : Standing) (printed : Bytes) (before now : FolderSeen) : Type 0 where
   pub faults : ℕ
-  pub rechecks : Rechecks before.told stop s s' faults printed
+  pub rechecks : RechecksBeside before.told stop asks s s' faults printed
   pub counted : RoseBy faults before.faults now.faults
 
 -- the same of a line of the script
@@ -208,6 +236,28 @@ Prints outcome.NoMemory now line = ⊥
 -- what is asked of a version of a program prints this
 abbrev pub PrintsAnswer : ℕ → Program → Ask → Bytes → Type 0
 PrintsAnswer version program asked printed = (answer : Answered) × IsAnswer program asked answer × (printed ≡ answer_lines version asked answer)
+
+-- memory was not refused
+abbrev pub IsFound : Answered → Type 0
+IsFound answer = answer ≡ Err ask_fault.NoMemory → ⊥
+
+-- what is told of an ask, of some program
+abbrev pub IsToldOfSome : Ask → Told Answered → Type 0
+IsToldOfSome asked told = (program : Program) × Answers program asked told.answer
+
+-- what is told prints this
+abbrev pub PrintsTold : Ask → Told Answered → Bytes → Type 0
+PrintsTold asked told printed = IsFound told.answer × (printed ≡ answer_lines told.version asked told.answer)
+
+-- what is told of some asks prints this, in order
+abbrev pub PrintAllTold : List Ask → List (Told Answered) → Bytes → Type 0
+PrintAllTold [] [] printed = printed ≡ []
+PrintAllTold (asked ∷ asks) (told ∷ more) printed = (first rest : Bytes) × PrintsTold asked told first × PrintAllTold asks more rest × (printed ≡ first ++ rest)
+PrintAllTold asks more printed = ⊥
+
+-- an ask of where the walk stands was answered on the first lane, and prints this
+abbrev pub HasAsked : Ask → Standing → Standing → Bytes → Type 0
+HasAsked asked s s' printed = (s' ≡ after_asks s (s.version ∷ [])) × PrintsAnswer s.version s.program asked printed
 
 -- what an edit prints
 abbrev pub PrintsEdit : {T : Type 0} → Result T EditFault → Bytes → Type 0

@@ -1,5 +1,5 @@
 -- The steps of a walk: what is read, and what was done and printed so far.
-use Rattle.std.specs.Prelude.{◌≡◌, ◌<◌, ◌≤◌, ℕ, ◌+◌, ◌-◌, ◌^◌, min, List, [], ◌∷◌, ◌++◌, length, Option}
+use Rattle.std.specs.Prelude.{◌≡◌, ◌<◌, ◌≤◌, ℕ, ◌+◌, ◌*◌, ◌-◌, ◌^◌, min, List, [], ◌∷◌, ◌++◌, length, Option}
 use Rattle.std.specs.Option.{option_map}
 use Rattle.flow_base.specs.Program.{Bytes, Program}
 use Rattle.flow_base.specs.Causes.{RoseBy}
@@ -7,7 +7,8 @@ use Rattle.flow_base.specs.Outside.{WhereTold, appended, HoldsFront}
 use Rattle.flow_base.specs.Seen.{FolderSeen, SinkSeen, Outside}
 use Rattle.script_line.specs.declared.line.Line.{Line}
 use Rattle.script_line.specs.declared.line.Line.TheVariants as line
-use Rattle.script_line.specs.Says.{Says}
+use Rattle.beside.specs.Uses.{LaneUse, AnsweredAtMost}
+use Rattle.script_line.specs.Says.{Says, MOST_ASKS}
 use Rattle.script_reader.specs.Lines.{LINE_LIMIT, script_lines, lines_left, HasNoFeed, TakesLine}
 use Rattle.script_run.specs.Checked.{HasErrorCount}
 use Rattle.script_run.specs.declared.ending.WalkEnd.{WalkEnd}
@@ -68,13 +69,13 @@ pub data BreaksOff (most : ℕ) (said : Line) (before : WalkState) (folder : Fol
 -- the load was done and printed, from the standing before it
 pub record HasLoaded (before now : WalkState) : Type 0 where
   pub printed : Bytes
-  pub load : HasRechecked 0 before.standing now.standing printed before.folder now.folder
+  pub load : HasRechecked 0 [] before.standing now.standing printed before.folder now.folder
   pub written : now.out.written ≡ appended before.out.written printed
 
 -- the load broke off, and the folder and the sink were then these: nothing more was written, or a front of its line
 pub data BreaksLoad (before : WalkState) (folder : FolderSeen) (held : Option Bytes) : Type 0 where
   unsaid_load : held ≡ before.out.written → BreaksLoad before folder held
-  begun_load : (s : Standing) (printed : Bytes) → HasRechecked 0 before.standing s printed before.folder folder → HoldsFront before.out.written held printed → BreaksLoad before folder held
+  begun_load : (s : Standing) (printed : Bytes) → HasRechecked 0 [] before.standing s printed before.folder folder → HoldsFront before.out.written held printed → BreaksLoad before folder held
 
 -- a line of the script was taken and answered
 pub record Takes (most taken : ℕ) (lines lines' : Option (List Bytes)) (before now : WalkState) : Type 0 where
@@ -95,23 +96,29 @@ pub data Breaks (most taken : ℕ) (lines : Option (List Bytes)) (before : WalkS
   in_turn : (said : Line) (lines' : Option (List Bytes)) → IsTaken said taken lines lines' → BreaksOff most said before folder held → Breaks most taken lines before folder held
   in_end : (how : WalkEnd) → HasEnd how taken lines → HoldsFront before.out.written held (last_line (taken + 1) how) → Breaks most taken lines before folder held
 
+-- after so many lines each lane has answered no more asks than these may have
+abbrev pub HaveAnswered : ℕ → Standing → Type 0
+HaveAnswered taken s = AnsweredAtMost (MOST_ASKS * taken) s.lanes
+
 -- the load was done and so many lines were taken and answered
-pub record HasWalked (most : ℕ) (listed : List Bytes) (script left : Option (List Bytes)) (taken : ℕ) (before now : WalkState) : Type 0 where
+pub record HasWalked (most lanes : ℕ) (listed : List Bytes) (script left : Option (List Bytes)) (taken : ℕ) (before now : WalkState) : Type 0 where
   pub lines : List Bytes
   pub number : length lines ≡ taken
   pub leaves : script ≡ option_map (λ rest. lines ++ rest) left
   pub read_faults : ℕ
   pub printed : Bytes
-  pub walk : Walked most before.folder.told listed lines now.standing read_faults printed
+  pub walk : Walked most lanes before.folder.told listed lines now.standing read_faults printed
   pub written : now.out.written ≡ appended before.out.written printed
   pub counted : RoseBy read_faults before.folder.faults now.folder.faults
   pub version : now.standing.version ≤ taken + 1
+  pub answered : HaveAnswered taken now.standing
 
--- a whole run was done and printed, and it ended with this program at this version, which has so many errors
-pub record HasRun (most : ℕ) (listed : List Bytes) (how : WalkEnd) (errors : ℕ) (program : Program) (version : ℕ) (before now : Outside) : Type 0 where
+-- a whole run was done and printed, and it ended with this program at this version, which has so many errors, and with these uses of the
+-- lanes
+pub record HasRun (most lanes : ℕ) (listed : List Bytes) (how : WalkEnd) (errors : ℕ) (program : Program) (version : ℕ) (uses : List LaneUse) (before now : Outside) : Type 0 where
   pub read_faults : ℕ
   pub printed : Bytes
-  pub run : IsRun most before.folder.told listed (lines_left [] before.script.left) read_faults printed how program version
+  pub run : IsRun most lanes before.folder.told listed (lines_left [] before.script.left) read_faults printed how program version uses
   pub written : now.out.written ≡ appended before.out.written printed
   pub counted : RoseBy read_faults before.folder.faults now.folder.faults
   pub counts : HasErrorCount program errors
@@ -126,21 +133,22 @@ pub record TookAllGiven (taken : List Bytes) (script left : Option Bytes) : Type
   pub lines : lines_left [] script ≡ option_map (λ rest. taken ++ script_lines (part ++ rest)) left
 
 -- The script failed: all whole lines that it gave were taken and answered, and all that the load and these lines print was printed.
-pub record HasStopped (most : ℕ) (listed : List Bytes) (before now : Outside) : Type 0 where
+pub record HasStopped (most lanes : ℕ) (listed : List Bytes) (before now : Outside) : Type 0 where
   pub read_faults : ℕ
   pub printed : Bytes
-  pub run : IsRunSoFar most before.folder.told listed (lines_left [] before.script.left) read_faults printed
+  pub run : IsRunSoFar most lanes before.folder.told listed (lines_left [] before.script.left) read_faults printed
   pub took_all : TookAllGiven run.taken before.script.left now.script.left
   pub written : now.out.written ≡ appended before.out.written printed
   pub counted : RoseBy read_faults before.folder.faults now.folder.faults
 
 -- a front of what a whole run prints was printed, one with no more read faults than the folder counted
-pub record HasFront (most : ℕ) (listed : List Bytes) (before now : Outside) : Type 0 where
+pub record HasFront (most lanes : ℕ) (listed : List Bytes) (before now : Outside) : Type 0 where
   pub read_faults : ℕ
   pub printed : Bytes
   pub how : WalkEnd
   pub program : Program
   pub version : ℕ
-  pub run : IsRun most before.folder.told listed (lines_left [] before.script.left) read_faults printed how program version
+  pub uses : List LaneUse
+  pub run : IsRun most lanes before.folder.told listed (lines_left [] before.script.left) read_faults printed how program version uses
   pub front : HoldsFront before.out.written now.out.written printed
   pub counted : RoseByAtLeast read_faults before.folder.faults now.folder.faults

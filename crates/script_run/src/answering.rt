@@ -1,16 +1,14 @@
-//! What is asked of a version, answered and printed.
-ghost use Rattle.std.specs.Prelude.{◌≡◌, ◌↔◌, IsTrue, IfOk, Err};
-ghost use Rattle.script_run.specs.Session.{PrintsAnswer, program_in};
+//! What was answered, printed.
+ghost use Rattle.std.specs.Prelude.{◌≡◌, ◌↔◌, ◌++◌, IsTrue, IfOk, Err, OnOk};
+ghost use Rattle.std.specs.List.{AllZip};
+ghost use Rattle.flow_base.specs.Program.{Bytes};
+ghost use Rattle.script_run.specs.Session.{IsToldOfSome, PrintsTold, PrintAllTold};
 
-use analyst::Analyst;
 use answer_print::print_answer;
 use answers_law::can_be_printed;
 use asks::{Answer, Ask, AskFault};
+use beside::Told;
 use flow_base::{NoMemory, Text};
-use heap_core::HeapReader;
-use payloads::Payload;
-use place_analyst::PlaceAnalyst;
-use request_core::answer;
 use std::alloc::Global;
 
 // Memory was refused.
@@ -23,24 +21,39 @@ fn wants_memory(answer: &Result<Answer, AskFault>) -> bool
     }
 }
 
-/// The lines that answer what is asked of the version that a reader reads.
+/// The lines of what was answered to an ask.
 ///
 /// # Errors
 ///
-/// `NoMemory` where memory is refused.
-pub(crate) fn answer_text<R: HeapReader<Payload>, A: Analyst + PlaceAnalyst>(
-    alloc: Global,
-    reader: &mut R,
-    analyst: &mut A,
-    ask: &Ask,
-) -> Result<Text, NoMemory>
-    ensures { IfOk result (PrintsAnswer (R.at reader.old) (program_in (R.state reader.old)) ask.now) }
+/// `NoMemory` where memory is refused, or was refused to the answer.
+pub(crate) fn told_text(alloc: Global, ask: &Ask, told: &Told) -> Result<Text, NoMemory>
+    requires { IsToldOfSome ask.now told.now }
+    ensures { IfOk result (PrintsTold ask.now told.now) }
 {
     can_be_printed();
-    let version = reader.version();
-    let answer = answer(alloc, reader, analyst, ask);
-    if wants_memory(&answer) {
+    if wants_memory(&told.answer) {
         return Err(NoMemory);
     }
-    print_answer(alloc, version, ask, &answer)
+    print_answer(alloc, told.version, ask, &told.answer)
+}
+
+/// Puts the lines of what was answered to some asks behind what was printed.
+///
+/// # Errors
+///
+/// As `told_text` has them.
+pub(crate) fn print_told(
+    alloc: Global,
+    asks: &[Ask],
+    told: &[Told],
+    printed: &mut Vec<u8>,
+) -> Result<(), NoMemory>
+    requires { AllZip IsToldOfSome asks.now told.now }
+    ensures { OnOk result ((answered : Bytes) × PrintAllTold asks.now told.now answered × (printed.new.items ≡ printed.old.items ++ answered)) }
+{
+    for i in 0..asks.len() {
+        let text = told_text(alloc, &asks[i], &told[i])?;
+        printed.extend_from_slice(text.as_bytes())?;
+    }
+    Ok(())
 }

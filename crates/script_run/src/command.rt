@@ -59,6 +59,7 @@ fn next_command(alloc: Global, taken: u32, line: &Text) -> Result<Command, RunFa
         Ok(Line::End) => Ok(Command::Ends(WalkEnd::Finished)),
         Ok(line) => Ok(Command::Takes(line)),
         Err(LineFault::BadLine) => Ok(Command::Ends(WalkEnd::BadLine)),
+        Err(LineFault::TooManyAsks { count }) => Ok(Command::Ends(WalkEnd::ManyAsks { count })),
         Err(LineFault::NoMemory) => Err(RunFault::NoMemory),
     }
 }

@@ -1,37 +1,41 @@
 //! What a writer has committed, as a reader of it.
 ghost use Rattle.std.specs.Prelude.{◌≡◌, false};
-ghost use Rattle.script_run.specs.Session.{may_be_read};
+ghost use Rattle.beside.specs.Writers.{meaning_in};
 
+use beside::Writer;
 use flow_base::NoMemory;
-use heap_core::{HeapReader, HeapWriter};
+use heap_core::HeapReader;
 use payloads::Payload;
 use std::sync::Arc;
 
 /// The committed state of a writer without an open transaction.
 #[derive(Drop)]
-pub struct Committed<'a, W: HeapWriter<Payload>> {
-    writer: &'a W,
-    ghost closed: { (W.meaning writer.now).is_open ≡ false },
+pub struct Committed<'a> {
+    writer: &'a Writer<Payload>,
+    ghost closed: { (meaning_in writer.now).is_open ≡ false },
 }
 
-impl<'a, W: HeapWriter<Payload>> Committed<'a, W> {
+impl<'a> Committed<'a> {
     /// What this writer has committed.
-    pub fn of(writer: &'a W) -> Committed<'a, W>
-        requires { (W.meaning writer.now).is_open ≡ false }
+    pub fn of(writer: &'a Writer<Payload>) -> Committed<'a>
+        requires { (meaning_in writer.now).is_open ≡ false }
         ensures { result.writer.now ≡ writer.now }
     {
         Committed { writer }
     }
 }
 
-impl<W: HeapWriter<Payload>> HeapReader<Payload> for Committed<'_, W> {
-    type Part = W::Part;
+impl HeapReader<Payload> for Committed<'_> {
+    ghost use Rattle.heap_core.specs.PlainHeaps.{plain_sound, plain_numbered};
+    ghost use Rattle.script_run.specs.Session.{may_be_read};
 
-    ghost part = { λ r. W.part r.writer.now };
+    type Part = ();
 
-    ghost at = { λ r. (W.meaning r.writer.now).version };
+    ghost part = { λ _. tt };
 
-    ghost state = { λ r. (W.meaning r.writer.now).committed };
+    ghost at = { λ r. (meaning_in r.writer.now).version };
+
+    ghost state = { λ r. (meaning_in r.writer.now).committed };
 
     fn version(&self) -> u32 {
         self.writer.version()
@@ -45,7 +49,7 @@ impl<W: HeapWriter<Payload>> HeapReader<Payload> for Committed<'_, W> {
         self.writer.latest(e)
     }
 
-    ghost fit = { λ r. may_be_read (W.sound r.writer.now) };
+    ghost fit = { λ r. may_be_read (plain_sound r.writer.now.plain) };
 
-    ghost numbered = { λ r. W.numbered r.writer.now };
+    ghost numbered = { λ r. plain_numbered r.writer.now.plain };
 }

@@ -1,8 +1,9 @@
 ghost use Rattle.std.specs.Prelude.{◌≡◌, ◌+◌, IfOk};
 ghost use Rattle.script_run.specs.Transcript.{last_line};
 
+use beside::Server;
 use flow_base::{NoMemory, SinkFault};
-use script_print::{bad_line, long_line, many_lines};
+use script_print::{bad_line, long_line, many_asks, many_lines};
 use std::alloc::Global;
 
 /// How a walk over the lines of a script ends.
@@ -16,17 +17,19 @@ pub enum WalkEnd {
     LongLine,
     /// 1,048,576 lines were taken, and one more is there.
     ManyLines,
+    /// The next line is a recheck with so many asks, more than 64.
+    ManyAsks { count: u64 },
 }
 
 /// A run that came to its end.
 #[derive(Drop)]
-pub struct Ended<W> {
+pub struct Ended {
     /// How the script ended.
     pub ending: WalkEnd,
     /// The number of errors of the program that was committed last.
     pub errors: u64,
-    /// The heap, which holds that program at its version.
-    pub heap: W,
+    /// The server, which holds that program at its version, with the lanes that answered.
+    pub server: Server,
 }
 
 /// Why a run did not come to its end.
@@ -59,5 +62,6 @@ pub fn last_line(alloc: Global, number: u64, ending: WalkEnd) -> Result<Vec<u8>,
         WalkEnd::BadLine => Ok(bad_line(alloc, number)?.into_bytes()),
         WalkEnd::LongLine => Ok(Vec::from_slice(alloc, long_line())?),
         WalkEnd::ManyLines => Ok(Vec::from_slice(alloc, many_lines())?),
+        WalkEnd::ManyAsks { count } => Ok(many_asks(alloc, count)?.into_bytes()),
     }
 }

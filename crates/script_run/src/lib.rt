@@ -15,7 +15,7 @@ mod walk;
 
 pub use ending::{Ended, RunFault, WalkEnd};
 pub use laws::{a_front_goes_on, one_quiet_run};
-pub use opening::empty_heap;
+pub use opening::open_server;
 pub use session::Session;
 pub use sinks::write_all;
 pub use walk::run;

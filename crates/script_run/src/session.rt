@@ -1,22 +1,23 @@
 ghost use Rattle.std.specs.Prelude.{◌≡◌, ◌+◌, ◌<◌, ◌≤◌, ◌^◌, length, string_bytes, IfOk};
 ghost use Rattle.flow_base.specs.Program.{IsRising};
 ghost use Rattle.pending_edits.specs.declared.edit.Edit.TheVariants.{Put, Touch};
+ghost use Rattle.beside.specs.Writers.{meaning_in};
+ghost use Rattle.beside.specs.Uses.{MayAnswer};
+ghost use Rattle.beside.specs.Server.{uses_of};
 ghost use Rattle.script_run.specs.Checked.{HasErrorCount};
-ghost use Rattle.script_run.specs.Transcript.{start};
-ghost use Rattle.script_run.specs.Session.{IsEmptyHeap, standing_in, Prints, PrintsAnswer, PrintsEdit, HasEdited, HasDeleted, HasRechecked, HasTurned};
+ghost use Rattle.script_run.specs.Transcript.{start, asks_of};
+ghost use Rattle.script_run.specs.Session.{IsNewServer, IsIdle, standing_in, Prints, PrintsEdit, HasAsked, HasEdited, HasDeleted, HasRechecked, HasTurned};
 
-use crate::answering::answer_text;
+use crate::answering::{print_told, told_text};
 use crate::committed::Committed;
 use crate::errors::count_errors;
 use crate::waiting::{delete_path, put_text, recheck_edited, touch_path, touched};
 use analyst::Analyst;
 use asks::Ask;
-use flow_base::{Folder, NoMemory, Path, Point, Text, Turnstile};
-use heap_core::HeapWriter;
-use payloads::Payload;
+use beside::{Outcome, Server};
+use flow_base::{Folder, NoMemory, Path, Text, Turnstile};
 use pending_edits::{EditFault, Edits};
 use place_analyst::PlaceAnalyst;
-use recheck_run::Outcome;
 use script_line::Line;
 use script_print::{cancelled_line, done_line, fault_line, refused_line};
 use std::alloc::Global;
@@ -24,33 +25,34 @@ use std::marker::Model;
 use std::sync::Wait;
 use std::thread::Threads;
 
-/// The heap of modules, the edits that wait for the next recheck, and who checks. Contracts see what the
-/// heap means and the edits.
+/// The server of modules, the edits that wait for the next recheck, who checks, and who answers, one on
+/// each lane. Contracts see what the heap means, the edits, and what the lanes have answered.
 #[derive(Drop)]
-pub struct Session<W: HeapWriter<Payload> + Drop, A: Analyst + PlaceAnalyst + Send + Drop> {
+pub struct Session<A: Analyst + PlaceAnalyst + Send + Drop> {
     alloc: Global,
-    heap: W,
+    server: Server,
     edits: Edits,
     analysts: Vec<A>,
+    askers: Vec<A>,
 }
 
-impl<W: HeapWriter<Payload> + Drop, A: Analyst + PlaceAnalyst + Send + Drop> Model
-    for Session<W, A> {
-    ghost use Rattle.std.specs.Prelude.{◌<◌, length};
-    ghost use Rattle.script_run.specs.Session.{Held, held, held_code, IsReady};
+impl<A: Analyst + PlaceAnalyst + Send + Drop> Model for Session<A> {
+    ghost use Rattle.std.specs.Prelude.{◌≡◌, ◌<◌, length};
+    ghost use Rattle.beside.specs.Server.{IsRunning};
+    ghost use Rattle.script_run.specs.Session.{Held, held_by, held_code, IsReady};
 
     ghost Value = { Held };
 
     ghost coded = { held_code };
 
-    ghost view = { λ s. held (W.meaning s.heap) s.edits };
+    ghost view = { λ s. held_by s.server s.edits };
 
-    ghost invariant = { λ s. IsReady (held (W.meaning s.heap) s.edits) × (0 < length s.analysts.items) };
+    ghost invariant = { λ s. IsReady (held_by s.server s.edits) × IsRunning s.server × (0 < length s.analysts.items) × (length s.askers.items ≡ length s.server.lanes) };
 }
 
-impl<W: HeapWriter<Payload> + Drop, A: Analyst + PlaceAnalyst + Send + Drop> Session<W, A> {
+impl<A: Analyst + PlaceAnalyst + Send + Drop> Session<A> {
     /// The empty program at version 0, for so many modules, and these paths, which rise, to be read by
-    /// the first recheck. All analysts recheck, and the first answers.
+    /// the first recheck. All analysts recheck, and each asker answers on the lane of its place.
     ///
     /// # Errors
     ///
@@ -58,57 +60,67 @@ impl<W: HeapWriter<Payload> + Drop, A: Analyst + PlaceAnalyst + Send + Drop> Ses
     #[tactic(auto, using(crate::proofs::Sessions::begins_empty))]
     pub fn open(
         alloc: Global,
-        heap: W,
+        server: Server,
         modules: u32,
         listed: &[Path],
         analysts: Vec<A>,
-    ) -> Result<Session<W, A>, NoMemory>
-        requires empty { IsEmptyHeap (W.meaning heap) modules }
+        askers: Vec<A>,
+    ) -> Result<Session<A>, NoMemory>
+        requires new { IsNewServer server modules (length askers.items) }
         requires rising { IsRising listed.now }
         requires few { length listed.now ≤ modules }
         requires some { 0 < length analysts.items }
-        ensures standing { IfOk result (λ session. standing_in session ≡ start listed.now) }
+        ensures standing { IfOk result (λ session. standing_in session ≡ start listed.now (length askers.items)) }
         ensures modules { IfOk result (λ session. session.waiting.capacity ≡ modules) }
     {
         let edits = touched(alloc, modules, listed)?;
         Ok(Session {
             alloc,
-            heap,
+            server,
             edits,
             analysts,
+            askers,
         })
     }
 
-    /// Rechecks, and gives the line that this prints. It stops at this poll, counted from 1, where it
-    /// comes to it, and with 0 at none. At each poll it passes the turnstile.
+    /// Rechecks with these asks beside it, and gives what this prints: the line of the recheck, and then
+    /// the answers, in order. It stops at this poll, counted from 1, where it comes to it, and with 0 at
+    /// none. At each poll, and at each ask, it passes the turnstile.
     ///
     /// # Errors
     ///
     /// `NoMemory` where memory is refused.
-    pub fn recheck<R: Threads + Wait + Sync, F: Folder, T: Turnstile>(
+    pub fn recheck<R: Threads + Wait + Sync, F: Folder, T: Turnstile + Sync>(
         &mut self,
         rt: &R,
         stop: u64,
+        asks: &[Ask],
         folder: &mut F,
         turns: &T,
-    ) -> Result<String, NoMemory>
-        requires { self.old.heap.version + 1 < 2 ^ 31 }
-        ensures rechecked { IfOk result (λ line. HasRechecked stop (standing_in self.old) (standing_in self.new) (string_bytes line) (F.seen folder.old) (F.seen folder.new)) }
+    ) -> Result<Vec<u8>, NoMemory>
+        requires version { self.old.heap.version + 1 < 2 ^ 31 }
+        requires pins { MayAnswer (length asks.now) self.old.lanes }
+        ensures rechecked { IfOk result (λ printed. HasRechecked stop asks.now (standing_in self.old) (standing_in self.new) printed.items (F.seen folder.old) (F.seen folder.new)) }
         ensures modules { self.new.waiting.capacity ≡ self.old.waiting.capacity }
         ensures told { (F.seen folder.new).told ≡ (F.seen folder.old).told }
         ensures later { (F.seen folder.old).faults ≤ (F.seen folder.new).faults }
     {
-        let outcome = recheck_edited(
+        let (outcome, told) = recheck_edited(
             rt,
             self.alloc,
-            &mut self.heap,
+            &mut self.server,
             &mut self.edits,
             stop,
+            asks,
             folder,
             turns,
             self.analysts.as_mut_slice(),
-        );
-        Ok(outcome_line(self.alloc, &outcome, self.heap.version())?)
+            self.askers.as_mut_slice(),
+        )?;
+        let line = outcome_line(self.alloc, &outcome, self.server.version())?;
+        let mut printed = line.into_bytes();
+        print_told(self.alloc, asks, told.as_slice(), &mut printed)?;
+        Ok(printed)
     }
 
     /// Puts an edit to the others, and gives what this prints: nothing, or that it was refused.
@@ -120,7 +132,7 @@ impl<W: HeapWriter<Payload> + Drop, A: Analyst + PlaceAnalyst + Send + Drop> Ses
         ensures edited { IfOk result (λ printed. HasEdited self.old.waiting.capacity path (Put text) (standing_in self.old) (standing_in self.new) printed.items) }
         ensures modules { self.new.waiting.capacity ≡ self.old.waiting.capacity }
     {
-        let put = put_text(&self.heap, &mut self.edits, path, text);
+        let put = put_text(&self.server.writer, &mut self.edits, path, text);
         edit_line(self.alloc, put)
     }
 
@@ -130,12 +142,11 @@ impl<W: HeapWriter<Payload> + Drop, A: Analyst + PlaceAnalyst + Send + Drop> Ses
         ensures touched { IfOk result (λ printed. HasEdited self.old.waiting.capacity path Touch (standing_in self.old) (standing_in self.new) printed.items) }
         ensures modules { self.new.waiting.capacity ≡ self.old.waiting.capacity }
     {
-        let put = touch_path(&self.heap, &mut self.edits, path);
+        let put = touch_path(&self.server.writer, &mut self.edits, path);
         edit_line(self.alloc, put)
     }
 
     /// From the next recheck on a path is no module. This prints nothing.
-    #[tactic(auto, using(crate::proofs::PendingEdits::ready_deleted))]
     fn delete(&mut self, path: Path) -> Result<Vec<u8>, NoMemory>
         ensures deleted { IfOk result (λ printed. HasDeleted path (standing_in self.old) (standing_in self.new) printed.items) }
         ensures modules { self.new.waiting.capacity ≡ self.old.waiting.capacity }
@@ -144,15 +155,17 @@ impl<W: HeapWriter<Payload> + Drop, A: Analyst + PlaceAnalyst + Send + Drop> Ses
         Ok(Vec::new(self.alloc))
     }
 
-    /// Answers what is asked of the committed program, and gives what this prints. It passes the
-    /// turnstile, as the first of its asks.
+    /// Answers what is asked on the first lane, from the committed version, and gives what this prints.
+    /// It passes the turnstile, as the first of its asks.
     fn ask<T: Turnstile>(&mut self, turns: &T, ask: &Ask) -> Result<Vec<u8>, NoMemory>
-        ensures answered { IfOk result (λ printed. PrintsAnswer (standing_in self.old).version (standing_in self.old).program ask.now printed.items) }
-        ensures same { self.new ≡ self.old }
+        requires pins { MayAnswer 1 self.old.lanes }
+        ensures asked { IfOk result (λ printed. HasAsked ask.now (standing_in self.old) (standing_in self.new) printed.items) }
+        ensures modules { self.new.waiting.capacity ≡ self.old.waiting.capacity }
     {
-        turns.at(Point::Ask(0));
-        let mut committed = Committed::of(&self.heap);
-        let text = answer_text(self.alloc, &mut committed, &mut self.analysts[0], ask)?;
+        let told = self
+            .server
+            .answer_first(self.alloc, turns, &mut self.askers[0], ask);
+        let text = told_text(self.alloc, ask, &told)?;
         Ok(Vec::from_slice(self.alloc, text.as_bytes())?)
     }
 
@@ -164,7 +177,7 @@ impl<W: HeapWriter<Payload> + Drop, A: Analyst + PlaceAnalyst + Send + Drop> Ses
     pub fn errors(&self) -> Result<u64, NoMemory>
         ensures { IfOk result (HasErrorCount (standing_in self.now).program) }
     {
-        count_errors(&mut Committed::of(&self.heap))
+        count_errors(&mut Committed::of(&self.server.writer))
     }
 
     /// Answers a line that does not end the script, and gives what this prints.
@@ -172,7 +185,7 @@ impl<W: HeapWriter<Payload> + Drop, A: Analyst + PlaceAnalyst + Send + Drop> Ses
     /// # Errors
     ///
     /// `NoMemory` where memory is refused.
-    pub fn turn<R: Threads + Wait + Sync, F: Folder, T: Turnstile>(
+    pub fn turn<R: Threads + Wait + Sync, F: Folder, T: Turnstile + Sync>(
         &mut self,
         rt: &R,
         folder: &mut F,
@@ -180,6 +193,7 @@ impl<W: HeapWriter<Payload> + Drop, A: Analyst + PlaceAnalyst + Send + Drop> Ses
         line: Line,
     ) -> Result<Vec<u8>, NoMemory>
         requires version { self.old.heap.version + 1 < 2 ^ 31 }
+        requires pins { MayAnswer (length (asks_of line)) self.old.lanes }
         requires goes_on { line ≡ Line.End → ⊥ }
         ensures turned { IfOk result (λ printed. HasTurned self.old.waiting.capacity line (standing_in self.old) (standing_in self.new) printed.items (F.seen folder.old) (F.seen folder.new)) }
         ensures modules { self.new.waiting.capacity ≡ self.old.waiting.capacity }
@@ -191,18 +205,20 @@ impl<W: HeapWriter<Payload> + Drop, A: Analyst + PlaceAnalyst + Send + Drop> Ses
             Line::Edit { path, text } => self.edit(path, text),
             Line::Delete { path } => self.delete(path),
             Line::Touch { path } => self.touch(path),
-            Line::Recheck { stop } => Ok(self.recheck(rt, stop, folder, turns)?.into_bytes()),
+            Line::Recheck { stop, asks } => self.recheck(rt, stop, asks.as_slice(), folder, turns),
             Line::Ask(ask) => self.ask(turns, &ask),
             Line::End => unreachable!(),
         }
     }
 
-    /// The heap, as the session leaves it. The edits that wait are given up.
-    pub fn into_heap(self) -> W
-        ensures { W.meaning result ≡ self.heap }
+    /// The server, as the session leaves it. The edits that wait are given up.
+    pub fn into_server(self) -> Server
+        ensures heap { meaning_in result.writer ≡ self.heap }
+        ensures lanes { uses_of result.lanes ≡ self.lanes }
+        ensures idle { IsIdle result }
     {
-        let Session { heap, .. } = self;
-        heap
+        let Session { server, .. } = self;
+        server
     }
 }
 

@@ -1,25 +1,31 @@
-//! The edits that wait for the next recheck, beside a heap.
-ghost use Rattle.std.specs.Prelude.{◌≡◌, ◌≤◌, ◌<◌, ◌+◌, ◌^◌, [], false, length, map, IfOk, OnOk, OnErr};
+//! The edits that wait for the next recheck, beside a server.
+ghost use Rattle.std.specs.Prelude.{◌≡◌, ◌≤◌, ◌<◌, ◌+◌, ◌^◌, [], false, length, IfOk, OnOk, OnErr};
+ghost use Rattle.std.specs.List.{AllZip};
 ghost use Rattle.flow_base.specs.Program.{paths_of as paths_in};
 ghost use Rattle.flow_values.specs.Path.{IsRising};
 ghost use Rattle.check_values.specs.Roots.{paths_of};
 ghost use Rattle.pending_edits.specs.Pending.{with_edit};
 ghost use Rattle.pending_edits.specs.Counting.{counted, StandsOn};
 ghost use Rattle.pending_edits.specs.declared.edit.Edit.TheVariants.{Put, Touch, Delete};
-ghost use Rattle.recheck_run.specs.Recheck.{HasRoom, Commits, CountsReads};
+ghost use Rattle.beside.specs.Recheck.{HasRoom, Commits, CountsReads};
+ghost use Rattle.beside.specs.Writers.{meaning_in};
+ghost use Rattle.beside.specs.Telling.{versions};
+ghost use Rattle.beside.specs.Uses.{MayAnswer, NoneFalls, lanes_after};
+ghost use Rattle.beside.specs.Server.{IsRunning, IsToldOfEither, moment_in, uses_of};
 ghost use Rattle.script_run.specs.Transcript.{to_touch};
-ghost use Rattle.work_totals.specs.Totals.{total};
-ghost use Rattle.script_run.specs.Session.{StandOnCommitted, AreFew, CountsNoMore, StandsStill, HasEnded, Limits, held, program_in};
+ghost use Rattle.script_run.specs.Session.{StandOnCommitted, AreFew, CountsNoMore, StandsStill, IsReady, HasEnded, Limits, held_by, program_in};
 
 use crate::committed::Committed;
 use analyst::Analyst;
+use asks::Ask;
+use beside::{Outcome, Server, Told, Writer};
 use check_values::Root;
 use flow_base::{Folder, Turnstile};
 use flow_values::{List, NoMemory, Path, Shared, Text};
-use heap_core::{HeapReader, HeapWriter};
+use heap_core::HeapReader;
 use payloads::Payload;
 use pending_edits::{EditFault, Edits};
-use recheck_run::{Outcome, recheck};
+use place_analyst::PlaceAnalyst;
 use std::alloc::Global;
 use std::sync::Wait;
 use std::thread::Threads;
@@ -67,16 +73,16 @@ pub(crate) fn touched(alloc: Global, modules: u32, listed: &[Path]) -> Result<Ed
     Ok(edits)
 }
 
-/// The root that a heap without an open transaction has committed.
+/// The root that a writer without an open transaction has committed.
 ///
 /// # Errors
 ///
 /// `NoMemory` where memory is refused.
-pub(crate) fn committed_root<W: HeapWriter<Payload>>(heap: &W) -> Result<Shared<Root>, NoMemory>
-    requires closed { (W.meaning heap.now).is_open ≡ false }
-    ensures { IfOk result (Commits (W.meaning heap.now)) }
+pub(crate) fn committed_root(writer: &Writer<Payload>) -> Result<Shared<Root>, NoMemory>
+    requires closed { (meaning_in writer.now).is_open ≡ false }
+    ensures { IfOk result (Commits (meaning_in writer.now)) }
 {
-    let payload = Committed::of(heap).root()?;
+    let payload = Committed::of(writer).root()?;
     match &*payload {
         Payload::Root(root) => root.share(),
         _ => Err(NoMemory),
@@ -89,24 +95,24 @@ pub(crate) fn committed_root<W: HeapWriter<Payload>>(heap: &W) -> Result<Shared<
 ///
 /// `TooManyModules` exactly where more modules would be counted than there may be, with their number,
 /// and `NoMemory` where memory is refused. The edits are then as before.
-pub(crate) fn put_text<W: HeapWriter<Payload>>(
-    heap: &W,
+pub(crate) fn put_text(
+    writer: &Writer<Payload>,
     edits: &mut Edits,
     path: Path,
     text: Text,
 ) -> Result<(), EditFault>
-    requires closed { (W.meaning heap.now).is_open ≡ false }
-    requires room { HasRoom (W.meaning heap.now) edits.old.capacity }
-    requires few { AreFew (W.meaning heap.now) edits.old }
-    requires stands { StandOnCommitted (W.meaning heap.now) edits.old }
+    requires closed { (meaning_in writer.now).is_open ≡ false }
+    requires room { HasRoom (meaning_in writer.now) edits.old.capacity }
+    requires few { AreFew (meaning_in writer.now) edits.old }
+    requires stands { StandOnCommitted (meaning_in writer.now) edits.old }
     ensures ok { OnOk result (edits.new.edits ≡ with_edit edits.old.edits path (Put text)) }
     ensures err { OnErr result (edits.new.edits ≡ edits.old.edits) }
-    ensures too_many { Limits edits.old.capacity (counted (paths_in (program_in (W.meaning heap.now).committed)) (with_edit edits.old.edits path (Put text))) result }
-    ensures few { AreFew (W.meaning heap.now) edits.new }
-    ensures stands { StandOnCommitted (W.meaning heap.now) edits.new }
+    ensures too_many { Limits edits.old.capacity (counted (paths_in (program_in (meaning_in writer.now).committed)) (with_edit edits.old.edits path (Put text))) result }
+    ensures few { AreFew (meaning_in writer.now) edits.new }
+    ensures stands { StandOnCommitted (meaning_in writer.now) edits.new }
     ensures capacity { edits.new.capacity ≡ edits.old.capacity }
 {
-    let root = committed_root(heap)?;
+    let root = committed_root(writer)?;
     edits.put(root.get(), path, text)
 }
 
@@ -116,23 +122,23 @@ pub(crate) fn put_text<W: HeapWriter<Payload>>(
 ///
 /// `TooManyModules` exactly where more modules would be counted than there may be, with their number,
 /// and `NoMemory` where memory is refused. The edits are then as before.
-pub(crate) fn touch_path<W: HeapWriter<Payload>>(
-    heap: &W,
+pub(crate) fn touch_path(
+    writer: &Writer<Payload>,
     edits: &mut Edits,
     path: Path,
 ) -> Result<(), EditFault>
-    requires closed { (W.meaning heap.now).is_open ≡ false }
-    requires room { HasRoom (W.meaning heap.now) edits.old.capacity }
-    requires few { AreFew (W.meaning heap.now) edits.old }
-    requires stands { StandOnCommitted (W.meaning heap.now) edits.old }
+    requires closed { (meaning_in writer.now).is_open ≡ false }
+    requires room { HasRoom (meaning_in writer.now) edits.old.capacity }
+    requires few { AreFew (meaning_in writer.now) edits.old }
+    requires stands { StandOnCommitted (meaning_in writer.now) edits.old }
     ensures ok { OnOk result (edits.new.edits ≡ with_edit edits.old.edits path Touch) }
     ensures err { OnErr result (edits.new.edits ≡ edits.old.edits) }
-    ensures too_many { Limits edits.old.capacity (counted (paths_in (program_in (W.meaning heap.now).committed)) (with_edit edits.old.edits path Touch)) result }
-    ensures few { AreFew (W.meaning heap.now) edits.new }
-    ensures stands { StandOnCommitted (W.meaning heap.now) edits.new }
+    ensures too_many { Limits edits.old.capacity (counted (paths_in (program_in (meaning_in writer.now).committed)) (with_edit edits.old.edits path Touch)) result }
+    ensures few { AreFew (meaning_in writer.now) edits.new }
+    ensures stands { StandOnCommitted (meaning_in writer.now) edits.new }
     ensures capacity { edits.new.capacity ≡ edits.old.capacity }
 {
-    let root = committed_root(heap)?;
+    let root = committed_root(writer)?;
     edits.touch(root.get(), path)
 }
 
@@ -151,41 +157,50 @@ pub(crate) fn delete_path(edits: &mut Edits, path: Path) -> Result<(), NoMemory>
     edits.delete(path)
 }
 
-/// Rechecks, and stops at this poll, counted from 1, where it comes to it; with 0 it goes through all
-/// polls. At each it passes the turnstile. The edits stand on the program that is then committed.
+/// Rechecks with these asks beside it, and stops at this poll, counted from 1, where it comes to it; with
+/// 0 it goes through all polls. At each it passes the turnstile. The edits stand on the program that is
+/// then committed.
+///
+/// # Errors
+///
+/// `NoMemory` where memory is refused. Then nothing is committed, or what a recheck that is done commits.
 pub(crate) fn recheck_edited<
     R: Threads + Wait + Sync,
-    W: HeapWriter<Payload>,
     F: Folder,
-    T: Turnstile,
-    A: Analyst + Send,
+    T: Turnstile + Sync,
+    A: Analyst + PlaceAnalyst + Send,
 >(
     rt: &R,
     alloc: Global,
-    heap: &mut W,
+    server: &mut Server,
     edits: &mut Edits,
     stop: u64,
+    asks: &[Ask],
     folder: &mut F,
     turns: &T,
     analysts: &mut [A],
-) -> Outcome
+    askers: &mut [A],
+) -> Result<(Outcome, List<Told>), NoMemory>
+    requires running { IsRunning server.old }
     requires some { 0 < length analysts.old }
-    requires closed { (W.meaning heap.old).is_open ≡ false }
-    requires version { (W.meaning heap.old).version + 1 < 2 ^ 31 }
-    requires room { HasRoom (W.meaning heap.old) edits.old.capacity }
-    requires few { AreFew (W.meaning heap.old) edits.old }
-    requires stands { StandOnCommitted (W.meaning heap.old) edits.old }
-    ensures ended { HasEnded stop (F.seen folder.old) (F.seen folder.new) (held (W.meaning heap.old) edits.old) (held (W.meaning heap.new) edits.new) (total (map A.work analysts.old)) (total (map A.work analysts.new)) result }
-    ensures closed { (W.meaning heap.new).is_open ≡ false }
-    ensures room { HasRoom (W.meaning heap.new) edits.new.capacity }
-    ensures few { AreFew (W.meaning heap.new) edits.new }
-    ensures stands { StandOnCommitted (W.meaning heap.new) edits.new }
+    requires askers { length askers.old ≡ length server.old.lanes }
+    requires version { (meaning_in server.old.writer).version + 1 < 2 ^ 31 }
+    requires ready { IsReady (held_by server.old edits.old) }
+    requires pins { MayAnswer (length asks.now) (uses_of server.old.lanes) }
+    ensures running { IsRunning server.new }
+    ensures ready { IsReady (held_by server.new edits.new) }
+    ensures many { length server.new.lanes ≡ length server.old.lanes }
     ensures capacity { edits.new.capacity ≡ edits.old.capacity }
     ensures told { (F.seen folder.new).told ≡ (F.seen folder.old).told }
     ensures later { (F.seen folder.old).faults ≤ (F.seen folder.new).faults }
-    ensures reads { CountsReads (F.seen folder.old) (F.seen folder.new) result }
-    ensures many { length analysts.new ≡ length analysts.old }
+    ensures ended { IfOk result (λ done. HasEnded stop (F.seen folder.old) (F.seen folder.new) (held_by server.old edits.old) (held_by server.new edits.new) done.0) }
+    ensures reads { IfOk result (λ done. CountsReads (F.seen folder.old) (F.seen folder.new) done.0) }
+    ensures answers { IfOk result (λ done. AllZip (IsToldOfEither (moment_in server.old.writer) (moment_in server.new.writer)) asks.now done.1) }
+    ensures falls_not { IfOk result (λ done. NoneFalls (uses_of server.old.lanes) (versions done.1)) }
+    ensures lanes { IfOk result (λ done. uses_of server.new.lanes ≡ lanes_after (uses_of server.old.lanes) (versions done.1)) }
 {
     let mut asked = StopAt::new(stop);
-    recheck(rt, alloc, heap, edits, folder, &mut asked, turns, analysts)
+    server.recheck_beside(
+        rt, alloc, edits, folder, &mut asked, turns, analysts, askers, asks,
+    )
 }

@@ -4,8 +4,12 @@ ghost use Rattle.flow_base.specs.Outside.{appended, HoldsFront};
 ghost use Rattle.flow_base.specs.Causes.{Counts};
 ghost use Rattle.flow_base.specs.Seen.{outside};
 ghost use Rattle.script_reader.specs.Lines.{bytes_left, lines_left, TakesFront, BreaksLine};
-ghost use Rattle.script_run.specs.Transcript.{start, last_line};
-ghost use Rattle.script_run.specs.Session.{IsEmptyHeap, program_in, standing_in};
+ghost use Rattle.script_run.specs.Transcript.{start, asks_of, last_line};
+ghost use Rattle.beside.specs.Writers.{meaning_in};
+ghost use Rattle.script_line.specs.Says.{MOST_ASKS};
+ghost use Rattle.beside.specs.Uses.{MayAnswer};
+ghost use Rattle.beside.specs.Server.{uses_of};
+ghost use Rattle.script_run.specs.Session.{IsNewServer, IsIdle, program_in, standing_in};
 ghost use Rattle.script_run.specs.Steps.{walk_state, Takes, Closes, Breaks, HasAnswered, BreaksOff, HasLoaded, BreaksLoad, HasRun, HasStopped, HasFront};
 
 use crate::command::{Command, read_command};
@@ -16,9 +20,8 @@ use crate::{Ended, RunFault, WalkEnd};
 use affected_sizes::each_edit_has_sizes;
 use analyst::Analyst;
 use answers_law::each_has_answer;
+use beside::Server;
 use flow_base::{Folder, Path, Sink, SinkFault, Source, Turnstile};
-use heap_core::HeapWriter;
-use payloads::Payload;
 use place_analyst::PlaceAnalyst;
 use script_line::Line;
 use script_reader::LineReader;
@@ -26,11 +29,11 @@ use std::alloc::Global;
 use std::sync::Wait;
 use std::thread::Threads;
 
-/// The load of these paths, which rise, into a heap for so many modules that has none, and then the
+/// The load of these paths, which rise, into a server for so many modules that has none, and then the
 /// script line by line. What a line prints is written before the next one is read. All analysts recheck,
-/// and the first answers what is asked. At each poll of a recheck, and at each ask, the turnstile is
-/// passed. The heap is given back as the walk leaves it, with the program and the version at which it
-/// ended.
+/// and each asker answers on the lane of its place. At each poll of a recheck, and at each ask, the
+/// turnstile is passed. The server is given back as the walk leaves it, with the program, the version and
+/// the uses of the lanes at which it ended.
 ///
 /// # Errors
 ///
@@ -40,33 +43,34 @@ use std::thread::Threads;
 /// the folder counted.
 pub fn run<
     R: Threads + Wait + Sync,
-    W: HeapWriter<Payload> + Drop,
     F: Folder,
     S: Source,
     K: Sink,
-    T: Turnstile,
+    T: Turnstile + Sync,
     A: Analyst + PlaceAnalyst + Send + Drop,
 >(
     rt: &R,
     alloc: Global,
-    heap: W,
+    server: Server,
     modules: u32,
     listed: &[Path],
     analysts: Vec<A>,
+    askers: Vec<A>,
     folder: &mut F,
     script: &mut S,
     out: &mut K,
     turns: &T,
-) -> Result<Ended<W>, RunFault>
-    requires empty { IsEmptyHeap (W.meaning heap) modules }
+) -> Result<Ended, RunFault>
+    requires new { IsNewServer server modules (length askers.items) }
     requires rising { IsRising listed.now }
     requires few { length listed.now ≤ modules }
     requires some { 0 < length analysts.items }
-    ensures ended { IfOk result (λ ended. HasRun modules listed.now ended.ending ended.errors (program_in (W.meaning ended.heap).committed) (W.meaning ended.heap).version
+    ensures ended { IfOk result (λ ended. HasRun modules (length askers.items) listed.now ended.ending ended.errors (program_in (meaning_in ended.server.writer).committed) (meaning_in ended.server.writer).version (uses_of ended.server.lanes)
         (outside (F.seen folder.old) (S.seen script.old) (K.seen out.old)) (outside (F.seen folder.new) (S.seen script.new) (K.seen out.new))) }
-    ensures stopped { IsErrOf result RunFault.ScriptFault → HasStopped modules listed.now
+    ensures idle { IfOk result (λ ended. IsIdle ended.server × (length ended.server.lanes ≡ length askers.items)) }
+    ensures stopped { IsErrOf result RunFault.ScriptFault → HasStopped modules (length askers.items) listed.now
         (outside (F.seen folder.old) (S.seen script.old) (K.seen out.old)) (outside (F.seen folder.new) (S.seen script.new) (K.seen out.new)) }
-    ensures front { OnErr result (HasFront modules listed.now
+    ensures front { OnErr result (HasFront modules (length askers.items) listed.now
         (outside (F.seen folder.old) (S.seen script.old) (K.seen out.old)) (outside (F.seen folder.new) (S.seen script.new) (K.seen out.new))) }
     ensures script_counts { Counts (IsErrOf result RunFault.ScriptFault) (S.seen script.old).faults (S.seen script.new).faults }
     ensures sink_counts { Counts (IsErrOf result RunFault.SinkFault) (K.seen out.old).faults (K.seen out.new).faults }
@@ -76,7 +80,7 @@ pub fn run<
     each_edit_has_sizes();
     each_has_answer();
     let mut session = load(
-        rt, alloc, heap, modules, listed, analysts, folder, out, turns,
+        rt, alloc, server, modules, listed, analysts, askers, folder, out, turns,
     )?;
     let mut reader = LineReader::new(alloc)?;
     let mut taken = 0;
@@ -94,11 +98,11 @@ pub fn run<
         )? {
             Some(ending) => {
                 let errors = session.errors()?;
-                let heap = session.into_heap();
+                let server = session.into_server();
                 return Ok(Ended {
                     ending,
                     errors,
-                    heap,
+                    server,
                 });
             }
             None => taken += 1,
@@ -110,37 +114,37 @@ pub fn run<
 #[tactic(auto, using(crate::proofs::Walks::loaded_from))]
 fn load<
     R: Threads + Wait + Sync,
-    W: HeapWriter<Payload> + Drop,
     F: Folder,
     K: Sink,
-    T: Turnstile,
+    T: Turnstile + Sync,
     A: Analyst + PlaceAnalyst + Send + Drop,
 >(
     rt: &R,
     alloc: Global,
-    heap: W,
+    server: Server,
     modules: u32,
     listed: &[Path],
     analysts: Vec<A>,
+    askers: Vec<A>,
     folder: &mut F,
     out: &mut K,
     turns: &T,
-) -> Result<Session<W, A>, RunFault>
-    requires empty { IsEmptyHeap (W.meaning heap) modules }
+) -> Result<Session<A>, RunFault>
+    requires new { IsNewServer server modules (length askers.items) }
     requires rising { IsRising listed.now }
     requires few { length listed.now ≤ modules }
     requires some { 0 < length analysts.items }
-    ensures loaded { IfOk result (λ session. HasLoaded (walk_state (start listed.now) (F.seen folder.old) (K.seen out.old)) (walk_state (standing_in session) (F.seen folder.new) (K.seen out.new))) }
+    ensures loaded { IfOk result (λ session. HasLoaded (walk_state (start listed.now (length askers.items)) (F.seen folder.old) (K.seen out.old)) (walk_state (standing_in session) (F.seen folder.new) (K.seen out.new))) }
     ensures modules { IfOk result (λ session. session.waiting.capacity ≡ modules) }
-    ensures front { OnErr result (BreaksLoad (walk_state (start listed.now) (F.seen folder.old) (K.seen out.old)) (F.seen folder.new) (K.seen out.new).written) }
+    ensures front { OnErr result (BreaksLoad (walk_state (start listed.now (length askers.items)) (F.seen folder.old) (K.seen out.old)) (F.seen folder.new) (K.seen out.new).written) }
     ensures counts { Counts (IsErrOf result RunFault.SinkFault) (K.seen out.old).faults (K.seen out.new).faults }
     ensures no_script { IsErrOf result RunFault.ScriptFault → ⊥ }
     ensures told { (F.seen folder.new).told ≡ (F.seen folder.old).told }
     ensures later { (F.seen folder.old).faults ≤ (F.seen folder.new).faults }
 {
-    let mut session = Session::open(alloc, heap, modules, listed, analysts)?;
-    let line = session.recheck(rt, 0, folder, turns)?;
-    print(out, line.as_bytes())?;
+    let mut session = Session::open(alloc, server, modules, listed, analysts, askers)?;
+    let line = session.recheck(rt, 0, &[], folder, turns)?;
+    print(out, line.as_slice())?;
     Ok(session)
 }
 
@@ -148,24 +152,24 @@ fn load<
 // there, it prints its last line, and tells how it ended.
 fn step<
     R: Threads + Wait + Sync,
-    W: HeapWriter<Payload> + Drop,
     F: Folder,
     S: Source,
     K: Sink,
-    T: Turnstile,
+    T: Turnstile + Sync,
     A: Analyst + PlaceAnalyst + Send + Drop,
 >(
     rt: &R,
     alloc: Global,
     taken: u32,
-    session: &mut Session<W, A>,
+    session: &mut Session<A>,
     reader: &mut LineReader,
     folder: &mut F,
     script: &mut S,
     out: &mut K,
     turns: &T,
 ) -> Result<Option<WalkEnd>, RunFault>
-    requires { session.old.heap.version + 1 < 2 ^ 31 }
+    requires version { session.old.heap.version + 1 < 2 ^ 31 }
+    requires pins { MayAnswer MOST_ASKS session.old.lanes }
     ensures takes { IfOk result (λ ending. IfNone ending (Takes session.old.waiting.capacity taken (lines_left reader.old (S.seen script.old).left) (lines_left reader.new (S.seen script.new).left)
         (walk_state (standing_in session.old) (F.seen folder.old) (K.seen out.old)) (walk_state (standing_in session.new) (F.seen folder.new) (K.seen out.new)))) }
     ensures closes { IfOk result (λ ending. IfSome ending (λ how. Closes how taken (lines_left reader.old (S.seen script.old).left)
@@ -197,20 +201,20 @@ fn step<
 // Answers a line that does not end the script.
 fn answer<
     R: Threads + Wait + Sync,
-    W: HeapWriter<Payload> + Drop,
     F: Folder,
     K: Sink,
-    T: Turnstile,
+    T: Turnstile + Sync,
     A: Analyst + PlaceAnalyst + Send + Drop,
 >(
     rt: &R,
-    session: &mut Session<W, A>,
+    session: &mut Session<A>,
     folder: &mut F,
     out: &mut K,
     turns: &T,
     line: Line,
 ) -> Result<(), RunFault>
     requires version { session.old.heap.version + 1 < 2 ^ 31 }
+    requires pins { MayAnswer (length (asks_of line)) session.old.lanes }
     requires goes_on { line ≡ Line.End → ⊥ }
     ensures answered { OnOk result (HasAnswered session.old.waiting.capacity line (walk_state (standing_in session.old) (F.seen folder.old) (K.seen out.old)) (walk_state (standing_in session.new) (F.seen folder.new) (K.seen out.new))) }
     ensures modules { session.new.waiting.capacity ≡ session.old.waiting.capacity }

@@ -1,4 +1,5 @@
-use Rattle.std.proofs.Common.{rules, refl, ◌∙◌, arith}
+use Rattle.std.proofs.Common.{rules, refl, sym, ◌∙◌, subst, arith}
+use Rattle.beside.specs.Uses.{MayAnswer}
 use Rattle.script_run.specs.Session.{standing_in}
 use Rattle.script_run.proofs.Walks.{on_err}
 use Rattle.generated_run.proofs.Parts.{stops_between, round_goes, round_stops}
@@ -33,6 +34,10 @@ loop-i-preserved g c = record {
       (standing_in c.put_and_check.new.session) c.in_ok-put_and_check.ensures.goes;
   modules = c.put_and_check.ensures.modules ∙ c.loop-i.invariant.modules;
   version = omega (arith, c.in_ok-put_and_check.ensures.version, c.loop-i.invariant.version);
+  lanes = c.in_ok-put_and_check.ensures.lanes ∙ c.loop-i.invariant.lanes;
   same = c.put_and_check.ensures.same ∙ c.loop-i.invariant.same;
   sink_faults = c.in_ok-put_and_check.ensures.counts.stays (search rules) ∙ c.loop-i.invariant.sink_faults;
 }
+
+pub put_and_check-requires-clause-pins : goal.put_and_check-requires-clause-pins
+put_and_check-requires-clause-pins g c κs within = subst (MayAnswer 0) (sym c.loop-i.invariant.lanes) c.requires.pins

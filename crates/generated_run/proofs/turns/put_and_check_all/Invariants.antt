@@ -8,6 +8,7 @@ invariant-loop-i g l = record {
   gone : SoFar l.fn.session.waiting.capacity l.fn.folder l.edits (standing_in l.fn.session) (g.K.Sink.seen l.fn.out).written l.i (standing_in l.session) (g.K.Sink.seen l.out).written;
   modules : l.session.waiting.capacity ≡ l.fn.session.waiting.capacity;
   version : l.session.heap.version ≤ l.fn.session.heap.version + l.i;
+  lanes : l.session.lanes ≡ l.fn.session.lanes;
   same : l.folder ≡ l.fn.folder;
   sink_faults : (g.K.Sink.seen l.out).faults ≡ (g.K.Sink.seen l.fn.out).faults;
 }

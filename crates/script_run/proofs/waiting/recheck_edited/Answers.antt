@@ -1,30 +1,31 @@
-use Rattle.std.proofs.Common.{ap, ◌∙◌, Some}
-use Rattle.std.proofs.lemmas.Option.{same_Some}
-use Rattle.stops.specs.Asked.{stop_seen, yes_answers_by}
-use Rattle.script_run.proofs.PendingEdits.{few_there, few_after, stand_after}
+use Rattle.std.proofs.Common.{refl}
+use Rattle.beside.specs.Server.{uses_of}
+use Rattle.script_run.proofs.PendingEdits.{may_recheck, has_stayed, has_ended, has_read}
 use Rattle.script_run.proofs.waiting.recheck_edited.Goals as goal
 
-pub recheck-requires-clause-counted : goal.recheck-requires-clause-counted
-recheck-requires-clause-counted g c κs within = few_there (g.W.HeapWriter.meaning c.args.heap.now) c.args.edits.now c.requires.few
+pub recheck_beside-requires-clause-may : goal.recheck_beside-requires-clause-may
+recheck_beside-requires-clause-may g c κs within = may_recheck c.args.server.now c.args.edits.now (uses_of c.args.server.now.lanes) c.requires.version c.requires.ready
+
+pub returns-clause-ready : goal.returns-clause-ready
+returns-clause-ready g c =
+    (has_stayed c.args.server.now c.recheck_beside.new.self _ _ (uses_of c.args.server.now.lanes) (uses_of c.recheck_beside.new.self.lanes) c.recheck_beside.result c.recheck_beside.ensures.rechecked c.recheck_beside.ensures.err refl c.requires.ready).ready
+
+pub returns-clause-capacity : goal.returns-clause-capacity
+returns-clause-capacity g c =
+    (has_stayed c.args.server.now c.recheck_beside.new.self _ _ (uses_of c.args.server.now.lanes) (uses_of c.recheck_beside.new.self.lanes) c.recheck_beside.result c.recheck_beside.ensures.rechecked c.recheck_beside.ensures.err refl c.requires.ready).capacity
+
+pub returns-clause-told : goal.returns-clause-told
+returns-clause-told g c =
+    (has_stayed c.args.server.now c.recheck_beside.new.self _ _ (uses_of c.args.server.now.lanes) (uses_of c.recheck_beside.new.self.lanes) c.recheck_beside.result c.recheck_beside.ensures.rechecked c.recheck_beside.ensures.err refl c.requires.ready).told
+
+pub returns-clause-later : goal.returns-clause-later
+returns-clause-later g c =
+    (has_stayed c.args.server.now c.recheck_beside.new.self _ _ (uses_of c.args.server.now.lanes) (uses_of c.recheck_beside.new.self.lanes) c.recheck_beside.result c.recheck_beside.ensures.rechecked c.recheck_beside.ensures.err refl c.requires.ready).later
 
 pub returns-clause-ended : goal.returns-clause-ended
 returns-clause-ended g c =
-    let first = c.new-asked.result in
-    let last = c.recheck.new.stop in
-    record {
-      asked = stop_seen (Some first.k) first.questions (yes_answers_by first.k first.questions);
-      asked' = stop_seen (Some last.k) last.questions (yes_answers_by last.k last.questions);
-      stops = record {
-        told = ap Some c.new-asked.ensures.k;
-        unasked = c.new-asked.ensures.questions;
-        no_yes = λ i. yes_answers_by (c.new-asked.ensures.k i) (c.new-asked.ensures.questions i);
-        yes = ap (λ k. yes_answers_by k last.questions) (same_Some last.k first.k c.recheck.ensures.told_stop ∙ c.new-asked.ensures.k);
-      };
-      rechecked = c.recheck.ensures.result;
-    }
+    has_ended c.args.server.now c.recheck_beside.new.self _ _ _ _ _ _ _ _ c.args.stop _ _ _ _ c.new-asked.ensures.k c.new-asked.ensures.questions c.recheck_beside.result c.recheck_beside.ensures.rechecked
 
-pub returns-clause-few : goal.returns-clause-few
-returns-clause-few g c = few_after _ _ _ c.recheck.ensures.result c.recheck.ensures.capacity c.requires.few
-
-pub returns-clause-stands : goal.returns-clause-stands
-returns-clause-stands g c = stand_after _ _ _ c.recheck.ensures.result c.requires.stands
+pub returns-clause-reads : goal.returns-clause-reads
+returns-clause-reads g c =
+    has_read c.args.server.now c.recheck_beside.new.self _ _ _ _ (uses_of c.args.server.now.lanes) (uses_of c.args.server.now.lanes) _ _ c.args.stop _ _ _ _ c.new-asked.ensures.k c.new-asked.ensures.questions c.recheck_beside.result c.recheck_beside.ensures.rechecked

@@ -1,4 +1,3 @@
-use Rattle.std.proofs.Common.{ap}
 use Rattle.std.proofs.lemmas.Result.{IfOk-weaker}
 use Rattle.script_run.specs.Session.{standing_in}
 use Rattle.script_run.proofs.Sessions.{turned_blank, turned_edit, turned_touch, turned_delete, turned_recheck, turned_ask}
@@ -19,10 +18,10 @@ pub returns-in-Delete-clause-turned : goal.returns-in-Delete-clause-turned
 returns-in-Delete-clause-turned g c =
     IfOk-weaker c.delete.result _ _ (λ printed deleted. turned_delete c.args.self.now.waiting.capacity c.args.line c.in-Delete.path (standing_in c.args.self.now) (standing_in c.delete.new.self) printed.items _ (g.met.F.Folder.bounded c.args.folder.now) c.in-Delete.is deleted) c.delete.ensures.deleted
 
-pub returns-in_ok-recheck-in-Recheck-clause-turned : goal.returns-in_ok-recheck-in-Recheck-clause-turned
-returns-in_ok-recheck-in-Recheck-clause-turned g c =
-    turned_recheck c.args.self.now.waiting.capacity c.args.line c.in-Recheck.stop (standing_in c.args.self.now) (standing_in c.recheck.new.self) _ _ _ _ c.in-Recheck.is (ap (λ v. v.items) c.into_bytes.ensures.value) c.in_ok-recheck-in-Recheck.ensures.rechecked
+pub returns-in-Recheck-clause-turned : goal.returns-in-Recheck-clause-turned
+returns-in-Recheck-clause-turned g c =
+    IfOk-weaker c.recheck.result _ _ (λ printed rechecked. turned_recheck c.args.self.now.waiting.capacity c.args.line c.in-Recheck.stop c.in-Recheck.asks c.as_slice.result.now (standing_in c.args.self.now) (standing_in c.recheck.new.self) printed.items _ _ c.in-Recheck.is c.as_slice.ensures rechecked) c.recheck.ensures.rechecked
 
 pub returns-in-Ask-clause-turned : goal.returns-in-Ask-clause-turned
 returns-in-Ask-clause-turned g c =
-    IfOk-weaker c.ask.result _ _ (λ printed is. turned_ask c.args.self.now.waiting.capacity c.args.line c.in-Ask.ask (standing_in c.args.self.now) (standing_in c.ask.new.self) printed.items _ (g.met.F.Folder.bounded c.args.folder.now) c.in-Ask.is (ap standing_in c.ask.ensures.same) is) c.ask.ensures.answered
+    IfOk-weaker c.ask.result _ _ (λ printed asked. turned_ask c.args.self.now.waiting.capacity c.args.line c.in-Ask.ask (standing_in c.args.self.now) (standing_in c.ask.new.self) printed.items _ (g.met.F.Folder.bounded c.args.folder.now) c.in-Ask.is asked) c.ask.ensures.asked
