@@ -136,6 +136,34 @@ def a_text_that_is_not_saved(root):
 
 
 @case
+def the_aliases_of_a_text_that_is_not_saved(root):
+    """Its own come first, and then those of the committed signature at its path, where others' names lead back to it."""
+    modules = {
+        "a.js": "import {v} from './b';\ntype B = number;\nexport type A = {n: number};\nexport type W = B | string;\nconst n: number = v.n;",
+        "b.js": "import type {A, W} from './a';\nexport const v: A = {n: 1};\nexport type V = W;",
+    }
+
+    def told(text, *errors):
+        return ask("check-contents", path="a.js", text=text), "".join(f"{it}\n" for it in (f"1 check-contents a.js: {len(errors)} errors", *errors))
+
+    asked = [
+        # no alias of that name: the committed one
+        told("import {v} from './b';\nconst s: string = v.n;", "  a.js:2:19 incompatible-type number string"),
+        # its own one
+        told("import {v} from './b';\ntype A = {n: string};\nconst s: string = v.n;"),
+        # the name is that of a value, and of an import of the module's own export: the committed one
+        told("import {v} from './b';\nconst A: number = 1;\nconst s: string = v.n;", "  a.js:3:19 incompatible-type number string"),
+        told("import type {A} from './a';\nfunction f(x: A): string { return x.n; }", "  a.js:2:35 incompatible-type number string"),
+        # from its own one through the committed one back to it
+        told("import type {V} from './b';\ntype B = V;", "  a.js:2:6 recursive-alias B"),
+        # and by the committed ones alone
+        told("import type {V} from './b';\nfunction f(v: V): boolean { return v; }", "  a.js:2:36 incompatible-type V boolean"),
+        (ask("errors", path="a.js"), "1 errors a.js: 0 errors\n"),
+    ]
+    expect_asked(root, modules, asked)
+
+
+@case
 def who_imports_a_module(root):
     """By the module that a specifier finds, however it is written."""
     modules = {

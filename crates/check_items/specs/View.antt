@@ -15,9 +15,10 @@ use Rattle.local_signatures.specs.Scope.{scope_of}
 use Rattle.merged_signatures.specs.Chains.{found}
 use Rattle.typing.specs.Names.{Scope, binding_of}
 use Rattle.typing.specs.States.{World, Notes, fault_at, name_fault}
+use Rattle.typing.specs.TypeFaults.{type_meant}
 use Rattle.typing.specs.Functions.{Bound}
 use Rattle.module_errors.specs.Program.{Program, said_in, type_bound}
-use Rattle.module_errors.specs.Items.{is_bound_at}
+use Rattle.module_errors.specs.Items.{is_bound_at, is_on_cycle}
 use Rattle.import_sayings.specs.View.{found_of, said_of}
 use Rattle.import_sayings.specs.declared.imports.Imports.{Imports}
 use Rattle.check_items.specs.declared.items.Module.{Module}
@@ -47,7 +48,6 @@ wrong_by false (Some code) = Some code
 
 -- a module is read by what it sees of a program
 pub record Sees (around : Module) (p : Program) (m : g.Module) : Type 0 where
-  pub home : p.path ≡ around.home.now
   pub imports : Says around.imports.now p
   pub cyclic : (key : Key) → is_marked around.world.now.table.now key ≡ p.is_cyclic key
   pub meaning : (name : Bytes) → (world_view around.world.now).type_meaning name ≡ type_bound p.path p.deps p.sigs name (row_at (scope_of m) name)
@@ -56,11 +56,11 @@ pub record Sees (around : Module) (p : Program) (m : g.Module) : Type 0 where
 abbrev pub bound_over : Scope → Scope → own.Notes → Bound → Type 0
 bound_over old new n bound = (new ≡ record old { names = bound.names ++ old.names }) × (notes_view n ≡ bound.notes)
 
--- an alias of this name, at a token, counts and lies on a cycle
-abbrev pub is_recursive : Program → Scope → ℕ → Bytes → Bool
-is_recursive p scope token name = is_bound_at token (binding_of scope.names name) && p.is_cyclic (p.path, name)
+-- an alias of this name, at a token, counts, and the name lies on a cycle
+abbrev pub is_recursive : World → Program → Scope → ℕ → Bytes → Bool
+is_recursive w p scope token name = is_bound_at token (binding_of scope.names name) && is_on_cycle p.is_cyclic (type_meant (w.type_meaning name))
 
 -- which is a fault
 abbrev pub recursive_noted : World → Program → Scope → g.AliasOf → Notes → Notes
 recursive_noted w p scope (g.alias f t name v) notes =
-    if is_recursive p scope (suc f) name then name_fault (fault_at w (suc f) (suc (suc f)) RecursiveAlias name) notes else notes
+    if is_recursive w p scope (suc f) name then name_fault (fault_at w (suc f) (suc (suc f)) RecursiveAlias name) notes else notes

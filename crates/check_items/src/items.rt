@@ -3,6 +3,7 @@
 
 ghost use Rattle.std.specs.Prelude.{◌≡◌, ℕ, None, OnOk, IfOk};
 ghost use Rattle.js_grammar.specs.Items as g;
+ghost use Rattle.alias_table.specs.Table.{is_marked};
 ghost use Rattle.check_world.specs.View.{world_view, notes_view};
 ghost use Rattle.code_tree.specs.View.{expr_view, function_view, simple_view};
 ghost use Rattle.js_tree.specs.View.{alias_view, export_form_view, export_list_view, import_form_view, item_view};
@@ -12,30 +13,31 @@ ghost use Rattle.typing.specs.Names.{binding_of};
 ghost use Rattle.typing.specs.States.{after, with_now};
 ghost use Rattle.typing.specs.Typing.{read};
 ghost use Rattle.module_errors.specs.Program.{Program};
-ghost use Rattle.module_errors.specs.Items.{is_bound_at as is_numbered, alias_read, exports_read, noted_env, read_top_function, read_export, read_item_form, read_item};
+ghost use Rattle.module_errors.specs.Items.{is_bound_at as is_numbered, is_on_cycle, alias_read, exports_read, noted_env, read_top_function, read_export, read_item_form, read_item};
 ghost use Rattle.check_moves.specs.View.{env, now, scope};
 ghost use Rattle.check_moves.specs.Follows.{Follows};
 ghost use Rattle.check_items.specs.View.{Sees, is_recursive, recursive_noted};
 
 use crate::imports::{read_export_from, read_import_item, read_own_exports};
+use alias_table::AliasTable;
 use check_expr::{read, read_declaration, read_function, read_simple};
 use check_moves::State;
 use check_values::Code;
 use check_world::{Notes, World};
 use code_tree::{Expr, Function, Simple};
-use flow_values::{NoMemory, Path, Text};
+use flow_values::{NoMemory, Text};
 use import_sayings::Imports;
 use js_tree::{Alias, ExportForm, ExportList, ImportForm, Item, ItemForm};
 use part_steps::next;
 use scopes::{Binding, Scope};
+use tree_typing::Names;
 use type_reads::read_type;
+use type_values::FlowType;
 
-/// What a module's items are read by: what stands around its code, its path, and what other modules
-/// say.
+/// What a module's items are read by: what stands around its code, and what other modules say.
 #[derive(Clone, Copy)]
 pub struct Module<'a, 'j> {
     pub world: &'a World<'a>,
-    pub home: &'a Path,
     pub imports: &'a Imports<'j>,
 }
 
@@ -63,20 +65,33 @@ fn is_bound_at(scope: &Scope, name: &Text, token: usize) -> Result<bool, NoMemor
     }
 }
 
-// Whether an alias counts, which stands at a token, and lies on a cycle.
+// Whether a type is a name that lies on a cycle.
+fn is_on_cycle(table: &AliasTable, t: &FlowType) -> bool
+    ensures { result ≡ is_on_cycle (is_marked table.now) t.now }
+{
+    match t {
+        FlowType::Ref { module, name } => table.is_cyclic(module, name.as_bytes()),
+        _ => false,
+    }
+}
+
+// Whether an alias counts, which stands at a token, and its name lies on a cycle.
 fn is_recursive(
     around: &Module<'_, '_>,
     scope: &Scope,
     name: &Text,
     token: usize,
 ) -> Result<bool, NoMemory>
-    ensures { (p : Program) (m : g.Module) → Sees around.now p m → IfOk result (λ yes. yes ≡ is_recursive p (scope_view scope.now) token name.now) }
+    ensures { (p : Program) (m : g.Module) → Sees around.now p m → IfOk result (λ yes. yes ≡ is_recursive (world_view around.now.world.now) p (scope_view scope.now) token name.now) }
 {
+    let world = around.world;
     let counts = is_bound_at(scope, name, token)?;
-    Ok(counts && around.world.table.is_cyclic(around.home, name.as_bytes()))
+    let t = world.names.type_of_name(world.alloc, name)?;
+    let on_cycle = is_on_cycle(world.table, &t);
+    Ok(counts && on_cycle)
 }
 
-// An alias that counts and lies on a cycle is a fault.
+// An alias that counts and whose name lies on a cycle is a fault.
 fn note_recursive(
     around: &Module<'_, '_>,
     scope: &Scope,
@@ -94,7 +109,7 @@ fn note_recursive(
     Ok(())
 }
 
-// An alias that counts and lies on a cycle is a fault; the names in every alias's type are read.
+// An alias that counts and whose name lies on a cycle is a fault; the names in every alias's type are read.
 fn read_alias(around: &Module<'_, '_>, state: &mut State, alias: &Alias) -> Result<(), NoMemory>
     ensures env { (p : Program) (m : g.Module) → Sees around.now p m → OnOk result (env state.new ≡ noted_env (alias_read (world_view around.now.world.now) p (scope state.old) (alias_view alias.now)) (env state.old)) }
     ensures follows { OnOk result (Follows None state.old None state.new) }

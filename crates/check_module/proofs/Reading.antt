@@ -107,12 +107,11 @@ stays_same a b same = (ap around_world same, λ p m is. subst (λ (x : Around). 
 -- a place is watched
 pub watches : (a : Around) (at : ℕ) (p : Program) (m : Module) → IsOf a p m → IsOf (record a { watch = Some at }) p m
 unfolding around_world
-watches a at p m is = record { home = is.home; imports = is.imports; cyclic = is.cyclic; world = λ i. record (is.world i) { watch = Some at } }
+watches a at p m is = record { imports = is.imports; cyclic = is.cyclic; world = λ i. record (is.world i) { watch = Some at } }
 
 -- what an item is read by
-pub sees : (a : Around) (by_parts : items.Module) (p : Program) (m : Module) → by_parts.home.now ≡ a.home.now → by_parts.imports.now ≡ a.imports → by_parts.world.now.table.now ≡ a.table → world_view by_parts.world.now ≡ around_world a → IsOf a p m → Sees by_parts p m
-sees a by_parts p m home imports table world is = record {
-  home = is.home ∙ sym home;
+pub sees : (a : Around) (by_parts : items.Module) (p : Program) (m : Module) → by_parts.imports.now ≡ a.imports → by_parts.world.now.table.now ≡ a.table → world_view by_parts.world.now ≡ around_world a → IsOf a p m → Sees by_parts p m
+sees a by_parts p m imports table world is = record {
   imports = subst (λ (x : Imports). Says x p) (sym imports) is.imports;
   cyclic = λ key. ap (λ (t : AliasTable). is_marked t key) table ∙ is.cyclic key;
   meaning = λ name. ap (λ (w : World). w.type_meaning name) (world ∙ is.world);

@@ -1,5 +1,5 @@
 -- What a module sees by a table.
-use Rattle.std.proofs.Common.{◌≡◌, ◌↔◌, ℕ, Bool, true, false, IsTrue, cond, bytes_eq, if◌then◌else◌, List, [], ◌∷◌, ◌++◌, Option, Some, None, unwrap_or, refl, sym, ap, ap₂, ◌∙◌, subst}
+use Rattle.std.proofs.Common.{◌≡◌, ◌↔◌, ℕ, IsTrue, cond, bytes_eq, List, [], ◌∷◌, ◌++◌, Option, Some, None, unwrap_or, refl, sym, ap, ap₂, ◌∙◌, subst}
 use Rattle.std.specs.Option.{option_or}
 use Rattle.flow_values.specs.declared.span.Span.{Span}
 use Rattle.type_values.specs.declared.types.FlowType.{FlowType}
@@ -41,9 +41,9 @@ use Rattle.check_module.specs.declared.around.Around.{Around}
 use Rattle.check_module.proofs.OwnAliases.{aliases_append, own_told, firsts_once}
 
 -- the table of the module's own aliases and of those that are reached
-pub has_aliases : (path : Bytes) (own before rows all listed : List Row) (deps called : Deps) (sigs given : Rows Sig) (t : AliasTable) → called ≡ deps → given ≡ sigs → before ≡ [] → rows ≡ before ++ own → AreReachedAliases path called (sigs_of given) rows all → listed ≡ all →
-    ((key : Key) → alias_of t key ≡ alias_type listed key) → ((key : Key) → IsTrue (is_marked t key) ↔ IsCyclic (alias_type listed) key) → HasAliases path own deps (sigs_of sigs) t
-has_aliases path own before rows all listed deps called sigs given t same_deps same_sigs none is (more, adds, (table, are, told)) same types marks = (
+pub has_aliases : (own before rows all listed : List Row) (deps called : Deps) (sigs given : Rows Sig) (t : AliasTable) → called ≡ deps → given ≡ sigs → before ≡ [] → rows ≡ before ++ own → AreReachedAliases called (sigs_of given) rows all → listed ≡ all →
+    ((key : Key) → alias_of t key ≡ alias_type listed key) → ((key : Key) → IsTrue (is_marked t key) ↔ IsCyclic (alias_type listed) key) → HasAliases own deps (sigs_of sigs) t
+has_aliases own before rows all listed deps called sigs given t same_deps same_sigs none is (more, adds, (table, are, told)) same types marks = (
   table,
   subst (λ (d : Deps). IsTable (sigs_of sigs) d table) same_deps (subst (λ (l : Rows Sig). IsTable (sigs_of l) called table) same_sigs are),
   λ key. types key ∙ ap (λ (l : List Row). alias_type l key) (same ∙ adds ∙ ap (λ (l : List Row). l ++ more) (is ∙ ap (λ (l : List Row). l ++ own) none)) ∙ aliases_append own more key ∙ ap (option_or (alias_type own key)) (told key),
@@ -62,15 +62,9 @@ says_table imports deps sigs t is finds says = record {
     go spec name None e = refl
     go spec name (Some path) e = ap (said_by_sig name) (sym (is.has path (by_specifier spec path e)))
 
--- the module's own are told by it alone
-own_or_told : (b : Bool) (own told : Option FlowType) → option_or (cond b own None) (if b then None else told) ≡ (if b then own else told)
-own_or_told true None told = refl
-own_or_told true (Some t) told = refl
-own_or_told false own told = refl
-
 module _ (path : Bytes) (deps : Deps) (m : Module) (t : Sigs) (names : TypeScope) (a : AliasTable)
     (means : (name : Bytes) → meaning_in names name ≡ type_bound path deps t name (row_at (scope_of m) name))
-    (aliases : (key : Key) → alias_of a key ≡ option_or (alias_type (own_rows path (meaning_in names) (seen meant (scope_of m))) key) (if bytes_eq key.0 path then None else alias_told key.1 (t key.0)))
+    (aliases : (key : Key) → alias_of a key ≡ option_or (alias_type (own_rows path (meaning_in names) (seen meant (scope_of m))) key) (alias_told key.1 (t key.0)))
     (marks : (key : Key) → IsTrue (is_marked a key) ↔ IsCyclic (alias_of a) key) where
   meanings : meaning_in names ≡ reached.meaning_in path deps t m
   meanings = λ i name. means name i
@@ -78,10 +72,9 @@ module _ (path : Bytes) (deps : Deps) (m : Module) (t : Sigs) (names : TypeScope
   aliases_same : (key : Key) → alias_of a key ≡ reached.alias_type path deps m t key
   aliases_same key =
       aliases key
-      ∙ ap (λ (o : Option FlowType). option_or o (if bytes_eq key.0 path then None else alias_told key.1 (t key.0)))
+      ∙ ap (λ (o : Option FlowType). option_or o (alias_told key.1 (t key.0)))
       (own_told path (meaning_in names) key (scope_of m) (firsts_once (bindings m))
       ∙ ap (λ (mean : Bytes → TypeMeaning). cond (bytes_eq key.0 path) (own_alias mean (row_at (scope_of m) key.1)) None) meanings)
-      ∙ own_or_told (bytes_eq key.0 path) (own_alias (reached.meaning_in path deps t m) (row_at (scope_of m) key.1)) (alias_told key.1 (t key.0))
 
   all_same : alias_of a ≡ reached.alias_type path deps m t
   all_same = λ i key. aliases_same key i
@@ -103,37 +96,37 @@ module _ (path : Bytes) (deps : Deps) (m : Module) (t : Sigs) (names : TypeScope
   }
 
 -- what stands around the code of a job's module
-pub stands : (job : CheckJob) (m : Module) (spans : List Span) (watch : Option ℕ) (own : List Row) (a : Around) → a.home.now ≡ job.path → a.spans.now ≡ spans → a.watch ≡ watch → ((spec : Bytes) → found_of a.imports spec ≡ found job.deps spec) →
+pub stands : (job : CheckJob) (m : Module) (spans : List Span) (watch : Option ℕ) (own : List Row) (a : Around) → a.spans.now ≡ spans → a.watch ≡ watch → ((spec : Bytes) → found_of a.imports spec ≡ found job.deps spec) →
     ((spec name : Bytes) → said_of a.imports spec name ≡ said_in job.deps (sigs_of job.sigs) spec name) →
     ((deps : Deps) (sigs : Sigs) → SaysOf a.imports deps sigs → (name : Bytes) → meaning_in a.names name ≡ type_bound job.path deps sigs name (row_at (scope_of m) name)) →
-    own ≡ own_rows job.path (meaning_in a.names) (seen meant (scope_of m)) → HasAliases job.path own job.deps (sigs_of job.sigs) a.table → StandsFor job m spans watch a
+    own ≡ own_rows job.path (meaning_in a.names) (seen meant (scope_of m)) → HasAliases own job.deps (sigs_of job.sigs) a.table → StandsFor job m spans watch a
 unfolding around_world
-stands job m spans watch own a home at watched finds says told is (t, are, aliases, marks) =
+stands job m spans watch own a at watched finds says told is (t, are, aliases, marks) =
     let sees : SaysOf a.imports job.deps t = says_table a.imports job.deps (sigs_of job.sigs) t are finds says in
     let means : (name : Bytes) → meaning_in a.names name ≡ type_bound job.path job.deps t name (row_at (scope_of m) name) = told job.deps t sees in
-    let tells : (key : Key) → alias_of a.table key ≡ option_or (alias_type (own_rows job.path (meaning_in a.names) (seen meant (scope_of m))) key) (if bytes_eq key.0 job.path then None else alias_told key.1 (t key.0)) =
-    λ key. aliases key ∙ ap (λ (l : List Row). option_or (alias_type l key) (if bytes_eq key.0 job.path then None else alias_told key.1 (t key.0))) is in
+    let tells : (key : Key) → alias_of a.table key ≡ option_or (alias_type (own_rows job.path (meaning_in a.names) (seen meant (scope_of m))) key) (alias_told key.1 (t key.0)) =
+    λ key. aliases key ∙ ap (λ (l : List Row). option_or (alias_type l key) (alias_told key.1 (t key.0))) is in
     let p : Program = seen_program job.path job.deps m t a.names a.table means tells marks in
     let world : around_world a ≡ world_of p m spans watch = λ i. record { members = members_in a.table; below = below a.table; type_meaning = λ name. means name i; spans = at i; watch = watched i } in
     let own_world : around_world a ≡ world_of p m a.spans.now a.watch = λ i. record { members = members_in a.table; below = below a.table; type_meaning = λ name. means name i; spans = a.spans.now; watch = a.watch } in
-    (t, are, p, is_seen job.path job.deps m t a.names a.table means tells marks, record { home = sym home; imports = sees; cyclic = λ key. refl; world = own_world }, world)
+    (t, are, p, is_seen job.path job.deps m t a.names a.table means tells marks, record { imports = sees; cyclic = λ key. refl; world = own_world }, world)
 
 -- by the names that were found
-pub stands_by : (job : CheckJob) (m : Module) (spans : List Span) (watch : Option ℕ) (names : TypeScope) (own : List Row) (a : Around) → a.home.now ≡ job.path → a.spans.now ≡ spans → a.watch ≡ watch → a.names ≡ names →
+pub stands_by : (job : CheckJob) (m : Module) (spans : List Span) (watch : Option ℕ) (names : TypeScope) (own : List Row) (a : Around) → a.spans.now ≡ spans → a.watch ≡ watch → a.names ≡ names →
     ((spec : Bytes) → found_of a.imports spec ≡ found job.deps spec) → ((spec name : Bytes) → said_of a.imports spec name ≡ said_in job.deps (sigs_of job.sigs) spec name) →
     ((deps : Deps) (sigs : Sigs) → SaysOf a.imports deps sigs → (name : Bytes) → meaning_in names name ≡ type_bound job.path deps sigs name (row_at (scope_of m) name)) →
-    own ≡ own_rows job.path (meaning_in names) (seen meant (scope_of m)) → HasAliases job.path own job.deps (sigs_of job.sigs) a.table → StandsFor job m spans watch a
-stands_by job m spans watch names own a home at watched same finds says told is has =
-    subst (λ (n : TypeScope). StandsFor job m spans watch (record a { names = n })) (sym same) (stands job m spans watch own (record a { names = names }) home at watched finds says told is has)
+    own ≡ own_rows job.path (meaning_in names) (seen meant (scope_of m)) → HasAliases own job.deps (sigs_of job.sigs) a.table → StandsFor job m spans watch a
+stands_by job m spans watch names own a at watched same finds says told is has =
+    subst (λ (n : TypeScope). StandsFor job m spans watch (record a { names = n })) (sym same) (stands job m spans watch own (record a { names = names }) at watched finds says told is has)
 
 -- by the parts of a job and of its tree
 pub stands_parts : (job : CheckJob) (first end : ℕ) (all listed : List Item) (spans : List Span) (watch : Option ℕ) (deps : Deps) (sigs : Rows Sig) (names : TypeScope) (own : List Row) (a : Around) → deps ≡ job.deps → sigs ≡ job.sigs → listed ≡ all →
-    a.home.now ≡ job.path → a.spans.now ≡ spans → a.watch ≡ watch → a.names ≡ names → ((spec : Bytes) → found_of a.imports spec ≡ found deps spec) →
+    a.spans.now ≡ spans → a.watch ≡ watch → a.names ≡ names → ((spec : Bytes) → found_of a.imports spec ≡ found deps spec) →
     ((spec name : Bytes) → said_of a.imports spec name ≡ said_in deps (sigs_of sigs) spec name) →
     ((ds : Deps) (ss : Sigs) → SaysOf a.imports ds ss → (name : Bytes) → meaning_in names name ≡ type_bound job.path ds ss name (row_at (first_of_each (flat_map bound_by (items_from (items_view listed)))) name)) →
-    own ≡ own_rows job.path (meaning_in names) (seen meant (first_of_each (flat_map bound_by (items_from (items_view listed))))) → HasAliases job.path own job.deps (sigs_of job.sigs) a.table → StandsFor job (module_of first end (items_view all)) spans watch a
-stands_parts job first end all listed spans watch deps sigs names own a same_deps same_sigs same_items home at watched same finds says told is has =
-    stands_by job (module_of first end (items_view all)) spans watch names own a home at watched same (λ spec. finds spec ∙ ap (λ (d : Deps). found d spec) same_deps)
+    own ≡ own_rows job.path (meaning_in names) (seen meant (first_of_each (flat_map bound_by (items_from (items_view listed))))) → HasAliases own job.deps (sigs_of job.sigs) a.table → StandsFor job (module_of first end (items_view all)) spans watch a
+stands_parts job first end all listed spans watch deps sigs names own a same_deps same_sigs same_items at watched same finds says told is has =
+    stands_by job (module_of first end (items_view all)) spans watch names own a at watched same (λ spec. finds spec ∙ ap (λ (d : Deps). found d spec) same_deps)
     (λ spec name. says spec name ∙ ap₂ (λ (d : Deps) (l : Rows Sig). said_in d (sigs_of l) spec name) same_deps same_sigs)
     (λ ds ss sees name. told ds ss sees name ∙ ap (λ (l : List Item). type_bound job.path ds ss name (row_at (first_of_each (flat_map bound_by (items_from (items_view l)))) name)) same_items)
     (is ∙ ap (λ (l : List Item). own_rows job.path (meaning_in names) (seen meant (first_of_each (flat_map bound_by (items_from (items_view l)))))) same_items) has

@@ -1,6 +1,5 @@
 -- What a checker stands for.
-use Rattle.std.specs.Prelude.{ℕ, ◌≡◌, ◌↔◌, IsTrue, List, [], Option, Some, None, if◌then◌else◌}
-use Rattle.std.specs.Str.{bytes_eq}
+use Rattle.std.specs.Prelude.{ℕ, ◌≡◌, ◌↔◌, IsTrue, List, [], Option, Some, None}
 use Rattle.std.specs.Option.{option_or}
 use Rattle.flow_values.specs.declared.span.Span.{Span}
 use Rattle.js_grammar.specs.Items.{Items, Module, module_of}
@@ -8,7 +7,6 @@ use Rattle.alias_members.specs.MembersIn.{members_in}
 use Rattle.alias_table.specs.Aliases.{Row, Key, alias_type, IsCyclic}
 use Rattle.alias_table.specs.Table.{alias_of, is_marked}
 use Rattle.alias_table.specs.declared.table.AliasTable.{AliasTable}
-use Rattle.check_values.specs.Rows.{Bytes}
 use Rattle.check_values.specs.declared.signatures.Deps.{Deps}
 use Rattle.subtype_rules.specs.Answer.{below}
 use Rattle.check_world.specs.View.{meaning_in}
@@ -25,11 +23,11 @@ use Rattle.check_items.specs.View.{Says}
 use Rattle.check_module.specs.declared.around.Around.{Around}
 use Rattle.check_module.specs.declared.checker.Checker.{Checker}
 
--- the table has these aliases of the module at a path, and behind them those of the other modules that are reached
-abbrev pub HasAliases : Bytes → List Row → Deps → Sigs → AliasTable → Type 0
-HasAliases path own deps sigs t =
+-- the table has these aliases of the module itself, and behind them those of the modules that are reached
+abbrev pub HasAliases : List Row → Deps → Sigs → AliasTable → Type 0
+HasAliases own deps sigs t =
     (table : Sigs) × IsTable sigs deps table
-    × ((key : Key) → alias_of t key ≡ option_or (alias_type own key) (if bytes_eq key.0 path then None else alias_told key.1 (table key.0)))
+    × ((key : Key) → alias_of t key ≡ option_or (alias_type own key) (alias_told key.1 (table key.0)))
     × ((key : Key) → IsTrue (is_marked t key) ↔ IsCyclic (alias_of t) key)
 
 -- what stands around the code
@@ -55,7 +53,6 @@ checker_env c = env c.state
 
 -- what stands around the code is that of this module in this program
 pub record IsOf (a : Around) (p : Program) (m : Module) : Type 0 where
-  pub home : p.path ≡ a.home.now
   pub imports : Says a.imports p
   pub cyclic : (key : Key) → is_marked a.table key ≡ p.is_cyclic key
   pub world : around_world a ≡ world_of p m a.spans.now a.watch

@@ -17,17 +17,16 @@ use check_items::{Types, bind_items, bind_prelude, note_second_exports, types_of
 use check_job::CheckJob;
 use check_moves::State;
 use check_world::{TypeScope, World};
-use flow_values::{NoMemory, Path, Span};
+use flow_values::{NoMemory, Span};
 use import_sayings::{Imports, add_reached_aliases};
 use js_tree::{Item, Module};
 use std::alloc::Global;
 
-/// What stands around the code of a module: its path, its spans, what its names mean as types, the
-/// aliases that count, what other modules say, and the place that is watched.
+/// What stands around the code of a module: its spans, what its names mean as types, the aliases that
+/// count, what other modules say, and the place that is watched.
 #[derive(Drop)]
 pub(crate) struct Around<'j> {
     pub alloc: Global,
-    pub home: &'j Path,
     pub spans: &'j [Span],
     pub names: TypeScope,
     pub table: AliasTable,
@@ -37,13 +36,13 @@ pub(crate) struct Around<'j> {
 
 // The table of the module's own aliases and of those that it reaches.
 fn table_of(alloc: Global, job: &CheckJob, types: &Types<'_>) -> Result<AliasTable, NoMemory>
-    ensures { IfOk result (λ table. HasAliases job.now.path (own_aliases job.now.path types.now) job.now.deps (sigs_of job.now.sigs) table) }
+    ensures { IfOk result (λ table. HasAliases (own_aliases job.now.path types.now) job.now.deps (sigs_of job.now.sigs) table) }
 {
     let deps = job.deps.get();
     let sigs = job.sigs.as_slice();
     let mut rows = Vec::new(alloc);
     types.add_aliases(alloc, &job.path, &mut rows)?;
-    add_reached_aliases(alloc, &job.path, deps, sigs, &mut rows)?;
+    add_reached_aliases(alloc, deps, sigs, &mut rows)?;
     let all = rows.as_slice();
     let table = AliasTable::build(alloc, all)?;
     Ok(table)
@@ -75,7 +74,6 @@ impl<'j> Around<'j> {
         let names = types.into_names();
         Ok(Around {
             alloc,
-            home: &job.path,
             spans,
             names,
             table,

@@ -167,7 +167,6 @@ impl<'j> Checker<'j> {
         let world = around.world();
         let reading = Reading {
             world: &world,
-            home: around.home,
             imports: &around.imports,
         };
         read_item(&reading, &mut self.state, item)?;

@@ -1,5 +1,6 @@
 -- What a module sees of the program, by the merged signatures that it reaches.
 use Rattle.std.specs.Prelude.{◌≡◌, ◌↔◌, Bool, IsTrue, [], ◌∷◌, Option, Some, None, unwrap_or, if◌then◌else◌}
+use Rattle.std.specs.Option.{option_or}
 use Rattle.std.specs.Str.{bytes_eq}
 use Rattle.js_grammar.specs.Items.{Module}
 use Rattle.check_values.specs.Rows.{Bytes, row_at}
@@ -26,7 +27,7 @@ pub record IsTable (sigs : Sigs) (deps : Deps) (table : Sigs) : Type 0 where
   pub has : (path : Bytes) → Reach sigs deps path → table path ≡ sigs path
   pub only : (path : Bytes) (s : Sig) → table path ≡ Some s → Reach sigs deps path
 
--- ---- the types of aliases: the module's own by its tree, all others by the table
+-- ---- the types of aliases: the module's own by its tree, and then those by the table
 
 -- what a name of the module means as a type
 abbrev pub meaning_in : Bytes → Deps → Sigs → Module → Bytes → TypeMeaning
@@ -37,15 +38,19 @@ abbrev pub own_alias : (Bytes → TypeMeaning) → Option home.Binding → Optio
 own_alias meaning (Some (bound_alias t)) = Some (written_by meaning t)
 own_alias meaning other = None
 
--- the type of an alias in the signature of another module
+-- the type of an alias in the signature of a module
 abbrev pub alias_told : Bytes → Option Sig → Option FlowType
 alias_told name None = None
 alias_told name (Some s) = row_at s.aliases name
 
--- the type of an alias, by its module and its name
+-- the type of an alias that the module's tree has, by its module and its name
+abbrev pub own_type : Bytes → Deps → Module → Sigs → Key → Option FlowType
+own_type path deps m table key = if bytes_eq key.0 path then own_alias (meaning_in path deps table m) (row_at (scope_of m) key.1) else None
+
+-- The type of an alias: that of the module's own tree comes first. The signature at its path tells the others, as it does those of other
+-- modules: it may have more where it is that of another text.
 abbrev pub alias_type : Bytes → Deps → Module → Sigs → Key → Option FlowType
-alias_type path deps m table key =
-    if bytes_eq key.0 path then own_alias (meaning_in path deps table m) (row_at (scope_of m) key.1) else alias_told key.1 (table key.0)
+alias_type path deps m table key = option_or (own_type path deps m table key) (alias_told key.1 (table key.0))
 
 -- what a name unfolds to: its type, and `any` where it lies on a cycle or is missing
 abbrev pub unfolded : (Key → Bool) → (Key → Option FlowType) → Key → FlowType

@@ -126,21 +126,15 @@ module _ (path : Bytes) (deps : Deps) (m : Module) (table : Sigs) (paths : List 
   own_names : List Bytes
   own_names = map (λ (row : Bytes × Binding). row.0) (scope_of m)
 
-  -- what the table tells of other modules
-  others : Sigs
-  others q = if bytes_eq q path then None else table q
-
   all_rows : List Row
-  all_rows = rows_for path own_types own_names ++ table_rows others paths
+  all_rows = rows_for path own_types own_names ++ table_rows table paths
 
-  told_path : (name q : Bytes) (t : FlowType) → alias_told name (others q) ≡ Some t → HasPlace paths q
-  unfolding others
-  told_path name q t is = go (bytes_eq q path) (table q) refl is
+  told_path : (name q : Bytes) (t : FlowType) → alias_told name (table q) ≡ Some t → HasPlace paths q
+  told_path name q t is = go (table q) refl is
     where
-      go : (b : Bool) (o : Option Sig) → table q ≡ o → alias_told name (if b then None else o) ≡ Some t → HasPlace paths q
-      go true o at told = none_some t told
-      go false None at told = none_some t told
-      go false (Some s) at told = among q s at
+      go : (o : Option Sig) → table q ≡ o → alias_told name o ≡ Some t → HasPlace paths q
+      go None at told = none_some t told
+      go (Some s) at told = among q s at
 
   own_rows_told : (key : Key) (b : Bool) → bytes_eq key.0 path ≡ b → alias_type (rows_for path own_types own_names) key ≡ (if b then own_types key.1 else None)
   unfolding own_types own_names
@@ -150,16 +144,10 @@ module _ (path : Bytes) (deps : Deps) (m : Module) (table : Sigs) (paths : List 
   own_rows_told key false is = other_home path own_types own_names key (λ same. let z : false ≡ true = sym is ∙ (bytes_decides key.0 path).1 same in cc)
 
   rows_tell : (key : Key) → seen.alias_type path deps m table key ≡ alias_type all_rows key
-  unfolding all_rows own_types others
+  unfolding all_rows own_types
   rows_tell key =
-      sym (append_rows (rows_for path own_types own_names) (table_rows others paths) key
-      ∙ (λ i. option_or (own_rows_told key (bytes_eq key.0 path) refl i) (all_told others paths key (λ t is. told_path key.1 key.0 t is) i))
-      ∙ go (bytes_eq key.0 path) (own_types key.1) (table key.0))
-    where
-      go : (b : Bool) (own : Option FlowType) (o : Option Sig) → option_or (if b then own else None) (alias_told key.1 (if b then None else o)) ≡ (if b then own else alias_told key.1 o)
-      go true None o = refl
-      go true (Some t) o = refl
-      go false own o = refl
+      sym (append_rows (rows_for path own_types own_names) (table_rows table paths) key
+      ∙ (λ i. option_or (own_rows_told key (bytes_eq key.0 path) refl i) (all_told table paths key (λ t is. told_path key.1 key.0 t is) i)))
 
 -- ---- what a module sees by all signatures, and by those that it reaches; its errors
 

@@ -1,5 +1,5 @@
 -- What numbers reach, as the modules that a module reaches.
-use Rattle.std.proofs.Common.{◌≡◌, ◌↔◌, IsTrue, ℕ, zero, suc, ◌+◌, ◌<◌, ◌≤◌, Bool, true, false, ◌||◌, ◌&&◌, ◌==◌, List, [], ◌∷◌, ◌++◌, length, take, drop, get_or, slice_get, if◌then◌else◌, Option, Some, None, cond, option_map, bytes_eq, refl, sym, ap, ◌∙◌, subst, ap₂, inl, inr, ◌⊎◌, arith, true≢false, unwrap_or, drop_of_length-le, drop-cons, add-one, take-suc, take_all, append_assoc, append-nil}
+use Rattle.std.proofs.Common.{◌≡◌, ℕ, zero, suc, ◌+◌, ◌<◌, ◌≤◌, Bool, true, false, ◌||◌, ◌&&◌, ◌==◌, List, [], ◌∷◌, ◌++◌, length, take, drop, get_or, slice_get, if◌then◌else◌, Option, Some, None, cond, option_map, bytes_eq, refl, sym, ap, ◌∙◌, subst, ap₂, inl, inr, ◌⊎◌, arith, true≢false, unwrap_or, drop_of_length-le, drop-cons, add-one, take-suc, take_all, append_assoc, append-nil}
 use Rattle.std.specs.List.{flat_map, list_any, cons_option}
 use Rattle.std.specs.Option.{option_to_list, option_or}
 use Rattle.std.specs.Ordering.{nat_cmp}
@@ -23,7 +23,7 @@ use Rattle.merged_signatures.specs.Reach.{Reach, by_specifier, by_signature, pat
 use Rattle.errors_by_reach.specs.Seen.{Sigs, IsTable, alias_told}
 use Rattle.named_rows.proofs.Lists.{bytes_turned, flat_last}
 use Rattle.import_sayings.specs.View.{numbers_in, sigs_of, AreReachedAliases}
-use Rattle.import_sayings.specs.Reached.{place_of, AreNumbers, AreFound, edges_in, path_found, paths_found, alias_row, rows_of, rows_beside, rows_at}
+use Rattle.import_sayings.specs.Reached.{place_of, AreNumbers, AreFound, edges_in, path_found, paths_found, alias_row, rows_of, rows_at}
 
 or_true : (b : Bool) → (b || true) ≡ true
 or_true true = refl
@@ -314,36 +314,22 @@ told_beside sigs ns n path name at apart (Some m) e = ap (λ (b : Bool). cond (b
     unlike false f = f
     unlike true f = absurd (true≢false (sym (same_bytes name) ∙ ap (λ (p : Bytes). bytes_eq p name) (sym (one_path sigs path name m (at ∙ ap (λ (k : ℕ). Some k) (eqb-true n m f)) e)) ∙ apart))
 
--- no row is of the module at the path
-none_own : (path : Bytes) (sigs : Rows Sig) (key : Key) → bytes_eq key.0 path ≡ true → (ns : List ℕ) → alias_type (flat_map (rows_at path sigs) ns) key ≡ None
-none_own path sigs key own [] = refl
-none_own path sigs key own (n ∷ ns) = at (slice_get sigs n) (none_own path sigs key own ns)
-  where
-    of_row : (row : Bytes × Sig) (b : Bool) → bytes_eq row.0 path ≡ b → alias_type (flat_map (rows_at path sigs) ns) key ≡ None → alias_type ((if b then [] else rows_of row.0 row.1.aliases) ++ (flat_map (rows_at path sigs) ns)) key ≡ None
-    of_row row true is none = none
-    of_row row false is none =
-        own_rows row.0 row.1.aliases (flat_map (rows_at path sigs) ns) key
-        ∙ ap (λ (b : Bool). cond b (option_or (row_at row.1.aliases key.1) (alias_type (flat_map (rows_at path sigs) ns) key)) (alias_type (flat_map (rows_at path sigs) ns) key)) (ap (bytes_eq row.0) ((bytes_decides key.0 path).0 own) ∙ is) ∙ none
-
-    at : (o : Option (Bytes × Sig)) → alias_type (flat_map (rows_at path sigs) ns) key ≡ None → alias_type (elim o as (λ _. List Row) [ None ↦ [] | Some row ↦ rows_beside path row ] ++ (flat_map (rows_at path sigs) ns)) key ≡ None
-    at None none = none
-    at (Some row) none = of_row row (bytes_eq row.0 path) refl none
-
--- of each other module the rows tell what the table does
-others_told : (home : Bytes) (sigs : Rows Sig) (key : Key) → bytes_eq key.0 home ≡ false → (ns : List ℕ) → ArePlaces sigs ns → alias_type (flat_map (rows_at home sigs) ns) key ≡ alias_told key.1 (table_of sigs ns key.0)
-others_told home sigs key other [] places = go (place_of sigs key.0)
+-- the rows tell what the table does
+aliases_told : (sigs : Rows Sig) (key : Key) (ns : List ℕ) → ArePlaces sigs ns → alias_type (flat_map (rows_at sigs) ns) key ≡ alias_told key.1 (table_of sigs ns key.0)
+aliases_told sigs key [] places = go (place_of sigs key.0)
   where
     go : (o : Option ℕ) → None ≡ alias_told key.1 (told_if sigs [] key.0 o)
     go None = refl
     go (Some n) = refl
-others_told home sigs key other (n ∷ ns) places =
+aliases_told sigs key (n ∷ ns) places =
     let (path, at) = places n (0, refl) in
     let (s, there, first) = placed sigs path n at in
-    ap (λ (o : Option (Bytes × Sig)). alias_type (elim o as (λ _. List Row) [ None ↦ [] | Some row ↦ rows_beside home row ] ++ flat_map (rows_at home sigs) ns) key) there
-    ∙ of_row path s at first (bytes_eq path home) refl (others_told home sigs key other ns (λ m has. places m (suc has.0, has.1)))
+    ap (λ (o : Option (Bytes × Sig)). alias_type (elim o as (λ _. List Row) [ None ↦ [] | Some row ↦ rows_of row.0 row.1.aliases ] ++ flat_map (rows_at sigs) ns) key) there
+    ∙ own_rows path s.aliases (flat_map (rows_at sigs) ns) key
+    ∙ go path s at first (bytes_eq path key.0) refl (aliases_told sigs key ns (λ m has. places m (suc has.0, has.1)))
   where
-    go : (path : Bytes) (s : Sig) → place_of sigs path ≡ Some n → row_at sigs path ≡ Some s → (b : Bool) → bytes_eq path key.0 ≡ b → alias_type (flat_map (rows_at home sigs) ns) key ≡ alias_told key.1 (table_of sigs ns key.0) →
-        cond b (option_or (row_at s.aliases key.1) (alias_type (flat_map (rows_at home sigs) ns) key)) (alias_type (flat_map (rows_at home sigs) ns) key) ≡ alias_told key.1 (table_of sigs (n ∷ ns) key.0)
+    go : (path : Bytes) (s : Sig) → place_of sigs path ≡ Some n → row_at sigs path ≡ Some s → (b : Bool) → bytes_eq path key.0 ≡ b → alias_type (flat_map (rows_at sigs) ns) key ≡ alias_told key.1 (table_of sigs ns key.0) →
+        cond b (option_or (row_at s.aliases key.1) (alias_type (flat_map (rows_at sigs) ns) key)) (alias_type (flat_map (rows_at sigs) ns) key) ≡ alias_told key.1 (table_of sigs (n ∷ ns) key.0)
     go path s at first false e told = told ∙ ap (alias_told key.1) (told_beside sigs ns n path key.0 at e (place_of sigs key.0) refl)
     go path s at first true e told =
         let here_at : place_of sigs key.0 ≡ Some n = ap (place_of sigs) (sym ((bytes_decides path key.0).0 e)) ∙ at in
@@ -353,27 +339,13 @@ others_told home sigs key other (n ∷ ns) places =
         ∙ told_twice s key.1 (is_in ns n) (row_at s.aliases key.1) refl
         ∙ sym (ap (λ (o : Option ℕ). alias_told key.1 (told_if sigs (n ∷ ns) key.0 o)) here_at ∙ ap (λ (b : Bool). alias_told key.1 (cond (b || is_in ns n) (row_at sigs key.0) None)) (eq-eqb n n refl) ∙ ap (alias_told key.1) is)
 
-    of_row : (path : Bytes) (s : Sig) → place_of sigs path ≡ Some n → row_at sigs path ≡ Some s → (b : Bool) → bytes_eq path home ≡ b → alias_type (flat_map (rows_at home sigs) ns) key ≡ alias_told key.1 (table_of sigs ns key.0) →
-        alias_type ((if b then [] else rows_of path s.aliases) ++ (flat_map (rows_at home sigs) ns)) key ≡ alias_told key.1 (table_of sigs (n ∷ ns) key.0)
-    of_row path s at first true is told =
-        let apart : bytes_eq path key.0 ≡ false = ap (λ (p : Bytes). bytes_eq p key.0) ((bytes_decides path home).0 is) ∙ bytes_turned home key.0 ∙ other in
-        go path s at first false apart told
-    of_row path s at first false is told = own_rows path s.aliases (flat_map (rows_at home sigs) ns) key ∙ go path s at first (bytes_eq path key.0) refl told
-
-aliases_told : (path : Bytes) (sigs : Rows Sig) (ns : List ℕ) → ArePlaces sigs ns → (key : Key) → alias_type (flat_map (rows_at path sigs) ns) key ≡ (if bytes_eq key.0 path then None else alias_told key.1 (table_of sigs ns key.0))
-aliases_told path sigs ns places key = go (bytes_eq key.0 path) refl
-  where
-    go : (b : Bool) → bytes_eq key.0 path ≡ b → alias_type (flat_map (rows_at path sigs) ns) key ≡ (if b then None else alias_told key.1 (table_of sigs ns key.0))
-    go true own = none_own path sigs key own ns
-    go false other = others_told path sigs key other ns places
-
-pub all_reached : (path : Bytes) (sigs : Rows Sig) (numbers : BTreeMap Bytes ℕ) (deps : Deps) (reached rows_from : List ℕ) (i : ℕ) (old new : List Row) → AreNumbers sigs numbers → AreFound (edges_in numbers sigs) (numbers_in numbers (paths_found deps)) reached → rows_from ≡ reached → length rows_from ≤ i →
-    new ≡ old ++ flat_map (rows_at path sigs) (take i rows_from) → AreReachedAliases path deps (sigs_of sigs) old new
-all_reached path sigs numbers deps reached rows_from i old new numbered all same past adds =
+pub all_reached : (sigs : Rows Sig) (numbers : BTreeMap Bytes ℕ) (deps : Deps) (reached rows_from : List ℕ) (i : ℕ) (old new : List Row) → AreNumbers sigs numbers → AreFound (edges_in numbers sigs) (numbers_in numbers (paths_found deps)) reached → rows_from ≡ reached → length rows_from ≤ i →
+    new ≡ old ++ flat_map (rows_at sigs) (take i rows_from) → AreReachedAliases deps (sigs_of sigs) old new
+all_reached sigs numbers deps reached rows_from i old new numbered all same past adds =
     let places : ArePlaces sigs reached = λ n has. (let (q, at, reach) = number_reach sigs numbers numbered deps reached all n has in (q, at)) in (
-      flat_map (rows_at path sigs) reached,
-      adds ∙ ap (λ (l : List ℕ). old ++ flat_map (rows_at path sigs) l) (take_all i rows_from past ∙ same),
-      (table_of sigs reached, is_table sigs numbers deps reached numbered all, aliases_told path sigs reached places),
+      flat_map (rows_at sigs) reached,
+      adds ∙ ap (λ (l : List ℕ). old ++ flat_map (rows_at sigs) l) (take_all i rows_from past ∙ same),
+      (table_of sigs reached, is_table sigs numbers deps reached numbered all, λ key. aliases_told sigs key reached places),
     )
 
 -- ---- rows in a row
@@ -397,25 +369,13 @@ aliases_more home aliases i row a b t start before after within is as_home as_na
 pub aliases_whole : (home : Bytes) (aliases : Rows FlowType) (i : ℕ) (start after : List Row) → length aliases ≤ i → after ≡ start ++ rows_of home (take i aliases) → after ≡ start ++ rows_of home aliases
 aliases_whole home aliases i start after past is = is ∙ ap (λ (l : Rows FlowType). start ++ rows_of home l) (take_all i aliases past)
 
--- the row of the module at the path is left, and others' rows are taken
-pub own_left : (path : Bytes) (row : Bytes × Sig) (b : Bool) (start : List Row) → IsTrue b ↔ (row.0 ≡ path) → b ≡ true → start ≡ start ++ rows_beside path row
-own_left path row b start says is =
-    sym (ap (λ (c : Bool). start ++ (if c then [] else rows_of row.0 row.1.aliases)) ((bytes_decides row.0 path).1 (says.0 is)) ∙ append-nil start)
+pub rows_none : (sigs : Rows Sig) (numbers : List ℕ) (start : List Row) → start ≡ start ++ flat_map (rows_at sigs) (take 0 numbers)
+rows_none sigs numbers start = sym (append-nil start)
 
-pub others_taken : (path : Bytes) (row : Bytes × Sig) (b : Bool) (start after : List Row) → IsTrue b ↔ (row.0 ≡ path) → b ≡ false → after ≡ start ++ rows_of row.0 row.1.aliases → after ≡ start ++ rows_beside path row
-others_taken path row b start after says is adds = go (bytes_eq row.0 path) refl
-  where
-    go : (c : Bool) → bytes_eq row.0 path ≡ c → after ≡ start ++ (if c then [] else rows_of row.0 row.1.aliases)
-    go true e = absurd (true≢false (sym (says.1 ((bytes_decides row.0 path).0 e)) ∙ is))
-    go false e = adds
+pub rows_more : (sigs : Rows Sig) (numbers : List ℕ) (i n : ℕ) (start before after : List Row) → i < length numbers → n ≡ get_or numbers i n → before ≡ start ++ flat_map (rows_at sigs) (take i numbers) → after ≡ before ++ rows_at sigs n → after ≡ start ++ flat_map (rows_at sigs) (take (i + 1) numbers)
+rows_more sigs numbers i n start before after within is so_far adds =
+    adds ∙ ap (λ (l : List Row). l ++ rows_at sigs n) so_far ∙ append_assoc start (flat_map (rows_at sigs) (take i numbers)) (rows_at sigs n)
+    ∙ sym (ap (λ (l : List Row). start ++ l) (ap (flat_map (rows_at sigs)) (taken numbers i n within is) ∙ flat_last (rows_at sigs) (take i numbers) n))
 
-pub rows_none : (path : Bytes) (sigs : Rows Sig) (numbers : List ℕ) (start : List Row) → start ≡ start ++ flat_map (rows_at path sigs) (take 0 numbers)
-rows_none path sigs numbers start = sym (append-nil start)
-
-pub rows_more : (path : Bytes) (sigs : Rows Sig) (numbers : List ℕ) (i n : ℕ) (start before after : List Row) → i < length numbers → n ≡ get_or numbers i n → before ≡ start ++ flat_map (rows_at path sigs) (take i numbers) → after ≡ before ++ rows_at path sigs n → after ≡ start ++ flat_map (rows_at path sigs) (take (i + 1) numbers)
-rows_more path sigs numbers i n start before after within is so_far adds =
-    adds ∙ ap (λ (l : List Row). l ++ rows_at path sigs n) so_far ∙ append_assoc start (flat_map (rows_at path sigs) (take i numbers)) (rows_at path sigs n)
-    ∙ sym (ap (λ (l : List Row). start ++ l) (ap (flat_map (rows_at path sigs)) (taken numbers i n within is) ∙ flat_last (rows_at path sigs) (take i numbers) n))
-
-pub rows_missing : (path : Bytes) (sigs : Rows Sig) (n : ℕ) (start : List Row) → length sigs ≤ n → start ≡ start ++ rows_at path sigs n
-rows_missing path sigs n start past = sym (ap (λ (o : Option (Bytes × Sig)). start ++ elim o as (λ _. List Row) [ None ↦ [] | Some row ↦ rows_beside path row ]) (slice_get_past sigs n past) ∙ append-nil start)
+pub rows_missing : (sigs : Rows Sig) (n : ℕ) (start : List Row) → length sigs ≤ n → start ≡ start ++ rows_at sigs n
+rows_missing sigs n start past = sym (ap (λ (o : Option (Bytes × Sig)). start ++ elim o as (λ _. List Row) [ None ↦ [] | Some row ↦ rows_of row.0 row.1.aliases ]) (slice_get_past sigs n past) ∙ append-nil start)

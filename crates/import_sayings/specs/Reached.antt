@@ -51,10 +51,6 @@ alias_row home row = (home, row.0, row.1)
 abbrev pub rows_of : Bytes → List (Bytes × FlowType) → List Row
 rows_of home aliases = map (alias_row home) aliases
 
--- those of a module other than the one at a path
-abbrev pub rows_beside : Bytes → Bytes × Sig → List Row
-rows_beside path row = if bytes_eq row.0 path then [] else rows_of row.0 row.1.aliases
-
 -- those of the module with a number
-abbrev pub rows_at : Bytes → List (Bytes × Sig) → ℕ → List Row
-rows_at path sigs n = elim (slice_get sigs n) [ None ↦ [] | Some row ↦ rows_beside path row ]
+abbrev pub rows_at : List (Bytes × Sig) → ℕ → List Row
+rows_at sigs n = elim (slice_get sigs n) [ None ↦ [] | Some row ↦ rows_of row.0 row.1.aliases ]

@@ -2,7 +2,6 @@
 use Rattle.std.specs.Prelude.{ℕ, ◌≡◌, ◌++◌, true, List, map, Option, Some, None, if◌then◌else◌}
 use Rattle.std.specs.List.{filter_map}
 use Rattle.std.specs.BTreeMap.{BTreeMap, get}
-use Rattle.std.specs.Str.{bytes_eq}
 use Rattle.std.specs.Cmp.Lexicographic.{slice_cmp}
 use Rattle.std.specs.Ordering.{nat_cmp}
 use Rattle.std.specs.Borrow.{Bor}
@@ -74,8 +73,8 @@ found_says imports (Some path) name = exports_say (get (slice_cmp nat_cmp) impor
 abbrev pub said_of : Imports → Bytes → Bytes → Saying
 said_of imports spec name = found_says imports (found_of imports spec) name
 
--- rows were added: the aliases of the modules that the module at a path reaches, without its own
-abbrev pub AreReachedAliases : Bytes → Deps → Sigs → List Row → List Row → Type 0
-AreReachedAliases path deps sigs old new =
+-- rows were added: the aliases of the modules that a module reaches
+abbrev pub AreReachedAliases : Deps → Sigs → List Row → List Row → Type 0
+AreReachedAliases deps sigs old new =
     (more : List Row) × (new ≡ old ++ more)
-    × ((table : Sigs) × IsTable sigs deps table × ((key : Key) → alias_type more key ≡ (if bytes_eq key.0 path then None else alias_told key.1 (table key.0))))
+    × ((table : Sigs) × IsTable sigs deps table × ((key : Key) → alias_type more key ≡ alias_told key.1 (table key.0)))

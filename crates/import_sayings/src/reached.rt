@@ -2,7 +2,7 @@
 ghost use Rattle.std.specs.Prelude.{◌≡◌, ◌++◌, ◌∷◌, [], ◌<◌, ◌^◌, Some, All, length, slice_get, OnOk, IfOk};
 ghost use Rattle.graph_search.specs.Searching.{Closes, HasFound};
 ghost use Rattle.import_sayings.specs.View.{sigs_of, numbers_in, AreReachedAliases};
-ghost use Rattle.import_sayings.specs.Reached.{AreNumbers, AreFound, edges_in, paths_found, rows_of, rows_beside, rows_at};
+ghost use Rattle.import_sayings.specs.Reached.{AreNumbers, AreFound, edges_in, paths_found, rows_of, rows_at};
 
 use crate::imports::{found_by, paths_found};
 use crate::paths::{Numbers, add_named, add_paths};
@@ -155,38 +155,29 @@ fn add_rows(
     Ok(())
 }
 
-// Adds the aliases of a module, unless it is the one at a path.
-#[tactic(auto, using(crate::proofs::ReachedPaths::own_left, crate::proofs::ReachedPaths::others_taken))]
-fn add_others(
-    path: &Path,
-    row: &(Path, Shared<Sig>),
-    out: &mut Vec<AliasRow>,
-) -> Result<(), NoMemory>
-    ensures { OnOk result (out.new.items ≡ out.old.items ++ rows_beside path.now row.now) }
+// Adds the aliases of a module with its signature.
+fn add_told(row: &(Path, Shared<Sig>), out: &mut Vec<AliasRow>) -> Result<(), NoMemory>
+    ensures { OnOk result (out.new.items ≡ out.old.items ++ rows_of row.now.0 row.now.1.aliases) }
 {
-    if row.0.equals(path) {
-        return Ok(());
-    }
     add_rows(&row.0, row.1.get().aliases.as_slice(), out)
 }
 
-// Adds the aliases of the module with a number, unless it is the one at a path.
+// Adds the aliases of the module with a number.
 fn add_rows_at(
-    path: &Path,
     sigs: &[(Path, Shared<Sig>)],
     number: u32,
     out: &mut Vec<AliasRow>,
 ) -> Result<(), NoMemory>
-    ensures { OnOk result (out.new.items ≡ out.old.items ++ rows_at path.now sigs.now number) }
+    ensures { OnOk result (out.new.items ≡ out.old.items ++ rows_at sigs.now number) }
 {
     match sigs.get(number as usize) {
-        Some(row) => add_others(path, row, out),
+        Some(row) => add_told(row, out),
         None => Ok(()),
     }
 }
 
-/// Adds the aliases of each other module that the module at a path reaches: those that its specifiers
-/// find, and with each of them those that its merged signature names.
+/// Adds the aliases of each module that a module reaches: those that its specifiers find, and with each
+/// of them those that its merged signature names.
 ///
 /// # Errors
 ///
@@ -195,18 +186,17 @@ fn add_rows_at(
 #[tactic(auto, using(crate::proofs::ReachedPaths::rows_none, crate::proofs::ReachedPaths::rows_more))]
 pub fn add_reached_aliases(
     alloc: Global,
-    path: &Path,
     deps: &Deps,
     sigs: &[(Path, Shared<Sig>)],
     out: &mut Vec<AliasRow>,
 ) -> Result<(), NoMemory>
-    ensures { OnOk result (AreReachedAliases path.now deps.now (sigs_of sigs.now) out.old.items out.new.items) }
+    ensures { OnOk result (AreReachedAliases deps.now (sigs_of sigs.now) out.old.items out.new.items) }
 {
     let numbers = numbers_of(alloc, sigs)?;
     let reached = reached_from(alloc, &numbers, deps, sigs)?;
     let reached = reached.as_slice();
     for i in 0..reached.len() {
-        add_rows_at(path, sigs, reached[i], out)?;
+        add_rows_at(sigs, reached[i], out)?;
     }
     Ok(())
 }

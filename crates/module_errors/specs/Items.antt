@@ -5,13 +5,16 @@ use Rattle.js_grammar.specs.Items.{imported, Importeds, no_imported, more_import
 use Rattle.check_values.specs.Rows.{Bytes, row_at}
 use Rattle.check_values.specs.declared.codes.Code.{Code}
 use Rattle.check_values.specs.declared.codes.Code.TheVariants.{CannotResolveModule, CannotResolveName, RecursiveAlias, TypeAsValue, ValueAsType}
+use Rattle.type_values.specs.declared.types.FlowType.{FlowType, out-FlowType}
+use Rattle.type_values.specs.declared.types.FlowType.TheOpen.{FlowType-F, Ref}
 use Rattle.type_terms.specs.Show.{quoted}
+use Rattle.type_names.specs.Names.{Name}
 use Rattle.local_signatures.specs.Scope as home
 use Rattle.local_signatures.specs.Scope.{bound_import, bound_alias, scope_of, default_name}
 use Rattle.merged_signatures.specs.Chains.{found}
 use Rattle.typing.specs.Names.{Binding, Scope, number_at, binding_of}
 use Rattle.typing.specs.States.{World, Notes, Env, after, now_of, with_now, fault_at, name_fault}
-use Rattle.typing.specs.TypeFaults.{type_read}
+use Rattle.typing.specs.TypeFaults.{type_meant, type_read}
 use Rattle.typing.specs.Typing.{read, read_function, read_declaration, read_simple}
 use Rattle.module_errors.specs.Program.{Program, said, wrong_import}
 
@@ -93,11 +96,20 @@ abbrev pub is_bound_at : ℕ → Option Binding → Bool
 is_bound_at token None = false
 is_bound_at token (Some b) = b.number == number_at false token
 
--- an alias that counts and lies on a cycle is a fault; the names in every alias's type are read
+-- the outermost level of a type is a name that lies on a cycle
+abbrev pub level_on_cycle : {A B C : Type 0} → (Name → Bool) → FlowType-F A B C → Bool
+level_on_cycle is_cyclic (Ref home name) = is_cyclic (home, name)
+level_on_cycle is_cyclic level = false
+
+-- the type is a name that lies on a cycle
+abbrev pub is_on_cycle : (Name → Bool) → FlowType → Bool
+is_on_cycle is_cyclic t = level_on_cycle is_cyclic (out-FlowType t)
+
+-- an alias that counts and whose name lies on a cycle is a fault; the names in every alias's type are read
 abbrev pub alias_read : World → Program → Scope → AliasOf → Notes → Notes
 alias_read w p scope (alias f t name v) notes =
     type_read w v
-    (if is_bound_at (suc f) (binding_of scope.names name) && p.is_cyclic (p.path, name)
+    (if is_bound_at (suc f) (binding_of scope.names name) && is_on_cycle p.is_cyclic (type_meant (w.type_meaning name))
     then name_fault (fault_at w (suc f) (suc (suc f)) RecursiveAlias name) notes
     else notes)
 

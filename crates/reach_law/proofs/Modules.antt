@@ -4,7 +4,8 @@ use Rattle.js_grammar.specs.Code.{simple}
 use Rattle.js_grammar.specs.Items.{imported, Importeds, no_imported, more_imported, ImportList, import_list, ImportForm, import_default, import_both, import_names, import_types, import_only, AliasOf, alias, exported, Exporteds, no_exported, more_exported, ExportList, export_list, ExportForm, export_declaration, export_function, export_alias, export_names, export_from, export_default_function, export_default, ItemForm, imports, exports, declares_item, function_item, alias_item, does_item, item, Items, no_item, more_item, Module}
 use Rattle.check_values.specs.Rows.{Bytes}
 use Rattle.check_values.specs.declared.codes.Code.TheVariants.{RecursiveAlias}
-use Rattle.type_values.specs.declared.types.FlowType.{FlowType}
+use Rattle.type_values.specs.declared.types.FlowType.{FlowType, out-FlowType}
+use Rattle.type_values.specs.declared.types.FlowType.TheOpen.{Ref}
 use Rattle.type_values.specs.declared.types.FlowType as made
 use Rattle.type_names.specs.Names.{Name}
 use Rattle.local_signatures.specs.Scope.{scope_of, default_name}
@@ -14,28 +15,28 @@ use Rattle.typing.specs.Names.{constant, type_name, Binding, prelude, binding_of
 use Rattle.typing.specs.Names as typing
 use Rattle.typing.specs.Changes.{Change}
 use Rattle.typing.specs.States.{World, Notes, Env, Out, after, now_of, with_now, fault_at, name_fault}
-use Rattle.typing.specs.TypeFaults.{type_read}
+use Rattle.typing.specs.TypeFaults.{type_meant, type_read}
 use Rattle.typing.specs.Functions.{Bound, bind, bind_declaration, bind_function, none_bound}
 use Rattle.typing.specs.Typing.{read}
 use Rattle.module_errors.specs.Program.{Program, said, value_said, wrong_import}
 use Rattle.module_errors.specs.TopNames.{top_binding, import_binding, bind_importeds, bind_list, bind_default, bind_import, bind_alias, bind_export, bind_item, bind_items, changes_of_items, exportings_of, Exporting, exported_twice}
-use Rattle.module_errors.specs.Items.{specifier_found, specifier_read, wrong_at, imported_read, importeds_read, list_read, import_read, wrong_export, exporteds_read, exports_read, handed_on, list_handed_on, is_bound_at, alias_read, noted_env, read_export, read_item_form, read_item, read_items}
+use Rattle.module_errors.specs.Items.{specifier_found, specifier_read, wrong_at, imported_read, importeds_read, list_read, import_read, wrong_export, exporteds_read, exports_read, handed_on, list_handed_on, is_bound_at, level_on_cycle, is_on_cycle, alias_read, noted_env, read_export, read_item_form, read_item, read_items}
 use Rattle.module_errors.specs.Errors.{no_notes, top_env}
-use Rattle.reach_law.specs.Good.{Good}
+use Rattle.reach_law.specs.Good.{Level, Good, GoodLevel}
 use Rattle.reach_law.specs.Twins.{Twins, one, other, GoodBinding, GoodNames, GoodEnv}
-use Rattle.reach_law.proofs.Types.{all_append, any_good, void_good}
+use Rattle.reach_law.proofs.Types.{all_append, out_good, any_good, void_good}
 use Rattle.reach_law.proofs.Facts.{after_good}
 use Rattle.reach_law.proofs.Trees.{GoodBound, bind_good, bind_declaration_good, bind_function_good}
 use Rattle.reach_law.proofs.Written.{type_is}
 use Rattle.reach_law.proofs.Forms.{noted_env_good, with_now_good}
 use Rattle.reach_law.proofs.Cycle.{Twin, ex_same, declaration_same, simple_same, top_function_same}
 
--- what two programs say of other modules is the same, and good
+-- what two programs say of other modules is the same, and good, and good names lie on the same cycles
 pub record AreLike (In : Name → Type 0) (p q : Program) : Type 0 where
   pub deps : p.deps ≡ q.deps
   pub same_said : (spec name : Bytes) → said p spec name ≡ said q spec name
   pub good_said : (spec name : Bytes) → Good In (value_said (said q spec name))
-  pub cyclic : (name : Bytes) → p.is_cyclic (p.path, name) ≡ q.is_cyclic (q.path, name)
+  pub cyclic : (key : Name) → In key → p.is_cyclic key ≡ q.is_cyclic key
 
 module _ (In : Name → Type 0) (h : Twins In) (p q : Program) (like : AreLike In p q) where
   abbrev R : World
@@ -159,10 +160,17 @@ module _ (In : Name → Type 0) (h : Twins In) (p q : Program) (like : AreLike I
   exports_same : (m : Module) (is_type : Bool) (ns : ExportList) (notes : Notes) → exports_read R (scope_of m) is_type ns notes ≡ exports_read S (scope_of m) is_type ns notes
   exports_same m is_type (export_list f t ns trailing) notes = exporteds_same m is_type ns notes
 
+  level_same : (z : Level) → GoodLevel In z → level_on_cycle p.is_cyclic z ≡ level_on_cycle q.is_cyclic z
+  level_same (Ref home name) good = like.cyclic (home, name) good
+  level_same z good = refl
+
+  cycle_same : (name : Bytes) → is_on_cycle p.is_cyclic (type_meant (h.type_meaning name)) ≡ is_on_cycle q.is_cyclic (type_meant (h.type_meaning name))
+  cycle_same name = let t : FlowType = type_meant (h.type_meaning name) in level_same (out-FlowType t) (out_good In t (h.good_meaning name))
+
   alias_same : (scope : typing.Scope) (form : AliasOf) (notes : Notes) → alias_read R p scope form notes ≡ alias_read S q scope form notes
   alias_same scope (alias f t name v) notes =
-      ap (λ (b : Bool). type_read R v (if is_bound_at (suc f) (binding_of scope.names name) && b then name_fault (fault_at S (suc f) (suc (suc f)) RecursiveAlias name) notes else notes)) (like.cyclic name)
-      ∙ type_is In h v (if is_bound_at (suc f) (binding_of scope.names name) && q.is_cyclic (q.path, name) then name_fault (fault_at S (suc f) (suc (suc f)) RecursiveAlias name) notes else notes)
+      let noted : Bool → Notes = λ b. if is_bound_at (suc f) (binding_of scope.names name) && b then name_fault (fault_at S (suc f) (suc (suc f)) RecursiveAlias name) notes else notes in
+      ap (λ (b : Bool). type_read R v (noted b)) (cycle_same name) ∙ type_is In h v (noted (is_on_cycle q.is_cyclic (type_meant (h.type_meaning name))))
 
   -- ---- items
 

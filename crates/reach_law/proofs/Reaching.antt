@@ -2,10 +2,12 @@
 -- same for them.
 use Rattle.std.proofs.Common.{◌≡◌, ◌↔◌, ℕ, Bool, true, false, not, ◌||◌, IsTrue, List, [], ◌∷◌, ◌++◌, map, Option, Some, None, is_some, unwrap_or, bytes_eq, if◌then◌else◌, refl, sym, ap, ◌∙◌, subst}
 use Rattle.std.specs.Cmp.Lexicographic.{bytes_decides}
+use Rattle.std.specs.Option.{option_or}
 use Rattle.std.specs.List.{AllByRecursion, flat_map}
 use Rattle.std.proofs.lemmas.List.Folds.{list_any-append}
 use Rattle.flow_values.specs.declared.span.Span.{Span}
 use Rattle.js_grammar.specs.Items.{Items, Module, module_of}
+use Rattle.js_grammar.specs.Types.{Ty}
 use Rattle.check_values.specs.Rows.{Bytes, Rows, row_at, is_among}
 use Rattle.check_values.specs.FaultOrder.{faults_in_order}
 use Rattle.check_values.specs.declared.signatures.Deps.{Deps}
@@ -27,7 +29,7 @@ use Rattle.typing.specs.TypeFaults.{type_meant, written_by}
 use Rattle.module_errors.specs.Program.{Program, Saying, says_nothing, lacks_it, says_it, said_by_rows, said_by_sig, said_by, said_in, value_said, type_said, type_bound, world_of}
 use Rattle.module_errors.specs.Items.{read_items}
 use Rattle.module_errors.specs.Errors.{top_env, module_read, seen_type}
-use Rattle.errors_by_reach.specs.Seen.{Sigs, IsTable, meaning_in, own_alias, alias_told, alias_type, names_unfolded, IsSeen}
+use Rattle.errors_by_reach.specs.Seen.{Sigs, IsTable, meaning_in, own_alias, alias_told, own_type, alias_type, names_unfolded, IsSeen}
 use Rattle.reach_law.specs.Good.{Good, AllGood}
 use Rattle.reach_law.specs.Twins.{Twins, one, other}
 use Rattle.errors_by_reach.specs.Law.{Agree}
@@ -109,24 +111,29 @@ module _ (path : Bytes) (deps : Deps) (m : Module) (sigs rest table : Sigs) (t :
   meanings : meaning_in path deps sigs m ≡ meaning_in path deps rest m
   meanings = λ i name. meaning_same name (row_at (scope_of m) name) i
 
-  -- ---- the names that the module may meet: all of its own, and those of modules that it reaches or that have no signature at all
+  -- ---- the names that the module may meet: its own aliases, and all names of modules that it reaches or that have no signature at all
 
   abbrev is_told : Bytes → Bool
   is_told at = is_some (table at) || not (is_some (sigs at) || is_some (rest at))
 
+  abbrev own : Key → Option FlowType
+  own = own_type path deps m sigs
+
   abbrev inside : Key → Bool
-  inside key = bytes_eq key.0 path || is_told key.0
+  inside key = is_some (own key) || is_told key.0
 
   abbrev In : Key → Type 0
   In key = inside key ≡ true
 
   reach_in : (at name : Bytes) → Reached at → In (at, name)
   reach_in at name r =
-      or_true (bytes_eq at path) (is_told at)
+      or_true (is_some (own (at, name))) (is_told at)
       ((λ i. is_some (t.has at r i) || not (is_some (sigs at) || is_some (agree at r i))) ∙ some_or_none (is_some (sigs at)))
 
-  own_in : (name : Bytes) → In (path, name)
-  own_in name = true_or (bytes_eq path path) (is_told path) (is_itself path)
+  own_in : (name : Bytes) (u : Ty) → row_at (scope_of m) name ≡ Some (bound_alias u) → In (path, name)
+  own_in name u is =
+      true_or (is_some (own (path, name))) (is_told path)
+      (λ i. is_some (if is_itself path i then own_alias (meaning_in path deps sigs m) (is i) else None))
 
   abbrev types : Key → Option FlowType
   types = alias_type path deps m sigs
@@ -145,12 +152,12 @@ module _ (path : Bytes) (deps : Deps) (m : Module) (sigs rest table : Sigs) (t :
 
   same : (key : Key) → In key → others key ≡ types key
   same key at =
-      ap (λ (meaning : Bytes → TypeMeaning). if bytes_eq key.0 path then own_alias meaning (row_at (scope_of m) key.1) else alias_told key.1 (rest key.0)) (sym meanings)
-      ∙ go (bytes_eq key.0 path) (own_alias (meaning_in path deps sigs m) (row_at (scope_of m) key.1)) at
+      ap (λ (meaning : Bytes → TypeMeaning). option_or (if bytes_eq key.0 path then own_alias meaning (row_at (scope_of m) key.1) else None) (alias_told key.1 (rest key.0))) (sym meanings)
+      ∙ go (own key) at
     where
-      go : (b : Bool) (own : Option FlowType) → (b || is_told key.0) ≡ true → (if b then own else alias_told key.1 (rest key.0)) ≡ (if b then own else alias_told key.1 (sigs key.0))
-      go true own is = refl
-      go false own is = ap (alias_told key.1) (told_same key.0 is)
+      go : (o : Option FlowType) → (is_some o || is_told key.0) ≡ true → option_or o (alias_told key.1 (rest key.0)) ≡ option_or o (alias_told key.1 (sigs key.0))
+      go (Some u) is = refl
+      go None is = ap (alias_told key.1) (told_same key.0 is)
 
   -- ---- what the signatures of the table say is good
 
@@ -210,14 +217,14 @@ module _ (path : Bytes) (deps : Deps) (m : Module) (sigs rest table : Sigs) (t :
     where
       go : (b : Option home.Binding) → row_at (scope_of m) name ≡ b → Good In (type_meant (type_bound path deps sigs name b))
       go None is = any_good In
-      go (Some (bound_alias u)) is = ref_good In path name (own_in name)
+      go (Some (bound_alias u)) is = ref_good In path name (own_in name u is)
       go (Some (bound_import spec outer true)) is = type_said_good (said_in deps sigs spec outer) (saying_good spec outer)
       go (Some (bound_import spec outer false)) is = any_good In
       go (Some (bound_variable d)) is = any_good In
       go (Some (bound_function f)) is = any_good In
 
   closed : (key : Key) → In key → (u : FlowType) → types key ≡ Some u → Good In u
-  closed key at u is = go (bytes_eq key.0 path) at is
+  closed key at u is = go (own key) refl at is
     where
       written : (b : Option home.Binding) → own_alias (meaning_in path deps sigs m) b ≡ Some u → Good In u
       written (Some (bound_alias v)) e =
@@ -236,9 +243,13 @@ module _ (path : Bytes) (deps : Deps) (m : Module) (sigs rest table : Sigs) (t :
       by_told None f told e = cc
       by_told (Some s) f told e = names_good key.0 s (reached (table key.0) refl s f told) f u (alias_named s key.1 u e)
 
-      go : (b : Bool) → (b || is_told key.0) ≡ true → (if b then own_alias (meaning_in path deps sigs m) (row_at (scope_of m) key.1) else alias_told key.1 (sigs key.0)) ≡ Some u → Good In u
-      go true told e = written (row_at (scope_of m) key.1) e
-      go false told e = by_told (sigs key.0) refl told e
+      by_own : (b : Bool) → (if b then own_alias (meaning_in path deps sigs m) (row_at (scope_of m) key.1) else None) ≡ Some u → Good In u
+      by_own true e = written (row_at (scope_of m) key.1) e
+      by_own false e = cc
+
+      go : (o : Option FlowType) → own key ≡ o → (is_some o || is_told key.0) ≡ true → option_or o (alias_told key.1 (sigs key.0)) ≡ Some u → Good In u
+      go (Some v) f told e = by_own (bytes_eq key.0 path) (f ∙ e)
+      go None f told e = by_told (sigs key.0) refl told e
 
   -- ---- the same marks, members and subtypes
 
@@ -303,7 +314,7 @@ module _ (path : Bytes) (deps : Deps) (m : Module) (sigs rest table : Sigs) (t :
       good_said = λ spec name.
           subst (λ (saying : Saying). Good In (value_said saying)) (said_same spec name ∙ sym (λ i. said_in (looks.by_list i) (looks.by_table i) spec name))
           (value_good (said_in deps sigs spec name) (saying_good spec name));
-      cyclic = λ name. (λ i. p.is_cyclic (sees.at_path i, name)) ∙ cyclic_same (path, name) (own_in name) ∙ sym (λ i. q.is_cyclic (looks.at_path i, name));
+      cyclic = λ key at. cyclic_same key at;
     }
 
     abbrev read_in : World → Program → Items → Env

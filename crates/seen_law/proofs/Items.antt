@@ -14,9 +14,10 @@ use Rattle.typing.specs.Names.{type_name, Scope, binding_of}
 use Rattle.typing.specs.Changes.{Change}
 use Rattle.typing.specs.States.{World, Notes, Env, fault_at, name_fault, now_of}
 use Rattle.typing.specs.Functions.{Bound, none_bound}
+use Rattle.typing.specs.TypeFaults.{type_meant}
 use Rattle.module_errors.specs.Program.{Program, said, wrong_import, world_of}
 use Rattle.module_errors.specs.TopNames.{top_binding, import_binding, bind_importeds, bind_list, bind_default, bind_import, bind_alias, bind_export, bind_item, bind_items, changes_of_items, Exporting, exportings_of, exported_twice}
-use Rattle.module_errors.specs.Items.{specifier_found, specifier_read, wrong_at, imported_read, importeds_read, list_read, import_read, wrong_export, exporteds_read, exports_read, handed_on, list_handed_on, is_bound_at, alias_read, read_export, read_item_form, read_items}
+use Rattle.module_errors.specs.Items.{specifier_found, specifier_read, wrong_at, imported_read, importeds_read, list_read, import_read, wrong_export, exporteds_read, exports_read, handed_on, list_handed_on, is_bound_at, is_on_cycle, alias_read, read_export, read_item_form, read_items}
 use Rattle.module_errors.specs.Errors.{no_notes, top_env, module_read}
 use Rattle.seen_law.specs.Reads.{seen_export, seen_item, seen_items, expressions_read}
 use Rattle.seen_law.specs.Innermost.{TellsInnermost}
@@ -68,7 +69,7 @@ list_handed_kept w p is_type spec (export_list f t ns comma) n = handed_kept w p
 
 alias_kept : (w : World) (p : Program) (scope : Scope) (a : AliasOf) (n : Notes) → (alias_read w p scope a n).watched ≡ n.watched
 alias_kept w p scope (alias f t name v) n =
-    let cyclic : Bool = is_bound_at (suc f) (binding_of scope.names name) && p.is_cyclic (p.path, name) in
+    let cyclic : Bool = is_bound_at (suc f) (binding_of scope.names name) && is_on_cycle p.is_cyclic (type_meant (w.type_meaning name)) in
     let fault : Notes = name_fault (fault_at w (suc f) (suc (suc f)) RecursiveAlias name) n in
     type_kept w v (if cyclic then fault else n) ∙ either cyclic fault n n.watched refl refl
 
