@@ -2,14 +2,14 @@
 use Rattle.std.proofs.Common.{◌≡◌, map, refl, sym, ap, ◌∙◌, subst}
 use Rattle.flow_base.specs.Program.{paths_of}
 use Rattle.check_values.specs.Rows.{row_at}
-use Rattle.source_front.specs.declared.parse.ParseTree.{ParseTree}
-use Rattle.source_front.specs.declared.parse.ParseTree.TheVariants.{Tree, Broken}
-use Rattle.source_front.specs.Law.{seen, OneParse}
+use Rattle.program_check.specs.source_front.specs.declared.parse.ParseTree.{ParseTree}
+use Rattle.program_check.specs.source_front.specs.declared.parse.ParseTree.TheVariants.{Tree, Broken}
+use Rattle.program_check.specs.source_front.specs.Law.{seen, OneParse}
 use Rattle.module_resolution.specs.Dependencies.{dependencies_of}
 use Rattle.merged_signatures.specs.Imports.{IsLocal}
-use Rattle.errors_by_reach.specs.Law.{Source, HasErrors, AreErrors, OneAnswer, CutAgrees}
+use Rattle.reach_law.specs.errors_by_reach.specs.Law.{Source, HasErrors, AreErrors, OneAnswer, CutAgrees}
 use Rattle.reach_law.specs.Law.{KeyLaw, CutIsRight}
-use Rattle.check_job.specs.Jobs.{source_in}
+use Rattle.program_check.specs.check_job.specs.Jobs.{source_in}
 use Rattle.program_check.specs.Full.{Results, beside, view_in, sigs_in, module_in}
 use Rattle.affected_law.specs.Kept.{ParseServes, DepsServe, SigServes, ErrorsServe, JobsFindErrors}
 use Rattle.affected_law.proofs.Places.{module_results}

@@ -5,7 +5,7 @@ use Rattle.flow_base.specs.Program.{Bytes, Program, paths_of, text_at}
 use Rattle.check_values.specs.Rows.{row_at}
 use Rattle.merged_signatures.specs.Chains.{View}
 use Rattle.merged_signatures.specs.Merged.{merged_known, merged}
-use Rattle.errors_by_reach.specs.Seen.{Sigs}
+use Rattle.reach_law.specs.errors_by_reach.specs.Seen.{Sigs}
 use Rattle.program_check.specs.Full.{Results, beside, known_of, view_in, sigs_in, AreResultsOf, AreResults, IsFull}
 use Rattle.affected_law.specs.Affected.{IsPathOf, results_at}
 use Rattle.affected_law.specs.Kept.{IsModuleOf}

@@ -2,13 +2,13 @@
 use Rattle.std.proofs.Common.{◌≡◌, ◌⊎◌, inl, inr, List, [], ◌∷◌, map, Some, sym, ap, ◌∙◌, subst}
 use Rattle.flow_base.specs.Program.{Bytes, Program, paths_of, text_at}
 use Rattle.check_values.specs.declared.signatures.Deps.{Deps}
-use Rattle.source_front.specs.Front.{IsParse}
-use Rattle.source_front.specs.Law.{OneParse}
+use Rattle.program_check.specs.source_front.specs.Front.{IsParse}
+use Rattle.program_check.specs.source_front.specs.Law.{OneParse}
 use Rattle.merged_signatures.specs.Merged.{merged}
 use Rattle.merged_signatures.specs.Imports.{IsLocal}
-use Rattle.errors_by_reach.specs.Law.{HasErrors, Agree}
+use Rattle.reach_law.specs.errors_by_reach.specs.Law.{HasErrors, Agree}
 use Rattle.reach_law.specs.Law.{KeyLaw}
-use Rattle.check_job.specs.Jobs.{source_in}
+use Rattle.program_check.specs.check_job.specs.Jobs.{source_in}
 use Rattle.program_check.specs.Full.{Results, beside, view_in, sigs_in, deps_in, AreResultsOf, AreResults, IsFull}
 use Rattle.affected_law.specs.Affected.{results_at}
 use Rattle.affected_law.specs.Kept.{KeepsImports, IsModuleOf}

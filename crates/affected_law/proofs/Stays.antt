@@ -2,12 +2,12 @@
 use Rattle.std.proofs.Common.{◌≡◌, map, sym, ◌∙◌, subst}
 use Rattle.flow_base.specs.Program.{Bytes, text_at}
 use Rattle.check_values.specs.declared.signatures.Deps.{Deps}
-use Rattle.source_front.specs.Front.{IsParse}
-use Rattle.source_front.specs.Law.{OneParse}
+use Rattle.program_check.specs.source_front.specs.Front.{IsParse}
+use Rattle.program_check.specs.source_front.specs.Law.{OneParse}
 use Rattle.merged_signatures.specs.Imports.{IsLocal}
-use Rattle.errors_by_reach.specs.Law.{HasErrors, Agree, OneAnswer}
+use Rattle.reach_law.specs.errors_by_reach.specs.Law.{HasErrors, Agree, OneAnswer}
 use Rattle.reach_law.specs.Law.{KeyLaw}
-use Rattle.check_job.specs.Jobs.{source_in}
+use Rattle.program_check.specs.check_job.specs.Jobs.{source_in}
 use Rattle.program_check.specs.Full.{Results, beside, view_in, sigs_in}
 use Rattle.affected_law.specs.Affected.{by_text}
 use Rattle.affected_law.specs.Law.{ParsesStay, SignaturesStay, ErrorsStay, ResultsStay, KeepsCheck, ParsedAreChecked, ChecksGoByMerging}

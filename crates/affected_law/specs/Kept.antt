@@ -4,13 +4,13 @@ use Rattle.flow_base.specs.Program.{Bytes, Program, paths_of, text_at}
 use Rattle.check_values.specs.Rows.{Rows, row_at}
 use Rattle.check_values.specs.declared.faults.Fault.{Fault}
 use Rattle.check_values.specs.declared.signatures.Sig.{Sig}
-use Rattle.source_front.specs.declared.parse.Parse.{Parse}
-use Rattle.source_front.specs.Front.{IsParse}
+use Rattle.program_check.specs.source_front.specs.declared.parse.Parse.{Parse}
+use Rattle.program_check.specs.source_front.specs.Front.{IsParse}
 use Rattle.merged_signatures.specs.Chains.{View}
 use Rattle.merged_signatures.specs.Imports.{Imports, Edge}
 use Rattle.merged_signatures.specs.Merged.{merged}
-use Rattle.errors_by_reach.specs.Law.{HasErrors, AreErrors, Agree}
-use Rattle.check_job.specs.Jobs.{source_in}
+use Rattle.reach_law.specs.errors_by_reach.specs.Law.{HasErrors, AreErrors, Agree}
+use Rattle.program_check.specs.check_job.specs.Jobs.{source_in}
 use Rattle.program_check.specs.Full.{Results, view_in, sigs_in, deps_in, IsFull}
 use Rattle.affected_law.specs.Affected.{results_at}
 

@@ -1,9 +1,9 @@
 -- What an edit of a program cannot change in its full check.
 use Rattle.std.specs.Prelude.{◌≡◌, ◌↔◌, List, Some}
 use Rattle.flow_base.specs.Program.{Bytes, Program, text_at}
-use Rattle.source_front.specs.Law.{Same}
+use Rattle.program_check.specs.source_front.specs.Law.{Same}
 use Rattle.merged_signatures.specs.Reach.{Reach}
-use Rattle.errors_by_reach.specs.Law.{Agree}
+use Rattle.reach_law.specs.errors_by_reach.specs.Law.{Agree}
 use Rattle.program_check.specs.Full.{Results, view_in, sigs_in, IsFull}
 use Rattle.program_check.specs.Law.{Alike}
 use Rattle.affected_law.specs.Affected.{results_at, Parsed, Merged, Checked}

@@ -1,3 +1,6 @@
+pub use Rattle.program_check.specs.check_job
+pub use Rattle.program_check
+pub use Rattle.program_check.specs.source_front
 pub mod Affected
 pub mod Kept
 pub mod Law

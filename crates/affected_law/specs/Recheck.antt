@@ -1,10 +1,10 @@
 -- A full check that is made in part, and kept in part from the one before.
 use Rattle.std.specs.Prelude.{◌≡◌, ◌⊎◌, List, [], ◌∷◌, Some}
 use Rattle.flow_base.specs.Program.{Bytes, Program, paths_of, text_at}
-use Rattle.source_front.specs.Front.{IsParse}
+use Rattle.program_check.specs.source_front.specs.Front.{IsParse}
 use Rattle.merged_signatures.specs.Merged.{merged}
-use Rattle.errors_by_reach.specs.Law.{HasErrors, Agree}
-use Rattle.check_job.specs.Jobs.{source_in}
+use Rattle.reach_law.specs.errors_by_reach.specs.Law.{HasErrors, Agree}
+use Rattle.program_check.specs.check_job.specs.Jobs.{source_in}
 use Rattle.program_check.specs.Full.{Results, view_in, sigs_in, deps_in, IsFull}
 use Rattle.affected_law.specs.Affected.{results_at}
 use Rattle.affected_law.specs.Kept.{KeepsImports}

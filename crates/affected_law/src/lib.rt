@@ -15,9 +15,9 @@ pub fn what_stays()
     ensures errors { ErrorsStay }
     ensures results { ResultsStay }
 {
-    source_front::one_parse();
+    program_check::source_front::one_parse();
     merged_signatures::merging_is_local();
-    errors_by_reach::errors_by_reach();
+    reach_law::errors_by_reach::errors_by_reach();
     reach_law::key_law();
 }
 
@@ -53,7 +53,7 @@ pub fn what_serves_on()
     ensures sig { SigServes }
     ensures errors { ErrorsServe }
 {
-    source_front::one_parse();
+    program_check::source_front::one_parse();
     merged_signatures::merging_is_local();
     reach_law::key_law();
 }
@@ -62,7 +62,7 @@ pub fn what_serves_on()
 pub fn what_jobs_find()
     ensures { JobsFindErrors }
 {
-    errors_by_reach::errors_by_reach();
+    reach_law::errors_by_reach::errors_by_reach();
     reach_law::key_law();
     reach_law::cut_is_right();
 }
@@ -71,7 +71,7 @@ pub fn what_jobs_find()
 pub fn rechecked_is_full()
     ensures { RecheckedIsFull }
 {
-    source_front::one_parse();
+    program_check::source_front::one_parse();
     merged_signatures::merging_is_local();
     reach_law::key_law();
 }

@@ -8,7 +8,7 @@ use Rattle.check_values.specs.contracts.signatures.Sig as sig_type
 use Rattle.merged_signatures.specs.Chains.{Known, View, found}
 use Rattle.merged_signatures.specs.Imports.{Imports, itself, further, Edge}
 use Rattle.merged_signatures.specs.Reach.{Reach}
-use Rattle.program_check.specs.Full.{Results, beside, known_of, view_in, sigs_in, IsFull}
+use Rattle.full_law.specs.program_check.specs.Full.{Results, beside, known_of, view_in, sigs_in, IsFull}
 use Rattle.affected_law.specs.Affected.{IsPathOf, results_at, Differs, Parsed, Merged, Checked, by_text, by_deps, by_reach}
 use Rattle.affected_law.proofs.Places.{module_at, one_at}
 use Rattle.affected_law.proofs.Inside.{imports_stay_inside, reach_stays_inside}

@@ -1,15 +1,15 @@
 ghost use Rattle.std.specs.Prelude.{◌≡◌, IfOk, length};
-ghost use Rattle.source_front.specs.Front.{IsParse};
+ghost use Rattle.check_job.specs.source_front.specs.Front.{IsParse};
 ghost use Rattle.merged_signatures.specs.Job.{job_signatures};
 ghost use Rattle.job_ends.specs.Jobs.{job_view};
 ghost use Rattle.check_job.specs.Jobs.{AreErrorsOf};
 ghost use Rattle.analyst.specs.Work.{Work, Works, fronting, merging, checking, IsCounted};
 
 use check_job::CheckJob;
+use check_job::source_front::Parse;
 use check_values::{Errs, Sig};
 use flow_values::{List, NoMemory, Text};
 use job_ends::MergeJob;
-use source_front::Parse;
 
 /// Who reads sources, merges signatures and checks modules. Each answer is the definition's, so it doesn't matter which analyst gave
 /// it.

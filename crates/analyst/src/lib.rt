@@ -4,3 +4,5 @@
 mod analyst;
 
 pub use analyst::Analyst;
+pub use check_job;
+pub use check_job::source_front;

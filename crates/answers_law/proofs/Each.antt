@@ -6,14 +6,14 @@ use Rattle.std.specs.Cmp.Lexicographic.{bytes_decides}
 use Rattle.flow_base.specs.Program.{Bytes, Program, paths_of}
 use Rattle.check_values.specs.Rows.{row_at}
 use Rattle.check_values.specs.declared.signatures.Sig.{Sig}
-use Rattle.source_front.specs.declared.parse.Parse.{Parse}
-use Rattle.source_front.specs.Front.{IsParse}
+use Rattle.full_law.specs.source_front.specs.declared.parse.Parse.{Parse}
+use Rattle.full_law.specs.source_front.specs.Front.{IsParse}
 use Rattle.merged_signatures.specs.Chains.{View}
 use Rattle.merged_signatures.specs.Merged.{merged}
 use Rattle.errors_by_reach.specs.Seen.{Sigs}
 use Rattle.errors_law.specs.Law.{EachHasErrors}
-use Rattle.check_job.specs.Jobs.{source_in}
-use Rattle.program_check.specs.Full.{Results, beside, deps_in, view_in, sigs_in, AreResults, IsFull}
+use Rattle.full_law.specs.check_job.specs.Jobs.{source_in}
+use Rattle.full_law.specs.program_check.specs.Full.{Results, beside, deps_in, view_in, sigs_in, AreResults, IsFull}
 use Rattle.full_law.specs.Law.{EachFull}
 use Rattle.shown_types.specs.Law.{EachHasType}
 use Rattle.asks.specs.declared.answer.Answer.TheVariants.{Faults, Found, Paths, Sig as TheSig}

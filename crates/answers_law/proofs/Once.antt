@@ -14,19 +14,19 @@ use Rattle.check_values.specs.declared.signatures.Deps.{Deps}
 use Rattle.check_values.specs.declared.signatures.Sig.{Sig}
 use Rattle.type_values.specs.declared.types.FlowType.{FlowType}
 use Rattle.js_grammar.specs.Items.{Module}
-use Rattle.source_front.specs.declared.parse.ParseTree.{ParseTree}
-use Rattle.source_front.specs.declared.parse.ParseTree.TheVariants.{Tree, Broken}
-use Rattle.source_front.specs.declared.parse.Parse.{Parse}
-use Rattle.source_front.specs.Law as law
-use Rattle.source_front.specs.Law.{Seen, seen, Same, OneParse}
+use Rattle.full_law.specs.source_front.specs.declared.parse.ParseTree.{ParseTree}
+use Rattle.full_law.specs.source_front.specs.declared.parse.ParseTree.TheVariants.{Tree, Broken}
+use Rattle.full_law.specs.source_front.specs.declared.parse.Parse.{Parse}
+use Rattle.full_law.specs.source_front.specs.Law as law
+use Rattle.full_law.specs.source_front.specs.Law.{Seen, seen, Same, OneParse}
 use Rattle.module_resolution.specs.Dependencies.{dependencies_of}
 use Rattle.merged_signatures.specs.Chains.{Known, View}
 use Rattle.errors_by_reach.specs.Seen.{Sigs}
 use Rattle.errors_by_reach.specs.Law.{Source, whole, broken, HasErrors}
 use Rattle.errors_by_reach.specs.Law as reached
-use Rattle.check_job.specs.Jobs.{source_in, fault_code, fault_place}
-use Rattle.program_check.specs.Full.{Results, beside, known_of, module_in, deps_in, view_in, sigs_in, AreResultsOf}
-use Rattle.program_check.specs.Law.{Alike, AllAlike, OneFull}
+use Rattle.full_law.specs.check_job.specs.Jobs.{source_in, fault_code, fault_place}
+use Rattle.full_law.specs.program_check.specs.Full.{Results, beside, known_of, module_in, deps_in, view_in, sigs_in, AreResultsOf}
+use Rattle.full_law.specs.program_check.specs.Law.{Alike, AllAlike, OneFull}
 use Rattle.shown_types.specs.Shown.{IsShown}
 use Rattle.shown_types.specs.Law.{OneType}
 use Rattle.asks.specs.declared.answer.Answer.TheVariants.{Faults, Paths, Sig as TheSig}

@@ -4,7 +4,7 @@ use Rattle.std.specs.Prelude.{Ok, Err}
 use Rattle.type_values.specs.declared.types.FlowType.{FlowType}
 use Rattle.flow_base.specs.Program.{Bytes, Program}
 use Rattle.check_values.specs.Rows.{row_at}
-use Rattle.program_check.specs.Full.{Results}
+use Rattle.full_law.specs.program_check.specs.Full.{Results}
 use mathlib.Core.Logic.{∥∥₁_elim}
 use Rattle.asks.specs.Kinds.{asked_path, IsOfKind, IsUnknown, IsRefusal, CanAnswer}
 use Rattle.asks.specs.declared.answer.Answer.{Answer}

@@ -7,8 +7,8 @@ use Rattle.check_values.specs.Rows.{Rows, row_at}
 use Rattle.check_values.specs.declared.signatures.DepRow.{DepRow}
 use Rattle.type_values.specs.declared.types.FlowType.{FlowType}
 use Rattle.module_resolution.specs.Resolution.{resolved}
-use Rattle.check_job.specs.Jobs.{source_in}
-use Rattle.program_check.specs.Full.{Results, view_in, sigs_in, AreResultsOf, IsFull}
+use Rattle.full_law.specs.check_job.specs.Jobs.{source_in}
+use Rattle.full_law.specs.program_check.specs.Full.{Results, view_in, sigs_in, AreResultsOf, IsFull}
 use Rattle.shown_types.specs.Shown.{IsShown}
 use Rattle.asks.specs.Places.{errors_at}
 use Rattle.asks.specs.declared.answer.Located.{Located}

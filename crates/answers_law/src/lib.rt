@@ -9,8 +9,8 @@ ghost use Rattle.answers_law.specs.Law.{OneAnswer, EachHasAnswer, CanBePrinted};
 pub fn one_answer()
     ensures { OneAnswer }
 {
-    program_check::one_full();
-    source_front::one_parse();
+    full_law::program_check::one_full();
+    full_law::source_front::one_parse();
     errors_by_reach::errors_by_reach();
     shown_types::one_type();
 }

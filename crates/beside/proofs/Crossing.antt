@@ -7,9 +7,9 @@ use Rattle.asks.specs.contracts.ask.Ask as Ask
 use Rattle.check_values.specs.contracts.faults.Errs as Errs
 use Rattle.check_values.specs.contracts.root.Root as Root
 use Rattle.check_values.specs.contracts.root.RootRow as RootRow
-use Rattle.payloads.specs.contracts.payload.Payload as Payload
-use Rattle.tree_crossing.proofs.Formers.{formers}
-use Rattle.tree_crossing.proofs.Jobs.{path_send, path_sync, flow_type_send, code_send, shared_parse_send, shared_parse_sync, shared_deps_send, shared_deps_sync, shared_sig_send, shared_sig_sync, fault_send, fault_sync}
+use Rattle.request_core.specs.payloads.specs.contracts.payload.Payload as Payload
+use Rattle.recheck_run.specs.tree_crossing.proofs.Formers.{formers}
+use Rattle.recheck_run.specs.tree_crossing.proofs.Jobs.{path_send, path_sync, flow_type_send, code_send, shared_parse_send, shared_parse_sync, shared_deps_send, shared_deps_sync, shared_sig_send, shared_sig_sync, fault_send, fault_sync}
 
 root_row_send : IsSend (RootRow.the_field).row
 root_row_send = search (formers, path_send) depth 20

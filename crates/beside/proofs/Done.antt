@@ -3,9 +3,9 @@ use Rattle.std.proofs.Common.{◌≡◌, ℕ, List, length, set, slice_get, sym,
 use Rattle.std.specs.Prelude.{IfOk}
 use Rattle.std.specs.List.{AllZip}
 use Rattle.heap_core.specs.declared.traits.Program.{Ghosts}
-use Rattle.payloads.specs.declared.payload.Payload.{Payload}
+use Rattle.request_core.specs.payloads.specs.declared.payload.Payload.{Payload}
 use Rattle.asks.specs.declared.ask.Ask.{Ask}
-use Rattle.answers_law.specs.Answers.{Answered}
+use Rattle.request_core.specs.answers_law.specs.Answers.{Answered}
 use Rattle.recheck_run.specs.Recheck.{RecheckState}
 use Rattle.recheck_run.specs.declared.outcome.Outcome.{Outcome}
 use Rattle.entity_heap.specs.declared.heap.Heap.{Heap}

@@ -3,9 +3,9 @@ use Rattle.std.proofs.Common.{◌≡◌, ◌⊎◌, inl, inr, ⊎_elim, ℕ, ◌
 use Rattle.std.specs.List.{AllZip}
 use Rattle.heap_core.specs.Meaning.{Meaning}
 use Rattle.heap_core.specs.declared.traits.Program.{Ghosts}
-use Rattle.payloads.specs.declared.payload.Payload.{Payload}
+use Rattle.request_core.specs.payloads.specs.declared.payload.Payload.{Payload}
 use Rattle.asks.specs.declared.ask.Ask.{Ask}
-use Rattle.answers_law.specs.Answers.{Answered}
+use Rattle.request_core.specs.answers_law.specs.Answers.{Answered}
 use Rattle.recheck_run.specs.Recheck.{RecheckState, IsAsBefore, Rechecked, Tells}
 use Rattle.recheck_run.specs.declared.outcome.Outcome as declared
 use Rattle.recheck_run.specs.declared.outcome.Outcome.TheVariants as outcome

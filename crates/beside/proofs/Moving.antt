@@ -5,13 +5,13 @@ use Rattle.std.specs.List.{AllZip}
 use Rattle.flow_base.specs.Seen.{FolderSeen}
 use Rattle.heap_core.specs.Meaning.{Meaning}
 use Rattle.heap_core.specs.declared.traits.Program.{Ghosts}
-use Rattle.payloads.specs.declared.payload.Payload.{Payload}
-use Rattle.payloads.specs.declared.payload.Payload.TheVariants as payload
+use Rattle.request_core.specs.payloads.specs.declared.payload.Payload.{Payload}
+use Rattle.request_core.specs.payloads.specs.declared.payload.Payload.TheVariants as payload
 use Rattle.pending_edits.specs.Pending.{Pending}
 use Rattle.stops.specs.Asked.{StopSeen}
-use Rattle.analyst.specs.Work.{Work}
+use Rattle.request_core.specs.analyst.specs.Work.{Work}
 use Rattle.asks.specs.declared.ask.Ask.{Ask}
-use Rattle.answers_law.specs.Answers.{Answered}
+use Rattle.request_core.specs.answers_law.specs.Answers.{Answered}
 use Rattle.recheck_run.specs.Recheck.{HasRoom, Rechecked, Tells}
 use Rattle.recheck_run.specs.declared.outcome.Outcome as declared
 use Rattle.entity_heap.specs.declared.board.Plan.{Plan}

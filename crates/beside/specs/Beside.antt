@@ -4,12 +4,12 @@ use Rattle.flow_base.specs.Seen.{FolderSeen}
 use Rattle.check_values.specs.declared.root.Root.{Root}
 use Rattle.check_values.specs.Roots.{paths_of}
 use Rattle.heap_core.specs.declared.traits.Program.{Ghosts}
-use Rattle.payloads.specs.declared.payload.Payload.{Payload}
+use Rattle.request_core.specs.payloads.specs.declared.payload.Payload.{Payload}
 use Rattle.pending_edits.specs.Pending.{Pending}
 use Rattle.pending_edits.specs.Counting.{counted}
 use Rattle.asks.specs.declared.ask.Ask.{Ask}
-use Rattle.answers_law.specs.Answers.{Answered}
-use Rattle.heap_answers.specs.States.{program_in, Answers}
+use Rattle.request_core.specs.answers_law.specs.Answers.{Answered}
+use Rattle.request_core.specs.heap_answers.specs.States.{program_in, Answers}
 use Rattle.request_core.specs.Works.{WorksFor}
 use Rattle.lane_asks.specs.Dealing.{AreRows, AreFull}
 use Rattle.lane_asks.specs.Telling.{AllHaveTold, IsToldFrom}
@@ -17,7 +17,7 @@ use Rattle.lane_asks.specs.declared.dealing.Row.{Row}
 use Rattle.lane_asks.specs.declared.told.Told.{Told}
 use Rattle.std.specs.List.{AllZip}
 use Rattle.stops.specs.Asked.{StopSeen}
-use Rattle.analyst.specs.Work.{Work}
+use Rattle.request_core.specs.analyst.specs.Work.{Work}
 use Rattle.recheck_run.specs.Recheck.{RecheckState, HasRoom, Commits, Rechecked, CountsReads, Tells}
 use Rattle.recheck_run.specs.declared.outcome.Outcome as declared
 use Rattle.entity_heap.specs.declared.heap.Heap.{Heap}

@@ -8,6 +8,11 @@ pub use Rattle.recheck_run.specs.Extent
 pub use Rattle.recheck_run.specs.Recheck
 pub use Rattle.recheck_run.specs.declared.outcome.Outcome
 pub use Rattle.request_core.specs.Works
+pub use Rattle.recheck_run.specs.affected_sizes
+pub use Rattle.request_core.specs.answers_law
+pub use Rattle.recheck_run.specs.edited_root
+pub use Rattle.recheck_run.specs.full_law
+pub use Rattle.request_core.specs.heap_answers
 pub mod Beside
 pub mod Server
 pub mod Uses

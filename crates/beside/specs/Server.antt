@@ -1,9 +1,9 @@
 -- The heap of modules as it runs, and what is answered on its lanes.
 use Rattle.std.specs.Prelude.{◌≡◌, ◌⊎◌, ℕ, List, map}
 use Rattle.heap_core.specs.declared.traits.Program.{Ghosts}
-use Rattle.payloads.specs.declared.payload.Payload.{Payload}
+use Rattle.request_core.specs.payloads.specs.declared.payload.Payload.{Payload}
 use Rattle.asks.specs.declared.ask.Ask.{Ask}
-use Rattle.answers_law.specs.Answers.{Answered}
+use Rattle.request_core.specs.answers_law.specs.Answers.{Answered}
 use Rattle.lane_asks.specs.declared.told.Told.{Told}
 use Rattle.entity_heap.specs.declared.heap.Lane.{Lane}
 use Rattle.entity_heap.specs.declared.heap.Writer.{Writer}

@@ -1,9 +1,9 @@
-use analyst::Analyst;
 use asks::{Answer, Ask, AskFault};
 use entity_heap::Snapshot;
 use lane_asks::Asked;
-use payloads::Payload;
-use place_analyst::PlaceAnalyst;
+use request_core::analyst::Analyst;
+use request_core::payloads::Payload;
+use request_core::place_analyst::PlaceAnalyst;
 use std::alloc::Global;
 
 /// What was answered, or why nothing was, and the version that it was answered from.

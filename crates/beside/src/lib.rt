@@ -9,6 +9,7 @@ mod together;
 
 pub use asking::Told;
 pub use entity_heap::{Heap, Lane, Writer, open};
-pub use recheck_run::Outcome;
+pub use recheck_run::{Outcome, affected_sizes};
+pub use request_core::{answers_law, place_analyst};
 pub use serving::Server;
 pub use together::beside;

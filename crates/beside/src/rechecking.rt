@@ -1,14 +1,14 @@
 ghost use Rattle.std.specs.Prelude.{◌≡◌, ◌<◌, length, map};
-ghost use Rattle.work_totals.specs.Totals.{total};
+ghost use Rattle.recheck_run.specs.work_totals.specs.Totals.{total};
 ghost use Rattle.entity_heap.specs.Writers.{IsWriterOf};
 ghost use Rattle.beside.specs.Beside.{MayRecheck, HasRechecked, state_of};
 
-use analyst::Analyst;
 use entity_heap::{Heap, Writer};
 use flow_base::{Folder, Turnstile};
-use payloads::Payload;
 use pending_edits::Edits;
 use recheck_run::{Outcome, recheck};
+use request_core::analyst::Analyst;
+use request_core::payloads::Payload;
 use std::alloc::Global;
 use std::sync::Wait;
 use std::thread::Threads;

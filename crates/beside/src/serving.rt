@@ -1,7 +1,7 @@
 //! The heap of modules as it runs, and its two calls: a recheck with asks beside it, and one ask.
 ghost use Rattle.std.specs.Prelude.{◌≡◌, ◌+◌, ◌^◌, ◌<◌, ◌≤◌, [], ◌∷◌, IfOk, OnErr, length, map};
 ghost use Rattle.std.specs.List.{AllZip};
-ghost use Rattle.work_totals.specs.Totals.{total};
+ghost use Rattle.recheck_run.specs.work_totals.specs.Totals.{total};
 ghost use Rattle.request_core.specs.Works.{WorksFor};
 ghost use Rattle.entity_heap.specs.Lanes.{visit_in, IsLaneOf};
 ghost use Rattle.entity_heap.specs.Writers.{IsWriterOf, plan_in, meaning_in};
@@ -12,16 +12,16 @@ ghost use Rattle.beside.specs.Server.{IsRunning, IsToldOf, IsToldOfEither, IsSam
 
 use crate::asking::Told;
 use crate::together::beside;
-use analyst::Analyst;
 use asks::Ask;
 use entity_heap::{Heap, Lane, Writer};
 use flow_base::{Folder, Point, Turnstile};
 use flow_values::{List, NoMemory};
 use heap_core::HeapReader;
-use payloads::Payload;
 use pending_edits::Edits;
-use place_analyst::PlaceAnalyst;
 use recheck_run::Outcome;
+use request_core::analyst::Analyst;
+use request_core::payloads::Payload;
+use request_core::place_analyst::PlaceAnalyst;
 use std::alloc::Global;
 use std::mem;
 use std::sync::Wait;

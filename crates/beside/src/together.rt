@@ -1,7 +1,7 @@
 ghost use Rattle.std.specs.Prelude.{◌≡◌, ◌<◌, IfOk, OnOk, OnErr, length, map};
 ghost use Rattle.std.specs.List.{AllZip};
 ghost use Rattle.std.specs.Thread.{IsSync, IsSend};
-ghost use Rattle.work_totals.specs.Totals.{total};
+ghost use Rattle.recheck_run.specs.work_totals.specs.Totals.{total};
 ghost use Rattle.entity_heap.specs.Writers.{IsWriterOf, plan_in, meaning_in};
 ghost use Rattle.lane_asks.specs.Dealing.{AreOpen};
 ghost use Rattle.lane_asks.specs.Telling.{IsSameLane, IsReady, AllTold, AllHaveTold, IsToldFrom};
@@ -9,16 +9,16 @@ ghost use Rattle.beside.specs.Beside.{IsServer, MayPin, MayRecheck, HasRechecked
 
 use crate::asking::{Asking, Told};
 use crate::rechecking::recheck_on;
-use analyst::Analyst;
 use asks::{Answer, Ask, AskFault};
 use entity_heap::{Heap, Lane, Writer};
 use flow_base::{Folder, Turnstile};
 use flow_values::{List, NoMemory};
 use lane_asks::{Row, answer_beside, gather, open_rows};
-use payloads::Payload;
 use pending_edits::Edits;
-use place_analyst::PlaceAnalyst;
 use recheck_run::Outcome;
+use request_core::analyst::Analyst;
+use request_core::payloads::Payload;
+use request_core::place_analyst::PlaceAnalyst;
 use std::alloc::Global;
 use std::sync::Wait;
 use std::thread::Threads;

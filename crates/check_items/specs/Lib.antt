@@ -1,3 +1,4 @@
+pub use Rattle.check_moves
 pub mod View
 pub mod Exported
 pub mod Meant

@@ -9,6 +9,8 @@ mod naming;
 mod types;
 
 pub use binding::{bind_items, bind_prelude};
+pub use check_expr;
+pub use check_moves;
 pub use exports::note_second_exports;
 pub use items::{Module, read_item};
 pub use types::{Types, types_of};

@@ -2,7 +2,7 @@
 use Rattle.std.proofs.Common.{List, ap, ◌∙◌}
 use Rattle.check_values.specs.Rows.{row_at}
 use Rattle.check_values.specs.declared.faults.Fault.{Fault}
-use Rattle.module_errors.specs.Errors.{errors_beside}
+use Rattle.errors_by_reach.specs.module_errors.specs.Errors.{errors_beside}
 use Rattle.errors_by_reach.specs.Law.{Source, whole, broken, AreErrors}
 use Rattle.check_job.specs.declared.job.CheckJob.{CheckJob}
 use Rattle.check_job.specs.Jobs.{source_of, AreErrorsBeside, AreErrorsOf, HasFaults, IsFronted}

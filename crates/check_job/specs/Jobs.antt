@@ -7,14 +7,14 @@ use Rattle.check_values.specs.declared.faults.Fault.{Fault}
 use Rattle.check_values.specs.declared.signatures.Deps.{Deps}
 use Rattle.check_values.specs.declared.codes.Code.{Code}
 use Rattle.check_values.specs.declared.codes.Code.TheVariants.{NotUtf8, BadToken, SourceTooLong, Parse}
-use Rattle.js_tree.specs.View.{module_view}
-use Rattle.local_signatures.specs.Faults.{signature_faults}
+use Rattle.source_front.specs.js_tree.specs.View.{module_view}
+use Rattle.errors_by_reach.specs.local_signatures.specs.Faults.{signature_faults}
 use Rattle.source_front.specs.declared.parse.ParseTree.{ParseTree}
 use Rattle.source_front.specs.declared.parse.ParseTree.TheVariants as tree
 use Rattle.source_front.specs.declared.parse.SourceFault.{SourceFault}
 use Rattle.source_front.specs.declared.parse.SourceFault.TheVariants as fault
-use Rattle.module_errors.specs.Program.{Program}
-use Rattle.module_errors.specs.Errors.{errors_beside, broken_errors}
+use Rattle.errors_by_reach.specs.module_errors.specs.Program.{Program}
+use Rattle.errors_by_reach.specs.module_errors.specs.Errors.{errors_beside, broken_errors}
 use Rattle.errors_by_reach.specs.Law.{Source, whole, broken}
 use Rattle.errors_by_reach.specs.Seen.{Sigs, IsTable, IsSeen}
 use Rattle.check_job.specs.declared.job.CheckJob.{CheckJob}

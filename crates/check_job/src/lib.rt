@@ -3,4 +3,6 @@
 
 mod job;
 
+pub use errors_by_reach;
 pub use job::CheckJob;
+pub use source_front;

@@ -28,9 +28,9 @@ use Rattle.errors_by_reach.specs.Law.{whole, IsTypeAt}
 use Rattle.import_sayings.specs.View.{sigs_of}
 use Rattle.check_job.specs.declared.job.CheckJob.{CheckJob}
 use Rattle.check_job.specs.Jobs.{AreErrorsBeside}
-use Rattle.check_moves.specs.View.{env, around, now, told}
-use Rattle.check_moves.specs.declared.state.Read.{Read}
-use Rattle.check_moves.specs.declared.state.State.{State}
+use Rattle.check_items.specs.check_moves.specs.View.{env, around, now, told}
+use Rattle.check_items.specs.check_moves.specs.declared.state.Read.{Read}
+use Rattle.check_items.specs.check_moves.specs.declared.state.State.{State}
 use Rattle.check_items.specs.View.{bound_over, Sees, Says}
 use Rattle.check_items.proofs.InOrder.{items_none, items_more, items_all}
 use Rattle.alias_table.specs.Table.{is_marked}

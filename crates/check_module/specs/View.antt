@@ -18,7 +18,7 @@ use Rattle.module_errors.specs.Errors.{no_notes, top_env}
 use Rattle.errors_by_reach.specs.Seen.{Sigs, IsTable, IsSeen, alias_told}
 use Rattle.import_sayings.specs.View.{sigs_of}
 use Rattle.check_job.specs.declared.job.CheckJob.{CheckJob}
-use Rattle.check_moves.specs.View.{env}
+use Rattle.check_items.specs.check_moves.specs.View.{env}
 use Rattle.check_items.specs.View.{Says}
 use Rattle.check_module.specs.declared.around.Around.{Around}
 use Rattle.check_module.specs.declared.checker.Checker.{Checker}

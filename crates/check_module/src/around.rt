@@ -2,7 +2,7 @@
 #![tactic(auto)]
 
 ghost use Rattle.std.specs.Prelude.{◌≡◌, OnOk, IfOk};
-ghost use Rattle.check_moves.specs.View.{env};
+ghost use Rattle.check_items.specs.check_moves.specs.View.{env};
 ghost use Rattle.check_world.specs.View.{world_view};
 ghost use Rattle.js_tree.specs.View.{items_view, module_view};
 ghost use Rattle.module_errors.specs.Program.{Program};
@@ -13,9 +13,9 @@ ghost use Rattle.check_items.specs.Aliases.{own_aliases};
 ghost use Rattle.check_module.specs.View.{HasAliases, prelude_env};
 
 use alias_table::AliasTable;
+use check_items::check_moves::State;
 use check_items::{Types, bind_items, bind_prelude, note_second_exports, types_of};
 use check_job::CheckJob;
-use check_moves::State;
 use check_world::{TypeScope, World};
 use flow_values::{NoMemory, Span};
 use import_sayings::{Imports, add_reached_aliases};

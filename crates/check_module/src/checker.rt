@@ -19,10 +19,10 @@ ghost use Rattle.check_job.specs.Jobs.{source_of, IsWhole};
 
 use crate::around::Around;
 use binders::annotated;
-use check_expr::read;
+use check_items::check_expr::read;
+use check_items::check_moves::State;
 use check_items::{Module as Reading, read_item};
 use check_job::CheckJob;
-use check_moves::State;
 use check_values::Fault;
 use check_world::Notes;
 use code_tree::Expr;
@@ -68,7 +68,7 @@ impl<'j> Checker<'j> {
     }
 
     // Forgets the faults so far, before the first item.
-    #[tactic(auto, unfolding(crate::specs::View::checker_env, check_moves::specs::View::around, check_moves::specs::View::now))]
+    #[tactic(auto, unfolding(crate::specs::View::checker_env, check_items::specs::check_moves::specs::View::around, check_items::specs::check_moves::specs::View::now))]
     fn forget_faults(&mut self)
         ensures env { checker_env self.new ≡ record (checker_env self.old) { notes = no_notes } }
         ensures around { self.new.around ≡ self.old.around }
@@ -193,7 +193,7 @@ impl<'j> Checker<'j> {
     }
 
     /// The faults so far, in the order of finding, each once.
-    #[tactic(auto, unfolding(crate::specs::View::checker_env, check_moves::specs::View::now))]
+    #[tactic(auto, unfolding(crate::specs::View::checker_env, check_items::specs::check_moves::specs::View::now))]
     pub fn faults(&self) -> &[Fault]
         ensures { result.now ≡ (checker_env self.now).notes.faults }
     {

@@ -12,17 +12,17 @@ use Rattle.check_values.specs.declared.signatures.Deps.{Deps}
 use Rattle.check_values.specs.declared.signatures.Sig.{Sig}
 use Rattle.check_values.specs.declared.faults.Fault.{Fault}
 use Rattle.check_values.specs.declared.signatures.LocalSig.{LocalSig}
-use Rattle.source_front.specs.Front.{Says, IsParse}
-use Rattle.source_front.specs.declared.parse.Parse.{Parse}
-use Rattle.source_front.specs.declared.parse.ParseTree.{ParseTree}
-use Rattle.source_front.specs.declared.parse.ParseTree.TheVariants.{Tree, Broken}
+use Rattle.analyst.specs.source_front.specs.Front.{Says, IsParse}
+use Rattle.analyst.specs.source_front.specs.declared.parse.Parse.{Parse}
+use Rattle.analyst.specs.source_front.specs.declared.parse.ParseTree.{ParseTree}
+use Rattle.analyst.specs.source_front.specs.declared.parse.ParseTree.TheVariants.{Tree, Broken}
 use Rattle.errors_by_reach.specs.Law.{AreErrors, Agree}
 use Rattle.reach_law.specs.Law.{JobsAreRight}
 use Rattle.named_rows.proofs.Lists.{flat_last}
 use Rattle.import_sayings.proofs.ReachedPaths.{taken}
-use Rattle.check_job.specs.Jobs.{source_in, source_of, IsFronted, HasFaults}
-use Rattle.check_job.specs.declared.job.CheckJob.{CheckJob}
-use Rattle.program_check.specs.Full.{beside}
+use Rattle.analyst.specs.check_job.specs.Jobs.{source_in, source_of, IsFronted, HasFaults}
+use Rattle.analyst.specs.check_job.specs.declared.job.CheckJob.{CheckJob}
+use Rattle.payloads.specs.program_check.specs.Full.{beside}
 use Rattle.check_phases.specs.Phases.{IsCheckedAt}
 use Rattle.check_phases.specs.Sourced.{program_in, AreSources}
 use Rattle.check_phases.specs.Checking.{IsJobOf, picked}

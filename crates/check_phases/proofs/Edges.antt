@@ -11,9 +11,9 @@ use Rattle.check_values.specs.Roots.{paths_of_rows}
 use Rattle.check_values.specs.declared.root.RootRow.{RootRow}
 use Rattle.check_values.specs.declared.root.Root.{Root}
 use Rattle.check_values.specs.declared.signatures.Deps.{Deps}
-use Rattle.source_front.specs.declared.parse.Parse.{Parse}
+use Rattle.analyst.specs.source_front.specs.declared.parse.Parse.{Parse}
 use Rattle.heap_core.proofs.Lists.{get_index}
-use Rattle.program_check.specs.Full.{deps_in}
+use Rattle.payloads.specs.program_check.specs.Full.{deps_in}
 use Rattle.payloads.specs.State.{program_of}
 use Rattle.check_phases.specs.Phases.{lists_in}
 use Rattle.check_phases.proofs.Lists.{one_value, take_whole, take_next}

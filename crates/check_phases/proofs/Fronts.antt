@@ -5,8 +5,8 @@ use Rattle.heap_core.proofs.Lists.{get_index}
 use Rattle.flow_base.specs.Program.{Bytes}
 use Rattle.check_values.specs.declared.root.RootRow.{RootRow}
 use Rattle.check_values.specs.declared.root.Root.{Root}
-use Rattle.source_front.specs.Front.{IsParse}
-use Rattle.source_front.specs.declared.parse.Parse.{Parse}
+use Rattle.analyst.specs.source_front.specs.Front.{IsParse}
+use Rattle.analyst.specs.source_front.specs.declared.parse.Parse.{Parse}
 use Rattle.payloads.specs.State.{program_of}
 use Rattle.check_phases.specs.Phases.{AreParsed}
 use Rattle.check_phases.proofs.Lists.{zip_more, zip_whole, zip_mapped}

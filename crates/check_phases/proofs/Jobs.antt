@@ -7,7 +7,7 @@ use Rattle.std.specs.declared.cmp.Ordering.TheVariants.{Less}
 use Rattle.flow_base.specs.Program.{Bytes, Program, IsRising, paths_of}
 use Rattle.flow_base.proofs.Rising.{below_all, not_below_itself, rising_rest}
 use Rattle.check_values.specs.Rows.{Rows, row_at}
-use Rattle.program_check.specs.Full.{beside}
+use Rattle.payloads.specs.program_check.specs.Full.{beside}
 use Rattle.check_phases.proofs.Edges.{below_at}
 use Rattle.check_phases.proofs.Lists.{one_value}
 

@@ -13,10 +13,10 @@ use Rattle.payloads.specs.State.{program_of}
 use Rattle.check_values.specs.declared.signatures.Deps.{Deps}
 use Rattle.check_values.specs.declared.signatures.LocalSig.{LocalSig}
 use Rattle.check_values.specs.declared.signatures.Sig.{Sig}
-use Rattle.source_front.specs.declared.parse.Parse.{Parse}
+use Rattle.analyst.specs.source_front.specs.declared.parse.Parse.{Parse}
 use Rattle.named_rows.proofs.Lists.{flat_more}
 use Rattle.merged_signatures.specs.Chains.{Known}
-use Rattle.program_check.specs.Full.{beside}
+use Rattle.payloads.specs.program_check.specs.Full.{beside}
 use Rattle.check_phases.specs.Phases.{AreParsed, knowns}
 use Rattle.check_phases.specs.Sourced.{program_in, paths_in, AreSources}
 use Rattle.check_phases.specs.Merging.{known_rows, member_at, made_row, made_at}

@@ -6,11 +6,11 @@ use Rattle.check_values.specs.Rows.{row_at}
 use Rattle.check_values.specs.declared.faults.Errs.{Errs}
 use Rattle.check_values.specs.declared.signatures.Deps.{Deps}
 use Rattle.check_values.specs.declared.signatures.Sig.{Sig}
-use Rattle.source_front.specs.declared.parse.Parse.{Parse}
+use Rattle.analyst.specs.source_front.specs.declared.parse.Parse.{Parse}
 use Rattle.merged_signatures.specs.Chains.{Known, View}
 use Rattle.errors_by_reach.specs.Seen.{Sigs}
-use Rattle.program_check.specs.Full.{Results, beside, known_of, deps_in, AreResults, IsFull}
-use Rattle.program_check.specs.Status.{error_count}
+use Rattle.payloads.specs.program_check.specs.Full.{Results, beside, known_of, deps_in, AreResults, IsFull}
+use Rattle.payloads.specs.program_check.specs.Status.{error_count}
 use Rattle.check_phases.specs.Phases.{AreParsed, lists_in, knowns, view_by, AreMerged, AreChecked, results_by}
 
 module _ (paths : List Bytes) (v : View) (s : Sigs) where

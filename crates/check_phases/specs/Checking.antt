@@ -3,7 +3,7 @@ use Rattle.std.specs.Prelude.{◌≡◌, ℕ, ◌+◌, min, slice_get, Some, opt
 use Rattle.check_values.specs.Rows.{Rows, row_at}
 use Rattle.check_values.specs.declared.signatures.Sig.{Sig}
 use Rattle.errors_by_reach.specs.Law.{Agree}
-use Rattle.check_job.specs.declared.job.CheckJob.{CheckJob}
+use Rattle.analyst.specs.check_job.specs.declared.job.CheckJob.{CheckJob}
 use Rattle.check_phases.specs.Sourced.{program_in}
 use Rattle.check_phases.specs.declared.merging.Sources.{Sources}
 

@@ -1,3 +1,8 @@
+pub use Rattle.analyst
+pub use Rattle.analyst.specs.check_job
+pub use Rattle.payloads
+pub use Rattle.payloads.specs.program_check
+pub use Rattle.analyst.specs.source_front
 pub mod Phases
 pub mod Sourced
 pub mod Merging

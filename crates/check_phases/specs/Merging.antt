@@ -6,7 +6,7 @@ use Rattle.check_values.specs.declared.signatures.Sig.{Sig}
 use Rattle.heap_core.specs.Meaning.{names}
 use Rattle.merged_signatures.specs.Chains.{Known}
 use Rattle.merged_signatures.specs.Merged.{merged}
-use Rattle.program_check.specs.Full.{beside}
+use Rattle.payloads.specs.program_check.specs.Full.{beside}
 use Rattle.check_phases.specs.Phases.{knowns}
 use Rattle.check_phases.specs.Sourced.{program_in, paths_in, view_in}
 use Rattle.check_phases.specs.declared.merging.Sources.{Sources}

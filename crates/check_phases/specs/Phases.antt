@@ -6,14 +6,14 @@ use Rattle.check_values.specs.Rows.{row_at}
 use Rattle.check_values.specs.declared.faults.Errs.{Errs}
 use Rattle.check_values.specs.declared.signatures.Deps.{Deps}
 use Rattle.check_values.specs.declared.signatures.Sig.{Sig}
-use Rattle.source_front.specs.declared.parse.Parse.{Parse}
-use Rattle.source_front.specs.Front.{IsParse}
+use Rattle.analyst.specs.source_front.specs.declared.parse.Parse.{Parse}
+use Rattle.analyst.specs.source_front.specs.Front.{IsParse}
 use Rattle.merged_signatures.specs.Chains.{Known, View}
 use Rattle.merged_signatures.specs.Merged.{merged}
 use Rattle.errors_by_reach.specs.Seen.{Sigs}
 use Rattle.errors_by_reach.specs.Law.{HasErrors}
-use Rattle.check_job.specs.Jobs.{source_in}
-use Rattle.program_check.specs.Full.{Results, beside, deps_in}
+use Rattle.analyst.specs.check_job.specs.Jobs.{source_in}
+use Rattle.payloads.specs.program_check.specs.Full.{Results, beside, deps_in}
 
 -- what the source of each module says by itself, in order
 abbrev pub AreParsed : Program → List Parse → Type 0

@@ -3,7 +3,7 @@ use Rattle.std.specs.Prelude.{◌≡◌, List, length}
 use Rattle.check_values.specs.Rows.{row_at}
 use Rattle.check_values.specs.declared.signatures.Sig.{Sig}
 use Rattle.errors_by_reach.specs.Seen.{Sigs}
-use Rattle.program_check.specs.Full.{beside}
+use Rattle.payloads.specs.program_check.specs.Full.{beside}
 use Rattle.check_phases.specs.Phases.{AreMerged, AreChecked}
 use Rattle.check_phases.specs.Sourced.{program_in, view_in, AreSources}
 use Rattle.check_phases.specs.declared.merging.Sources.{Sources}

@@ -6,6 +6,9 @@ mod checking;
 mod merging;
 mod phases;
 
+pub use analyst;
+pub use analyst::{check_job, source_front};
 pub use checking::count_errors;
 pub use merging::Sources;
+pub use payloads;
 pub use phases::Made;

@@ -1,7 +1,7 @@
 //! The modules of a program.
+use analyst::source_front::Parse;
 use check_values::{Deps, Root};
 use flow_values::Shared;
-use source_front::Parse;
 
 /// The modules of a program with what is known of each by itself, in order.
 #[derive(Drop)]

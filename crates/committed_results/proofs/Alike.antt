@@ -11,17 +11,17 @@ use Rattle.check_values.specs.contracts.signatures.Sig as sig_type
 use Rattle.check_values.specs.declared.faults.Fault.{Fault}
 use Rattle.check_values.specs.declared.signatures.Deps.{Deps}
 use Rattle.check_values.specs.declared.signatures.Sig.{Sig}
-use Rattle.source_front.specs.Law.{seen, Same}
-use Rattle.source_front.specs.declared.parse.ParseTree.{ParseTree}
-use Rattle.source_front.specs.declared.parse.ParseTree.TheVariants.{Tree, Broken}
+use Rattle.export_counts.specs.source_front.specs.Law.{seen, Same}
+use Rattle.export_counts.specs.source_front.specs.declared.parse.ParseTree.{ParseTree}
+use Rattle.export_counts.specs.source_front.specs.declared.parse.ParseTree.TheVariants.{Tree, Broken}
 use Rattle.tree_law.specs.Law.{EachModuleHasATree}
 use Rattle.module_resolution.specs.Dependencies.{dependencies_of}
 use Rattle.merged_signatures.specs.Chains.{Known, View}
 use Rattle.errors_by_reach.specs.Seen.{Sigs}
 use Rattle.errors_by_reach.specs.Law.{Source, HasErrors}
-use Rattle.check_job.specs.Jobs.{source_in}
-use Rattle.program_check.specs.Full.{Results, beside, known_of, view_in, sigs_in, module_in, AreResultsOf, AreResults, IsFull}
-use Rattle.program_check.specs.Law.{Alike, AllAlike}
+use Rattle.full_law.specs.check_job.specs.Jobs.{source_in}
+use Rattle.full_law.specs.program_check.specs.Full.{Results, beside, known_of, view_in, sigs_in, module_in, AreResultsOf, AreResults, IsFull}
+use Rattle.full_law.specs.program_check.specs.Law.{Alike, AllAlike}
 use Rattle.committed_results.proofs.SameParse.{says_same, same_once}
 
 -- ---- whether results are alike is one thing

@@ -4,13 +4,13 @@ use Rattle.flow_base.specs.Program.{Bytes, Program}
 use Rattle.check_values.specs.declared.faults.Errs.{Errs}
 use Rattle.check_values.specs.declared.signatures.Deps.{Deps}
 use Rattle.check_values.specs.declared.signatures.Sig.{Sig}
-use Rattle.source_front.specs.declared.parse.Parse.{Parse}
+use Rattle.export_counts.specs.source_front.specs.declared.parse.Parse.{Parse}
 use Rattle.merged_signatures.specs.Chains.{Known, View}
 use Rattle.errors_by_reach.specs.Seen.{Sigs}
 use Rattle.export_counts.specs.Law as counts
-use Rattle.program_check.specs.Full.{Results, beside, known_of, AreResults}
-use Rattle.check_phases.specs.Phases.{AreParsed, lists_in, knowns, AreMerged, AreChecked, results_by}
-use Rattle.check_phases.proofs.Lists.{one_value}
+use Rattle.full_law.specs.program_check.specs.Full.{Results, beside, known_of, AreResults}
+use Rattle.recheck_staging.specs.check_phases.specs.Phases.{AreParsed, lists_in, knowns, AreMerged, AreChecked, results_by}
+use Rattle.recheck_staging.specs.check_phases.proofs.Lists.{one_value}
 
 -- as many results of each kind as of the first
 pub record HaveSize (n : ℕ) (parses : List Parse) (lists : List Deps) (sigs : List Sig) (errors : List Errs) : Type 0 where

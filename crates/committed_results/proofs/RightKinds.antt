@@ -6,12 +6,12 @@ use mathlib.Core.Logic.{∥∥₁_elim}
 use Rattle.heap_core.specs.Meaning.{AllFit}
 use Rattle.check_values.specs.declared.root.RootRow.{RootRow}
 use Rattle.check_values.specs.declared.root.Root.{Root}
-use Rattle.program_check.specs.Full.{Results}
-use Rattle.payloads.specs.Entities.{parse_entity, deps_entity, signature_entity, errors_entity}
-use Rattle.payloads.specs.State.{fits}
-use Rattle.payloads.specs.declared.payload.Payload.{Payload}
-use Rattle.payloads.specs.declared.payload.Payload.TheVariants as payload
-use Rattle.result_parts.specs.Kinds.{is_parse, is_deps, is_sig, is_errs}
+use Rattle.full_law.specs.program_check.specs.Full.{Results}
+use Rattle.state_law.specs.payloads.specs.Entities.{parse_entity, deps_entity, signature_entity, errors_entity}
+use Rattle.state_law.specs.payloads.specs.State.{fits}
+use Rattle.state_law.specs.payloads.specs.declared.payload.Payload.{Payload}
+use Rattle.state_law.specs.payloads.specs.declared.payload.Payload.TheVariants as payload
+use Rattle.recheck_staging.specs.result_parts.specs.Kinds.{is_parse, is_deps, is_sig, is_errs}
 use Rattle.state_law.specs.Law.{IsCheckOf, EachStateHasACheck}
 use Rattle.committed_results.specs.Held.{IsOfKind}
 use Rattle.committed_results.proofs.Standing.{Stands, root_there, module_stands}

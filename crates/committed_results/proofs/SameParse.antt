@@ -16,13 +16,13 @@ use Rattle.js_tree.specs.contracts.items.Module as tree_type
 use Rattle.tree_law.specs.Law.{EachModuleHasATree}
 use Rattle.local_signatures.specs.LocalSignature.{local_signature}
 use Rattle.local_signatures.specs.Faults.{signature_faults}
-use Rattle.source_front.specs.Front.{HasTree, HasFault, Says, IsParse}
-use Rattle.source_front.specs.Law.{Seen, whole, broken, seen, Same}
-use Rattle.source_front.specs.contracts.parse.SourceFault as source_fault_type
-use Rattle.source_front.specs.declared.parse.SourceFault.{SourceFault}
-use Rattle.source_front.specs.declared.parse.ParseTree.{ParseTree}
-use Rattle.source_front.specs.declared.parse.ParseTree.TheVariants.{Tree, Broken}
-use Rattle.source_front.specs.declared.parse.Parse.{Parse}
+use Rattle.export_counts.specs.source_front.specs.Front.{HasTree, HasFault, Says, IsParse}
+use Rattle.export_counts.specs.source_front.specs.Law.{Seen, whole, broken, seen, Same}
+use Rattle.export_counts.specs.source_front.specs.contracts.parse.SourceFault as source_fault_type
+use Rattle.export_counts.specs.source_front.specs.declared.parse.SourceFault.{SourceFault}
+use Rattle.export_counts.specs.source_front.specs.declared.parse.ParseTree.{ParseTree}
+use Rattle.export_counts.specs.source_front.specs.declared.parse.ParseTree.TheVariants.{Tree, Broken}
+use Rattle.export_counts.specs.source_front.specs.declared.parse.Parse.{Parse}
 
 -- ---- what says the same is a parse
 

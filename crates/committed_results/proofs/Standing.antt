@@ -13,21 +13,21 @@ use Rattle.check_values.specs.declared.root.RootRow.{RootRow}
 use Rattle.check_values.specs.declared.root.Root.{Root}
 use Rattle.check_values.specs.declared.signatures.Deps.{Deps}
 use Rattle.check_values.specs.declared.signatures.Sig.{Sig}
-use Rattle.source_front.specs.declared.parse.Parse.{Parse}
+use Rattle.export_counts.specs.source_front.specs.declared.parse.Parse.{Parse}
 use Rattle.merged_signatures.specs.Chains.{View}
 use Rattle.errors_by_reach.specs.Seen.{Sigs}
-use Rattle.program_check.specs.Full.{Results, AreResults, IsFull, view_in, sigs_in}
-use Rattle.payloads.specs.Entities.{parse_entity, deps_entity, signature_entity, errors_entity}
-use Rattle.payloads.specs.State.{program_of, IsRoot, fits, payload_in, payload_at}
-use Rattle.payloads.specs.contracts.payload.Payload as payload_type
-use Rattle.payloads.specs.declared.payload.Payload.{Payload}
-use Rattle.payloads.specs.declared.payload.Payload.TheVariants as payload
-use Rattle.payloads.proofs.Places.{stand_here}
-use Rattle.result_parts.specs.Kinds.{is_parse, is_deps, is_sig, is_errs}
+use Rattle.full_law.specs.program_check.specs.Full.{Results, AreResults, IsFull, view_in, sigs_in}
+use Rattle.state_law.specs.payloads.specs.Entities.{parse_entity, deps_entity, signature_entity, errors_entity}
+use Rattle.state_law.specs.payloads.specs.State.{program_of, IsRoot, fits, payload_in, payload_at}
+use Rattle.state_law.specs.payloads.specs.contracts.payload.Payload as payload_type
+use Rattle.state_law.specs.payloads.specs.declared.payload.Payload.{Payload}
+use Rattle.state_law.specs.payloads.specs.declared.payload.Payload.TheVariants as payload
+use Rattle.state_law.specs.payloads.proofs.Places.{stand_here}
+use Rattle.recheck_staging.specs.result_parts.specs.Kinds.{is_parse, is_deps, is_sig, is_errs}
 use Rattle.state_law.specs.Law.{IsCheckOf, EachStateHasACheck}
-use Rattle.check_phases.specs.Phases.{results_by}
-use Rattle.check_phases.proofs.Jobs.{zip_at}
-use Rattle.check_phases.proofs.Lists.{one_value, within_there, zip_length}
+use Rattle.recheck_staging.specs.check_phases.specs.Phases.{results_by}
+use Rattle.recheck_staging.specs.check_phases.proofs.Jobs.{zip_at}
+use Rattle.recheck_staging.specs.check_phases.proofs.Lists.{one_value, within_there, zip_length}
 use Rattle.committed_results.specs.Held.{is_root, IsOfKind, AreHeld}
 use Rattle.committed_results.proofs.Parts.{HaveSize, results_many, results_get}
 

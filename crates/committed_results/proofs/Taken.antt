@@ -5,10 +5,10 @@ use Rattle.heap_core.specs.Meaning.{Meaning, IsSound, none_of}
 use Rattle.heap_core.proofs.Lists.{get_index}
 use Rattle.check_values.specs.declared.root.RootRow.{RootRow}
 use Rattle.check_values.specs.declared.root.Root.{Root}
-use Rattle.payloads.specs.State.{fits}
-use Rattle.payloads.specs.declared.payload.Payload.{Payload}
-use Rattle.payloads.specs.declared.payload.Payload.TheVariants as payload
-use Rattle.check_phases.proofs.Lists.{one_value, zip_more, zip_whole}
+use Rattle.state_law.specs.payloads.specs.State.{fits}
+use Rattle.state_law.specs.payloads.specs.declared.payload.Payload.{Payload}
+use Rattle.state_law.specs.payloads.specs.declared.payload.Payload.TheVariants as payload
+use Rattle.recheck_staging.specs.check_phases.proofs.Lists.{one_value, zip_more, zip_whole}
 use Rattle.committed_results.specs.Held.{IsOfKind, AreHeld}
 
 -- ---- where nothing is staged

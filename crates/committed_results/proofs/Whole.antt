@@ -13,29 +13,29 @@ use Rattle.check_values.specs.declared.root.RootRow.{RootRow}
 use Rattle.check_values.specs.declared.root.Root.{Root}
 use Rattle.check_values.specs.declared.signatures.Deps.{Deps}
 use Rattle.check_values.specs.declared.signatures.Sig.{Sig}
-use Rattle.source_front.specs.declared.parse.Parse.{Parse}
+use Rattle.export_counts.specs.source_front.specs.declared.parse.Parse.{Parse}
 use Rattle.merged_signatures.specs.Chains.{Known, View}
 use Rattle.merged_signatures.specs.Programs.{IsSmallWithFewExports}
 use Rattle.errors_by_reach.specs.Seen.{Sigs}
 use Rattle.export_counts.specs.Law.{FewNames}
 use Rattle.tree_law.specs.Law.{EachModuleHasATree}
 use Rattle.full_law.specs.Law.{EachFull}
-use Rattle.program_check.specs.Full as full
-use Rattle.program_check.specs.Full.{Results, beside, known_of, IsFull}
-use Rattle.program_check.specs.Law.{AllAlike, OneFull}
-use Rattle.payloads.specs.Entities.{parse_entity, deps_entity, signature_entity, errors_entity}
-use Rattle.payloads.specs.State.{program_of, IsRoot, fits}
-use Rattle.payloads.specs.contracts.payload.Payload as payload_type
-use Rattle.payloads.specs.declared.payload.Payload.{Payload}
-use Rattle.payloads.specs.declared.payload.Payload.TheVariants as payload
+use Rattle.full_law.specs.program_check.specs.Full as full
+use Rattle.full_law.specs.program_check.specs.Full.{Results, beside, known_of, IsFull}
+use Rattle.full_law.specs.program_check.specs.Law.{AllAlike, OneFull}
+use Rattle.state_law.specs.payloads.specs.Entities.{parse_entity, deps_entity, signature_entity, errors_entity}
+use Rattle.state_law.specs.payloads.specs.State.{program_of, IsRoot, fits}
+use Rattle.state_law.specs.payloads.specs.contracts.payload.Payload as payload_type
+use Rattle.state_law.specs.payloads.specs.declared.payload.Payload.{Payload}
+use Rattle.state_law.specs.payloads.specs.declared.payload.Payload.TheVariants as payload
 use Rattle.state_law.specs.Law.{IsCheckOf, EachStateHasACheck}
-use Rattle.check_phases.specs.Phases.{lists_in, knowns, AreMerged, AreChecked, results_by}
-use Rattle.check_phases.specs.Sourced.{program_in, view_in, AreSources}
-use Rattle.check_phases.specs.Whole.{sigs_by, AreMade}
-use Rattle.check_phases.specs.declared.phases.Made.{Made}
-use Rattle.check_phases.proofs.Jobs.{zip_at}
-use Rattle.check_phases.proofs.Lists.{one_value, within_there, same_paths, zip_length}
-use Rattle.edited_root.proofs.Rooted.{few_modules, root_rising}
+use Rattle.recheck_staging.specs.check_phases.specs.Phases.{lists_in, knowns, AreMerged, AreChecked, results_by}
+use Rattle.recheck_staging.specs.check_phases.specs.Sourced.{program_in, view_in, AreSources}
+use Rattle.recheck_staging.specs.check_phases.specs.Whole.{sigs_by, AreMade}
+use Rattle.recheck_staging.specs.check_phases.specs.declared.phases.Made.{Made}
+use Rattle.recheck_staging.specs.check_phases.proofs.Jobs.{zip_at}
+use Rattle.recheck_staging.specs.check_phases.proofs.Lists.{one_value, within_there, same_paths, zip_length}
+use Rattle.recheck_staging.specs.edited_root.proofs.Rooted.{few_modules, root_rising}
 use Rattle.recheck_staging.specs.Staging.{state_of, HasState}
 use Rattle.committed_results.specs.Held.{IsOfKind, AreHeld}
 use Rattle.committed_results.proofs.Alike.{all_alike_once, full_alike}

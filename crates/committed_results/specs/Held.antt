@@ -2,8 +2,8 @@
 use Rattle.std.specs.Prelude.{◌≡◌, ℕ, Bool, true, false, List, slice_get, Some}
 use Rattle.std.specs.List.{AllZip}
 use Rattle.check_values.specs.declared.root.RootRow.{RootRow}
-use Rattle.payloads.specs.declared.payload.Payload.{Payload}
-use Rattle.payloads.specs.declared.payload.Payload.TheVariants as payload
+use Rattle.state_law.specs.payloads.specs.declared.payload.Payload.{Payload}
+use Rattle.state_law.specs.payloads.specs.declared.payload.Payload.TheVariants as payload
 
 abbrev pub is_root : Payload → Bool
 is_root (payload.Root root) = true

@@ -4,4 +4,8 @@
 
 mod reading;
 
+pub use export_counts::source_front;
+pub use full_law;
+pub use full_law::program_check;
 pub use reading::committed_results;
+pub use recheck_staging;

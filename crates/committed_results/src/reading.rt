@@ -3,19 +3,19 @@ ghost use Rattle.std.specs.Prelude.{◌≡◌, ◌<◌, ◌^◌, true, IfOk, len
 ghost use Rattle.std.specs.Arc.{arc_value};
 ghost use Rattle.std.specs.List.{AllByRecursion};
 ghost use Rattle.heap_core.specs.Meaning.{none_of};
-ghost use Rattle.payloads.specs.Entities.{errors_entity};
-ghost use Rattle.payloads.specs.declared.payload.Payload.TheVariants as the_payload;
-ghost use Rattle.check_phases.specs.Whole.{AreMade};
+ghost use Rattle.state_law.specs.payloads.specs.Entities.{errors_entity};
+ghost use Rattle.state_law.specs.payloads.specs.declared.payload.Payload.TheVariants as the_payload;
+ghost use Rattle.recheck_staging.specs.check_phases.specs.Whole.{AreMade};
 ghost use Rattle.recheck_staging.specs.Staging.{state_of, HasState};
 ghost use Rattle.committed_results.specs.Held.{is_root, IsOfKind, AreHeld};
 
-use check_phases::{Made, Sources};
 use check_values::{Deps, Errs, Root, RootRow, Sig};
+use export_counts::source_front::Parse;
 use flow_values::{NoMemory, Shared};
 use heap_core::HeapWriter;
-use payloads::Payload;
-use result_parts::Part;
-use source_front::Parse;
+use recheck_staging::check_phases::{Made, Sources};
+use recheck_staging::result_parts::Part;
+use state_law::payloads::Payload;
 use std::alloc::Global;
 use std::sync::Arc;
 
@@ -102,7 +102,7 @@ pub fn committed_results<W: HeapWriter<Payload>>(
     ensures made { IfOk result AreMade }
     ensures held { IfOk result (λ made. HasState (state_of made) (W.meaning writer.now).committed) }
 {
-    program_check::one_full();
+    full_law::program_check::one_full();
     full_law::each_full();
     tree_law::each_module_has_a_tree();
     state_law::each_state_has_a_check();

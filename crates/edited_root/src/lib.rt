@@ -7,5 +7,7 @@ mod next;
 mod numbering;
 mod walking;
 
+pub use affected_law;
 pub use halt::Halt;
 pub use next::{NextRoot, edited_root};
+pub use payloads;

@@ -3,7 +3,7 @@ use Rattle.std.proofs.Common.{◌≡◌, Option, Some, None, sym}
 use Rattle.check_values.specs.Rows.{Bytes}
 use Rattle.check_values.specs.declared.signatures.Deps.{Deps}
 use Rattle.check_values.specs.declared.signatures.Sig.{Sig}
-use Rattle.merged_signatures.specs.Reach.{Reach, by_specifier, by_signature}
+use Rattle.module_errors.specs.merged_signatures.specs.Reach.{Reach, by_specifier, by_signature}
 use Rattle.errors_by_reach.specs.Seen.{Sigs, IsTable}
 use Rattle.errors_by_reach.specs.Law.{Agree}
 

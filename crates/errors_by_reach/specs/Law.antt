@@ -7,7 +7,7 @@ use Rattle.check_values.specs.declared.codes.Code.{Code}
 use Rattle.check_values.specs.declared.faults.Fault.{Fault}
 use Rattle.check_values.specs.declared.signatures.Deps.{Deps}
 use Rattle.type_values.specs.declared.types.FlowType.{FlowType}
-use Rattle.merged_signatures.specs.Reach.{Reach}
+use Rattle.module_errors.specs.merged_signatures.specs.Reach.{Reach}
 use Rattle.module_errors.specs.Program.{Program}
 use Rattle.module_errors.specs.Errors.{module_errors, broken_errors, type_at_place}
 use Rattle.errors_by_reach.specs.Seen.{Sigs, IsTable, IsSeen}

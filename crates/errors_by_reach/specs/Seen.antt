@@ -11,11 +11,11 @@ use Rattle.type_values.specs.declared.types.FlowType as made
 use Rattle.alias_table.specs.Aliases.{Key, IsCyclic}
 use Rattle.alias_table.specs.Members.{AreMembers}
 use Rattle.subtyping.specs.Closed.{IsBelow}
-use Rattle.local_signatures.specs.Scope as home
-use Rattle.local_signatures.specs.Scope.{bound_alias, scope_of}
-use Rattle.merged_signatures.specs.Reach.{Reach}
-use Rattle.typing.specs.States.{TypeMeaning}
-use Rattle.typing.specs.TypeFaults.{written_by}
+use Rattle.module_errors.specs.local_signatures.specs.Scope as home
+use Rattle.module_errors.specs.local_signatures.specs.Scope.{bound_alias, scope_of}
+use Rattle.module_errors.specs.merged_signatures.specs.Reach.{Reach}
+use Rattle.module_errors.specs.typing.specs.States.{TypeMeaning}
+use Rattle.module_errors.specs.typing.specs.TypeFaults.{written_by}
 use Rattle.module_errors.specs.Program.{Program, type_bound}
 
 -- the merged signatures of modules

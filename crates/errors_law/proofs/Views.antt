@@ -20,8 +20,8 @@ use Rattle.check_values.specs.declared.signatures.Deps.{Deps}
 use Rattle.check_values.specs.declared.signatures.Sig.{Sig}
 use Rattle.js_grammar.specs.Items.{Module}
 use Rattle.local_signatures.specs.Scope.{Binding, scope_of}
-use Rattle.module_errors.specs.Program.{Program}
-use Rattle.module_errors.specs.Errors.{module_errors, broken_errors}
+use Rattle.errors_by_reach.specs.module_errors.specs.Program.{Program}
+use Rattle.errors_by_reach.specs.module_errors.specs.Errors.{module_errors, broken_errors}
 use Rattle.errors_by_reach.specs.Seen as seen
 use Rattle.errors_by_reach.specs.Seen.{Sigs, own_alias, meaning_in, alias_told, IsSeen}
 use Rattle.errors_by_reach.specs.Law.{whole, broken}

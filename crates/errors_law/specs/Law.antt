@@ -5,7 +5,7 @@ use Rattle.check_values.specs.Rows.{Bytes, Rows, row_at}
 use Rattle.check_values.specs.declared.faults.Fault.{Fault}
 use Rattle.check_values.specs.declared.signatures.Deps.{Deps}
 use Rattle.check_values.specs.declared.signatures.Sig.{Sig}
-use Rattle.module_errors.specs.Program.{Program}
+use Rattle.errors_by_reach.specs.module_errors.specs.Program.{Program}
 use Rattle.errors_by_reach.specs.Seen.{Sigs, IsTable, IsSeen}
 use Rattle.errors_by_reach.specs.Law.{Source, HasErrors}
 

@@ -5,6 +5,8 @@
 
 ghost use Rattle.errors_law.specs.Law.{EachHasErrors, EachSees, EachSeesReached};
 
+pub use errors_by_reach;
+
 /// Each module has errors.
 pub fn each_has_errors()
     ensures { EachHasErrors }

@@ -4,6 +4,8 @@
 
 ghost use Rattle.export_counts.specs.Law.{AtMostBytes, AtMostLimit, FewNames};
 
+pub use source_front;
+
 /// A source has at most as many exports as bytes, and modules that were parsed have fewer names than the steps for which a chain is
 /// followed.
 pub fn few_exports()

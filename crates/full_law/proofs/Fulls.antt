@@ -5,11 +5,11 @@ use Rattle.flow_base.specs.Program.{Bytes, Program, paths_of}
 use Rattle.check_values.specs.Rows.{Rows, row_at}
 use Rattle.check_values.specs.declared.signatures.Deps.{Deps}
 use Rattle.check_values.specs.declared.signatures.Sig.{Sig}
-use Rattle.source_front.specs.declared.parse.Parse.{Parse}
+use Rattle.program_check.specs.source_front.specs.declared.parse.Parse.{Parse}
 use Rattle.merged_signatures.specs.Chains.{Known, View}
 use Rattle.merged_signatures.specs.Merged.{merged_known, merged}
-use Rattle.errors_by_reach.specs.Seen.{Sigs}
-use Rattle.check_job.specs.Jobs.{source_in}
+use Rattle.errors_law.specs.errors_by_reach.specs.Seen.{Sigs}
+use Rattle.program_check.specs.check_job.specs.Jobs.{source_in}
 use Rattle.program_check.specs.Full.{Results, beside, known_of, view_in, sigs_in, deps_in, AreResultsOf, AreResults, IsFull}
 use Rattle.errors_law.specs.Law.{EachHasErrors}
 use Rattle.full_law.specs.Law.{EachFull}

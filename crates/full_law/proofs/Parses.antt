@@ -14,11 +14,11 @@ use Rattle.module_law.specs.Answer.{Answer, whole, fault, Answers}
 use Rattle.module_law.specs.Answer as reading
 use Rattle.local_signatures.specs.LocalSignature.{local_signature, broken_signature}
 use Rattle.local_signatures.specs.Faults.{signature_faults}
-use Rattle.source_front.specs.declared.parse.SourceFault.{SourceFault}
-use Rattle.source_front.specs.declared.parse.SourceFault.TheVariants.{NotUtf8, BadToken, SourceTooLong, Parse as ParseAt}
-use Rattle.source_front.specs.declared.parse.ParseTree.TheVariants.{Tree, Broken}
-use Rattle.source_front.specs.declared.parse.Parse.{Parse}
-use Rattle.source_front.specs.Front.{HasFault, IsParse, token_start}
+use Rattle.program_check.specs.source_front.specs.declared.parse.SourceFault.{SourceFault}
+use Rattle.program_check.specs.source_front.specs.declared.parse.SourceFault.TheVariants.{NotUtf8, BadToken, SourceTooLong, Parse as ParseAt}
+use Rattle.program_check.specs.source_front.specs.declared.parse.ParseTree.TheVariants.{Tree, Broken}
+use Rattle.program_check.specs.source_front.specs.declared.parse.Parse.{Parse}
+use Rattle.program_check.specs.source_front.specs.Front.{HasFault, IsParse, token_start}
 use Rattle.lex_law.specs.Law as lex
 use Rattle.tree_law.specs.Law.{EachModuleHasATree}
 

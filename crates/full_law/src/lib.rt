@@ -5,6 +5,9 @@
 
 ghost use Rattle.full_law.specs.Law.{EachFull};
 
+pub use program_check;
+pub use program_check::source_front;
+
 /// Each program has a full check.
 pub fn each_full()
     ensures { EachFull }

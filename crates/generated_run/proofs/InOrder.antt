@@ -21,7 +21,7 @@ use Rattle.flow_base.specs.Program.{Bytes, Program, paths_of, IsRising}
 use Rattle.flow_base.proofs.Rising.{IsBelowAll, below_all, rising_rest, not_below_itself}
 use Rattle.graph_search.proofs.Rising.{one_list}
 use Rattle.pending_edits.specs.declared.edit.Edit.TheVariants.{Put}
-use Rattle.edited_root.proofs.Counted.{edited_rises}
+use Rattle.script_run.specs.edited_root.proofs.Counted.{edited_rises}
 use Rattle.generator.specs.Modules.{path_of, module_in, modules_of}
 use Rattle.generated_run.specs.Run.{IsFolder}
 

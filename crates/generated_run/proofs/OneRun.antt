@@ -5,12 +5,12 @@ use Rattle.std.proofs.lemmas.Bool.{cases_lt}
 use Rattle.std.proofs.lemmas.List.{append-nil}
 use Rattle.flow_base.specs.Program.{Bytes, Program, paths_of}
 use Rattle.check_values.specs.Rows.{Rows}
-use Rattle.beside.specs.Uses.{LaneUse}
+use Rattle.script_run.specs.beside.specs.Uses.{LaneUse}
 use Rattle.pending_edits.specs.Pending.{MayBecome, edited}
 use Rattle.pending_edits.specs.declared.edit.Edit.{Edit}
 use Rattle.pending_edits.specs.declared.edit.Edit.TheVariants.{Put}
-use Rattle.affected_sizes.specs.Law.{EachHasSizes, HaveOneSize}
-use Rattle.affected_sizes.specs.Sizes.{AreSizes}
+use Rattle.script_run.specs.affected_sizes.specs.Law.{EachHasSizes, HaveOneSize}
+use Rattle.script_run.specs.affected_sizes.specs.Sizes.{AreSizes}
 use Rattle.program_check.specs.Law.{OneFull}
 use Rattle.program_check.specs.Status.{error_count}
 use Rattle.script_line.specs.declared.line.Line.{Line}

@@ -11,9 +11,9 @@ use Rattle.flow_base.specs.Causes.{RoseBy}
 use Rattle.flow_base.specs.Outside.{appended, HoldsFront}
 use Rattle.flow_base.specs.Program.{Bytes, Program, paths_of}
 use Rattle.flow_base.specs.Seen.{FolderSeen}
-use Rattle.affected_sizes.specs.Law.{EachHasSizes}
-use Rattle.beside.specs.Uses.{LaneUse, new_lane, MayAnswer}
-use Rattle.beside.proofs.Uses.{may_answer, new_at_most}
+use Rattle.script_run.specs.affected_sizes.specs.Law.{EachHasSizes}
+use Rattle.script_run.specs.beside.specs.Uses.{LaneUse, new_lane, MayAnswer}
+use Rattle.script_run.specs.beside.proofs.Uses.{may_answer, new_at_most}
 use Rattle.script_line.specs.declared.line.Line.{Line}
 use Rattle.script_line.specs.declared.line.Line.TheVariants as line
 use Rattle.script_run.specs.Checked.{HasErrorCount}

@@ -5,7 +5,7 @@ use Rattle.std.specs.List.{flat_map}
 use Rattle.std.specs.List.Sorted.{IsPermutation}
 use Rattle.flow_base.specs.Program.{Bytes, Program, paths_of, IsRising}
 use Rattle.flow_base.specs.Outside.{appended, HoldsFront}
-use Rattle.beside.specs.Uses.{LaneUse}
+use Rattle.script_run.specs.beside.specs.Uses.{LaneUse}
 use Rattle.check_values.specs.Rows.{Rows}
 use Rattle.pending_edits.specs.declared.edit.Edit.{Edit}
 use Rattle.generator.specs.Modules.{modules_of, edits_of}

@@ -7,9 +7,9 @@ mod printing;
 mod running;
 mod turns;
 
-pub use beside::Server;
 pub use laws::one_generated_run;
 pub use running::run_generated;
+pub use script_run::beside::Server;
 pub use script_run::{
     Ended, RunFault, WalkEnd, a_front_goes_on, one_quiet_run, open_server, run, write_all,
 };

@@ -3,19 +3,19 @@ ghost use Rattle.std.specs.Prelude.{◌≡◌, ◌≤◌, ◌<◌, ◌+◌, ◌^
 ghost use Rattle.std.specs.List.{flat_map};
 ghost use Rattle.flow_base.specs.Program.{IsRising, paths_of};
 ghost use Rattle.flow_base.specs.Causes.{Counts};
-ghost use Rattle.beside.specs.Uses.{new_lane, MayAnswer};
+ghost use Rattle.script_run.specs.beside.specs.Uses.{new_lane, MayAnswer};
 ghost use Rattle.script_run.specs.Transcript.{asks_of};
 ghost use Rattle.script_run.specs.Session.{IsNewServer, standing_in};
 ghost use Rattle.generated_run.specs.Run.{put_and_check, Goes};
 ghost use Rattle.generated_run.specs.Steps.{HasDone, HasBegun, Loads, TakesTurn, BreaksOff};
 
 use crate::printing::print;
-use affected_sizes::each_edit_has_sizes;
 use analyst::Analyst;
-use beside::Server;
 use flow_base::{List, MemFolder, Path, Sink, Text, Turnstile};
 use place_analyst::PlaceAnalyst;
 use script_line::Line;
+use script_run::affected_sizes::each_edit_has_sizes;
+use script_run::beside::Server;
 use script_run::{RunFault, Session};
 use std::alloc::Global;
 use std::sync::Wait;

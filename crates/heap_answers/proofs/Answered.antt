@@ -12,8 +12,8 @@ use Rattle.check_values.specs.Roots.{paths_of_rows}
 use Rattle.check_values.specs.declared.root.RootRow.{RootRow}
 use Rattle.check_values.specs.declared.root.Root.{Root}
 use Rattle.check_values.specs.declared.signatures.Sig.{Sig}
-use Rattle.program_check.specs.Full.{Results}
-use Rattle.program_check.specs.Law.{OneFull}
+use Rattle.payloads.specs.program_check.specs.Full.{Results}
+use Rattle.payloads.specs.program_check.specs.Law.{OneFull}
 use Rattle.module_resolution.specs.Resolution.{resolved}
 use Rattle.payloads.specs.State.{program_of, StandsIn}
 use Rattle.payloads.specs.declared.payload.Payload.{Payload}

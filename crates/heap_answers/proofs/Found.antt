@@ -10,7 +10,7 @@ use Rattle.flow_base.specs.Program.{Bytes, IsRising}
 use Rattle.check_values.specs.Rows.{row_at, is_among}
 use Rattle.check_values.specs.Roots.{paths_of_rows}
 use Rattle.check_values.specs.declared.root.RootRow.{RootRow}
-use Rattle.program_check.specs.Full.{Results}
+use Rattle.payloads.specs.program_check.specs.Full.{Results}
 use Rattle.payloads.specs.State.{program_of}
 use Rattle.dep_lists.specs.Looking.{IsPlaceOf}
 use Rattle.answers_law.specs.Answers.{standing}

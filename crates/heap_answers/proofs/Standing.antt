@@ -11,8 +11,8 @@ use Rattle.check_values.specs.declared.root.RootRow.{RootRow}
 use Rattle.check_values.specs.declared.root.Root.{Root}
 use Rattle.merged_signatures.specs.Chains.{View}
 use Rattle.errors_by_reach.specs.Seen.{Sigs}
-use Rattle.program_check.specs.Full.{Results, AreResults, IsFull}
-use Rattle.program_check.specs.Law.{Alike, AllAlike, OneFull}
+use Rattle.payloads.specs.program_check.specs.Full.{Results, AreResults, IsFull}
+use Rattle.payloads.specs.program_check.specs.Law.{Alike, AllAlike, OneFull}
 use Rattle.payloads.specs.Entities.{deps_entity, signature_entity, errors_entity}
 use Rattle.payloads.specs.State.{program_of, IsRoot, fits, payload_at, payload_in, StandsIn}
 use Rattle.payloads.proofs.Places.{stand_here}

@@ -1,1 +1,4 @@
+pub use Rattle.answers_law
+pub use Rattle.payloads
+pub use Rattle.payloads.specs.program_check
 pub mod States

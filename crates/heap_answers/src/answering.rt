@@ -10,7 +10,7 @@ use dep_lists::resolve;
 use flow_base::{Path, Text};
 use heap_core::HeapReader;
 use payloads::Payload;
-use program_check::one_full;
+use payloads::program_check::one_full;
 use std::alloc::Global;
 
 /// The errors of all modules.

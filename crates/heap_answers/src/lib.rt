@@ -8,3 +8,6 @@ mod parts;
 mod rows;
 
 pub use answering::{errors, find_module, importers, ls, signature, status};
+pub use answers_law;
+pub use payloads;
+pub use payloads::program_check;

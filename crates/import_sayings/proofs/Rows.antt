@@ -14,7 +14,7 @@ use Rattle.check_values.specs.declared.signatures.Deps.{Deps}
 use Rattle.check_values.specs.declared.signatures.Export.{Export}
 use Rattle.check_values.specs.declared.signatures.Sig.{Sig}
 use Rattle.merged_signatures.specs.Chains.{found_in, found}
-use Rattle.module_errors.specs.Program.{says_nothing, said_by_rows, said_by_sig, said_by, said_in}
+use Rattle.errors_by_reach.specs.module_errors.specs.Program.{says_nothing, said_by_rows, said_by_sig, said_by, said_in}
 use Rattle.named_rows.specs.Seen.{seen}
 use Rattle.named_rows.proofs.FirstRows.{lookup_is_row, row_at-by_name, row_seen}
 use Rattle.named_rows.proofs.Lists.{bytes_turned, among_last, flat_more}

@@ -11,7 +11,7 @@ use Rattle.check_values.specs.Rows.{Bytes, row_at, is_among}
 use Rattle.check_values.specs.declared.signatures.DepRow.{DepRow}
 use Rattle.check_values.specs.declared.signatures.Deps.{Deps}
 use Rattle.check_values.specs.declared.signatures.Sig.{Sig}
-use Rattle.module_errors.specs.Program.{Saying, says_nothing, lacks_it, says_it, said_by_rows, said_by_sig}
+use Rattle.errors_by_reach.specs.module_errors.specs.Program.{Saying, says_nothing, lacks_it, says_it, said_by_rows, said_by_sig}
 use Rattle.errors_by_reach.specs.Seen.{Sigs, IsTable, alias_told}
 use Rattle.import_sayings.specs.declared.saying.Saying as own
 use Rattle.import_sayings.specs.declared.saying.Saying.TheVariants as own_saying

@@ -2,7 +2,7 @@
 ghost use Rattle.std.specs.Prelude.{◌≡◌, ◌++◌, List, ℕ, map, Some, IfOk, OnOk};
 ghost use Rattle.std.specs.Option.{option_copied, option_to_list};
 ghost use Rattle.merged_signatures.specs.Chains.{found};
-ghost use Rattle.module_errors.specs.Program.{said_in};
+ghost use Rattle.errors_by_reach.specs.module_errors.specs.Program.{said_in};
 ghost use Rattle.named_rows.specs.Seen.{seen};
 ghost use Rattle.import_sayings.specs.View.{saying_view, sigs_of, found_by_spec, found_by_row, found_of, exports_say, sig_says, said_of, WantsAll};
 ghost use Rattle.import_sayings.specs.Reached.{paths_found};

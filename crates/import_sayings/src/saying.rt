@@ -1,6 +1,6 @@
 //! What a module says of one of its exports.
 ghost use Rattle.std.specs.Prelude.{◌≡◌, IfOk};
-ghost use Rattle.module_errors.specs.Program.{says_it, value_said, type_said, wrong_import};
+ghost use Rattle.errors_by_reach.specs.module_errors.specs.Program.{says_it, value_said, type_said, wrong_import};
 ghost use Rattle.import_sayings.specs.View.{saying_view};
 
 use check_values::{Code, Export};

@@ -3,10 +3,10 @@ use Rattle.std.proofs.Common.{◌≡◌, ℕ, zero, suc, ◌+◌, ◌<◌, ◌�
 use Rattle.std.specs.Prelude.{IsErr}
 use Rattle.std.specs.List.{AllByRecursion, AllZip}
 use Rattle.std.proofs.lemmas.List.Sums.{sum_by-cons, sum_by-append, sum_by-set, sum_by_more}
-use Rattle.analyst.specs.Work.{Work, work_of, done, IsWithin, IsCounted}
-use Rattle.work_shares.specs.Shares.{both, work_sum, AreDone, AreWithin}
-use Rattle.work_shares.proofs.Works.{IsPart, worked_none, worked_more, within_more}
-use Rattle.work_shares.proofs.Sums.{sum_of_parts}
+use Rattle.job_seats.specs.analyst.specs.Work.{Work, work_of, done, IsWithin, IsCounted}
+use Rattle.job_seats.specs.work_shares.specs.Shares.{both, work_sum, AreDone, AreWithin}
+use Rattle.job_seats.specs.work_shares.proofs.Works.{IsPart, worked_none, worked_more, within_more}
+use Rattle.job_seats.specs.work_shares.proofs.Sums.{sum_of_parts}
 use Rattle.number_draws.specs.Below.{below}
 use Rattle.job_seats.specs.declared.place.Link.{Link}
 use Rattle.job_seats.specs.declared.place.Seat.{Seat}

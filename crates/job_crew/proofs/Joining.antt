@@ -3,9 +3,9 @@ use Rattle.std.proofs.Common.{◌≡◌, List, [], ◌∷◌, ◌++◌, map, len
 use Rattle.std.specs.Prelude.{slice_set}
 use Rattle.std.specs.List.{AllByRecursion}
 use Rattle.std.proofs.lemmas.List.{map-append}
-use Rattle.analyst.specs.Work.{Work, IsCounted}
-use Rattle.work_shares.specs.Shares.{work_sum}
-use Rattle.work_shares.proofs.Works.{within_same}
+use Rattle.job_seats.specs.analyst.specs.Work.{Work, IsCounted}
+use Rattle.job_seats.specs.work_shares.specs.Shares.{work_sum}
+use Rattle.job_seats.specs.work_shares.proofs.Works.{within_same}
 use Rattle.job_seats.specs.declared.place.Seat.{Seat}
 use Rattle.job_seats.specs.Working.{work_at, Went, GaveUp, Ended}
 use Rattle.job_crew.specs.Together.{AllFour, AllEnded, Both}

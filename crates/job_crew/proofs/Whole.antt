@@ -4,10 +4,10 @@ use Rattle.std.specs.Prelude.{IsErr, slice_set, OnOk, Contains}
 use Rattle.std.specs.List.{AllByRecursion, AllZip, flat_map}
 use Rattle.std.proofs.lemmas.List.Concat.{flat_map-append}
 use Rattle.std.proofs.lemmas.List.Sums.{sum_by-cons, sum_by-append}
-use Rattle.analyst.specs.Work.{Work, no_work, done, IsWithin, IsCounted}
-use Rattle.work_shares.specs.Shares.{both, work_sum, AreDone, AreWithin, AreWorked}
-use Rattle.work_shares.proofs.Shared.{within_whole, first_worked, done_within, all_counted, idle}
-use Rattle.work_shares.proofs.Rises.{done_then, within_then}
+use Rattle.job_seats.specs.analyst.specs.Work.{Work, no_work, done, IsWithin, IsCounted}
+use Rattle.job_seats.specs.work_shares.specs.Shares.{both, work_sum, AreDone, AreWithin, AreWorked}
+use Rattle.job_seats.specs.work_shares.proofs.Shared.{within_whole, first_worked, done_within, all_counted, idle}
+use Rattle.job_seats.specs.work_shares.proofs.Rises.{done_then, within_then}
 use Rattle.number_draws.specs.declared.hand.Hand.{Hand}
 use Rattle.number_draws.specs.Below.{below}
 use Rattle.number_draws.specs.Places.{AreThere}

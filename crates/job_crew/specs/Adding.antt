@@ -1,8 +1,8 @@
 -- What was drawn and answered at many places.
 use Rattle.std.specs.Prelude.{◌≡◌, ℕ, ◌+◌, List, length, slice_get, sum_by, Some, Result, Ok, Err}
 use Rattle.std.specs.List.{AllByRecursion, AllZip}
-use Rattle.analyst.specs.Work.{Work, done, IsWithin}
-use Rattle.work_shares.specs.Shares.{work_sum}
+use Rattle.job_seats.specs.analyst.specs.Work.{Work, done, IsWithin}
+use Rattle.job_seats.specs.work_shares.specs.Shares.{work_sum}
 use Rattle.number_draws.specs.Below.{below}
 use Rattle.job_seats.specs.declared.place.Seat.{Seat}
 use Rattle.job_seats.specs.Seats.{SameLink, weight}

@@ -1,6 +1,6 @@
 -- What many workers have done.
 use Rattle.std.specs.Prelude.{List, [], ◌∷◌, Result, Ok, Err}
-use Rattle.analyst.specs.Work.{Work}
+use Rattle.job_seats.specs.analyst.specs.Work.{Work}
 use Rattle.job_seats.specs.declared.place.Seat.{Seat}
 use Rattle.job_seats.specs.Working.{Went, GaveUp}
 

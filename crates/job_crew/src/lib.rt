@@ -8,4 +8,6 @@ mod run;
 mod setting;
 mod together;
 
+pub use job_seats;
+pub use job_seats::analyst;
 pub use run::run_all;

@@ -1,6 +1,6 @@
 ghost use Rattle.std.specs.Prelude.{All, length};
 ghost use Rattle.std.specs.List.{AllByRecursion};
-ghost use Rattle.analyst.specs.Work.{IsCounted};
+ghost use Rattle.job_seats.specs.analyst.specs.Work.{IsCounted};
 ghost use Rattle.job_seats.specs.Seats.{IsSeat};
 ghost use Rattle.job_seats.specs.Left.{IsWhole};
 ghost use Rattle.job_crew.specs.Tying.{own_view};

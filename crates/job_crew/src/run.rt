@@ -1,7 +1,7 @@
 ghost use Rattle.std.specs.Prelude.{◌≡◌, ◌<◌, ◌^◌, ℕ, All, IfOk, OnOk, length, map, sum_by};
 ghost use Rattle.std.specs.List.{AllByRecursion, AllZip, flat_map};
-ghost use Rattle.analyst.specs.Work.{IsCounted};
-ghost use Rattle.work_shares.specs.Shares.{work_sum, AreWorked};
+ghost use Rattle.job_seats.specs.analyst.specs.Work.{IsCounted};
+ghost use Rattle.job_seats.specs.work_shares.specs.Shares.{work_sum, AreWorked};
 ghost use Rattle.number_draws.specs.Below.{below};
 ghost use Rattle.job_crew.specs.Tying.{own_view, kept_of, AreTied, IsFresh};
 ghost use Rattle.job_crew.specs.Adding.{AreAnswered};

@@ -1,7 +1,7 @@
 ghost use Rattle.std.specs.Prelude.{◌≡◌, ◌<◌, All, OnOk, IsOk, length, map};
 ghost use Rattle.std.specs.List.{AllByRecursion};
 ghost use Rattle.std.specs.Thread.{IsSync, IsSend};
-ghost use Rattle.analyst.specs.Work.{IsCounted};
+ghost use Rattle.job_seats.specs.analyst.specs.Work.{IsCounted};
 ghost use Rattle.job_seats.specs.Seats.{IsSeat};
 ghost use Rattle.job_crew.specs.Together.{AllEnded, Both};
 

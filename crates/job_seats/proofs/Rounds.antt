@@ -3,7 +3,7 @@ use Rattle.std.proofs.Common.{◌≡◌, ℕ, zero, suc, ◌<◌, List, [], ◌�
 use Rattle.std.specs.Prelude.{IsErr}
 use Rattle.std.specs.List.{AllZip}
 use Rattle.std.proofs.lemmas.List.Sums.{sum_by-cons}
-use Rattle.analyst.specs.Work.{Work, work_of, done, IsWithin, IsCounted}
+use Rattle.work_shares.specs.analyst.specs.Work.{Work, work_of, done, IsWithin, IsCounted}
 use Rattle.work_shares.specs.Shares.{both, work_sum}
 use Rattle.work_shares.proofs.Works.{IsPart, worked_none, worked_more, within_same, within_more}
 use Rattle.work_shares.proofs.Sums.{sum_of_parts}

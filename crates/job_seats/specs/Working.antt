@@ -1,7 +1,7 @@
 -- What a worker has done.
 use Rattle.std.specs.Prelude.{◌≡◌, ℕ, List, ◌++◌, slice_get, Option, Some, None, Result, Ok, Err}
 use Rattle.std.specs.List.{AllZip}
-use Rattle.analyst.specs.Work.{Work, no_work, done, IsWithin}
+use Rattle.work_shares.specs.analyst.specs.Work.{Work, no_work, done, IsWithin}
 use Rattle.work_shares.specs.Shares.{work_sum}
 use Rattle.job_seats.specs.declared.place.Seat.{Seat}
 use Rattle.job_seats.specs.Seats.{Drew}

@@ -1,5 +1,5 @@
 ghost use Rattle.std.specs.Prelude.{IfOk};
-ghost use Rattle.analyst.specs.Work.{Work, Works, IsCounted};
+ghost use Rattle.work_shares.specs.analyst.specs.Work.{Work, Works, IsCounted};
 
 use flow_values::NoMemory;
 

@@ -7,4 +7,5 @@ mod working;
 
 pub use kind::Kind;
 pub use place::{Link, Seat};
+pub use work_shares::analyst;
 pub use working::{work, work_left};

@@ -1,6 +1,6 @@
 ghost use Rattle.std.specs.Prelude.{◌≡◌, ◌<◌, All, IfOk, OnOk, MatchBool, length};
 ghost use Rattle.crossbeam_deque.specs.Handles.{worker_view};
-ghost use Rattle.analyst.specs.Work.{IsCounted};
+ghost use Rattle.work_shares.specs.analyst.specs.Work.{IsCounted};
 ghost use Rattle.job_seats.specs.Seats.{IsSeat};
 ghost use Rattle.job_seats.specs.Left.{IsWhole, AllTaken, left_in};
 ghost use Rattle.job_seats.specs.Working.{Ended};

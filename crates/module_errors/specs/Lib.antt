@@ -1,3 +1,6 @@
+pub use Rattle.local_signatures
+pub use Rattle.merged_signatures
+pub use Rattle.typing
 pub mod Program
 pub mod TopNames
 pub mod Items

@@ -10,10 +10,10 @@ use Rattle.graph_search.proofs.Rising.{one_at}
 use Rattle.merged_signatures.specs.Chains.{Known, found}
 use Rattle.merged_signatures.specs.Imports as imports
 use Rattle.recheck_plan.specs.Affected.{AreExactly, LeadsToTouched, IsToCheck}
-use Rattle.program_check.specs.Full.{Results, known_of, view_in, sigs_in, IsFull}
-use Rattle.affected_law.specs.Affected.{IsPathOf, results_at, Differs, Merged, Checked}
-use Rattle.affected_law.specs.Inside.{NamedIsKnown, ImportsStayInside}
-use Rattle.affected_law.proofs.Places.{some_same, is_path, module_at, known_at}
+use Rattle.affected_sizes.specs.program_check.specs.Full.{Results, known_of, view_in, sigs_in, IsFull}
+use Rattle.affected_sizes.specs.affected_law.specs.Affected.{IsPathOf, results_at, Differs, Merged, Checked}
+use Rattle.affected_sizes.specs.affected_law.specs.Inside.{NamedIsKnown, ImportsStayInside}
+use Rattle.affected_sizes.specs.affected_law.proofs.Places.{some_same, is_path, module_at, known_at}
 use Rattle.affected_sizes.specs.Paths.{ArePaths}
 use Rattle.affected_sizes.specs.Polls.{AreImports}
 use Rattle.affected_sizes.proofs.Lists.{in_order}

@@ -11,11 +11,11 @@ use Rattle.merged_signatures.specs.Imports as imports
 use Rattle.merged_signatures.specs.Imports.{Imports}
 use Rattle.merged_signatures.specs.Chains.{View}
 use Rattle.errors_by_reach.specs.Seen.{Sigs}
-use Rattle.program_check.specs.Full.{Results, view_in, sigs_in, IsFull}
+use Rattle.affected_sizes.specs.program_check.specs.Full.{Results, view_in, sigs_in, IsFull}
 use Rattle.graph_laws.proofs.Ways.{HasPlace}
-use Rattle.affected_law.specs.Affected.{IsPathOf, results_at}
-use Rattle.affected_law.specs.Inside.{NamedIsKnown, ImportsStayInside}
-use Rattle.affected_law.proofs.Places.{is_path, module_at, known_at, sigs_are_merged}
+use Rattle.affected_sizes.specs.affected_law.specs.Affected.{IsPathOf, results_at}
+use Rattle.affected_sizes.specs.affected_law.specs.Inside.{NamedIsKnown, ImportsStayInside}
+use Rattle.affected_sizes.specs.affected_law.proofs.Places.{is_path, module_at, known_at, sigs_are_merged}
 use Rattle.affected_sizes.specs.Paths.{HasPath}
 use Rattle.affected_sizes.specs.Polls.{AreImports}
 use Rattle.affected_sizes.proofs.Lists.{in_order, place_has, has_place}

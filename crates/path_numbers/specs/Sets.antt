@@ -3,8 +3,8 @@ use Rattle.std.specs.Prelude.{◌≡◌, ◌≢◌, ◌⊎◌, ℕ, List, [], ma
 use Rattle.flow_base.specs.Program.{Bytes, Program, IsRising, paths_of}
 use Rattle.graph_search.specs.Cycles.{Has}
 use Rattle.recheck_plan.specs.Affected.{AreExactly, LeadsToTouched, IsToCheck}
-use Rattle.program_check.specs.Full.{Results, view_in, sigs_in, IsFull}
-use Rattle.affected_law.specs.Affected.{results_at, Differs, Parsed, Merged, Checked}
+use Rattle.affected_sizes.specs.program_check.specs.Full.{Results, view_in, sigs_in, IsFull}
+use Rattle.affected_sizes.specs.affected_law.specs.Affected.{results_at, Differs, Parsed, Merged, Checked}
 use Rattle.affected_sizes.specs.Paths.{ArePaths}
 use Rattle.affected_sizes.specs.Polls.{AreImports}
 use Rattle.recheck_law.specs.Names.{Names, LeadsToMoved}

@@ -4,7 +4,7 @@ use Rattle.flow_base.specs.Program.{Bytes, Program, IsRising, paths_of}
 use Rattle.graph_search.specs.Cycles as graph
 use Rattle.graph_search.specs.Cycles.{Leads}
 use Rattle.merged_signatures.specs.Imports.{Imports}
-use Rattle.program_check.specs.Full.{Results, view_in, sigs_in, IsFull}
+use Rattle.affected_sizes.specs.program_check.specs.Full.{Results, view_in, sigs_in, IsFull}
 use Rattle.affected_sizes.specs.Polls.{AreImports}
 use Rattle.recheck_law.specs.Names.{Names, LeadsByNames}
 

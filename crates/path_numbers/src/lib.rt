@@ -6,12 +6,15 @@
 ghost use Rattle.path_numbers.specs.Ways.{ImportsLeadAsEdges, NamesLeadAsEdges};
 ghost use Rattle.path_numbers.specs.Sets.{MergedAreNumbers, StirredAreNumbers, CheckedAreNumbers};
 
+pub use affected_sizes;
+pub use recheck_law;
+
 /// Edges lead from one place to another exactly where imports, or names, lead from the path of the one to that of the other.
 pub fn paths_lead_as_edges()
     ensures imports { ImportsLeadAsEdges }
     ensures names { NamesLeadAsEdges }
 {
-    affected_law::all_stays_inside();
+    affected_sizes::affected_law::all_stays_inside();
 }
 
 /// The affected paths are those at the affected places.
@@ -20,6 +23,6 @@ pub fn sets_are_numbers()
     ensures stirred { StirredAreNumbers }
     ensures checked { CheckedAreNumbers }
 {
-    affected_law::all_stays_inside();
+    affected_sizes::affected_law::all_stays_inside();
     recheck_law::reach_is_by_names();
 }

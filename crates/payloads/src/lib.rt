@@ -6,3 +6,5 @@ mod payload;
 
 pub use entities::{deps_entity, errors_entity, parse_entity, signature_entity};
 pub use payload::Payload;
+pub use program_check;
+pub use program_check::source_front;

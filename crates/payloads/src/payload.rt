@@ -1,7 +1,7 @@
 use check_values::{Deps, Errs, Root, Sig};
 use flow_values::Shared;
 use heap_core::Program;
-use source_front::Parse;
+use program_check::source_front::Parse;
 
 /// What an entity holds. Entity 0 holds the root; the module of row r has its results at the entities
 /// `4 * r + 1` to `4 * r + 4`, in the order of the variants.

@@ -7,17 +7,17 @@ use Rattle.check_values.specs.declared.signatures.Deps.{Deps}
 use Rattle.check_values.specs.declared.signatures.LocalSig.{LocalSig}
 use Rattle.check_values.specs.declared.signatures.Sig.{Sig}
 use Rattle.js_grammar.specs.Items.{Module}
-use Rattle.source_front.specs.declared.parse.ParseTree.{ParseTree}
-use Rattle.source_front.specs.declared.parse.ParseTree.TheVariants.{Tree, Broken}
-use Rattle.source_front.specs.declared.parse.Parse.{Parse}
-use Rattle.source_front.specs.Front.{IsParse}
-use Rattle.source_front.specs.Law as law
-use Rattle.source_front.specs.Law.{Seen, seen, Same, OneParse}
+use Rattle.check_job.specs.source_front.specs.declared.parse.ParseTree.{ParseTree}
+use Rattle.check_job.specs.source_front.specs.declared.parse.ParseTree.TheVariants.{Tree, Broken}
+use Rattle.check_job.specs.source_front.specs.declared.parse.Parse.{Parse}
+use Rattle.check_job.specs.source_front.specs.Front.{IsParse}
+use Rattle.check_job.specs.source_front.specs.Law as law
+use Rattle.check_job.specs.source_front.specs.Law.{Seen, seen, Same, OneParse}
 use Rattle.module_resolution.specs.Dependencies.{dependencies_of}
 use Rattle.merged_signatures.specs.Chains.{View}
 use Rattle.merged_signatures.specs.Merged.{merged}
-use Rattle.errors_by_reach.specs.Seen.{Sigs}
-use Rattle.errors_by_reach.specs.Law.{Source, whole, broken, HasErrors, OneAnswer}
+use Rattle.check_job.specs.errors_by_reach.specs.Seen.{Sigs}
+use Rattle.check_job.specs.errors_by_reach.specs.Law.{Source, whole, broken, HasErrors, OneAnswer}
 use Rattle.check_job.specs.Jobs.{source_in, fault_code, fault_place}
 use Rattle.program_check.specs.Full.{Results, beside, known_of, module_in, deps_in, AreResultsOf, AreResults, IsFull}
 use Rattle.program_check.specs.Law.{Alike, AllAlike, OneFull}

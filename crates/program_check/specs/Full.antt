@@ -6,16 +6,16 @@ use Rattle.check_values.specs.declared.faults.Fault.{Fault}
 use Rattle.check_values.specs.declared.signatures.Deps.{Deps}
 use Rattle.check_values.specs.declared.signatures.Sig.{Sig}
 use Rattle.js_grammar.specs.Items.{Module}
-use Rattle.js_tree.specs.View.{module_view}
-use Rattle.source_front.specs.declared.parse.ParseTree.{ParseTree}
-use Rattle.source_front.specs.declared.parse.ParseTree.TheVariants.{Tree, Broken}
-use Rattle.source_front.specs.declared.parse.Parse.{Parse}
-use Rattle.source_front.specs.Front.{IsParse}
+use Rattle.check_job.specs.js_tree.specs.View.{module_view}
+use Rattle.check_job.specs.source_front.specs.declared.parse.ParseTree.{ParseTree}
+use Rattle.check_job.specs.source_front.specs.declared.parse.ParseTree.TheVariants.{Tree, Broken}
+use Rattle.check_job.specs.source_front.specs.declared.parse.Parse.{Parse}
+use Rattle.check_job.specs.source_front.specs.Front.{IsParse}
 use Rattle.module_resolution.specs.Dependencies.{dependencies_of}
 use Rattle.merged_signatures.specs.Chains.{Known, View}
 use Rattle.merged_signatures.specs.Merged.{merged}
-use Rattle.errors_by_reach.specs.Seen.{Sigs}
-use Rattle.errors_by_reach.specs.Law.{HasErrors}
+use Rattle.check_job.specs.errors_by_reach.specs.Seen.{Sigs}
+use Rattle.check_job.specs.errors_by_reach.specs.Law.{HasErrors}
 use Rattle.check_job.specs.Jobs.{source_in}
 
 -- what the check gives a module: what its source says by itself, which modules its specifiers find, its merged signature, its errors

@@ -1,7 +1,7 @@
 -- A program has one full check.
 use Rattle.std.specs.Prelude.{◌≡◌, List, [], ◌∷◌}
 use Rattle.flow_base.specs.Program.{Program}
-use Rattle.source_front.specs.Law.{Same}
+use Rattle.check_job.specs.source_front.specs.Law.{Same}
 use Rattle.program_check.specs.Full.{Results, IsFull}
 
 -- two results say the same of a module

@@ -4,10 +4,12 @@
 
 ghost use Rattle.program_check.specs.Law.{OneFull};
 
+pub use check_job::source_front;
+
 /// A program has one full check: whatever else is one says the same of each module.
 pub fn one_full()
     ensures { OneFull }
 {
-    source_front::one_parse();
-    errors_by_reach::errors_by_reach();
+    check_job::source_front::one_parse();
+    check_job::errors_by_reach::errors_by_reach();
 }

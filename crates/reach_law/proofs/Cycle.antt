@@ -10,17 +10,17 @@ use Rattle.type_values.specs.declared.types.FlowType as made
 use Rattle.type_values.specs.declared.types.Param as value
 use Rattle.type_names.specs.Names.{Name}
 use Rattle.flow_facts.specs.declared.place.Place.{Place}
-use Rattle.typing.specs.Names.{Scope, meaning_of}
-use Rattle.typing.specs.Changes.{changes_of_ex, changes_of_stmts, changes_of_body}
-use Rattle.typing.specs.States.{World, Want, Notes, Now, Out, Env, no_of, after, on_yes, now_of, with_now, plainly, change_notes, against, noted_out, reach, dead, leave}
-use Rattle.typing.specs.TypeFaults.{written, annotated, type_read, annotation_read}
-use Rattle.typing.specs.Tests.{number_type, variable_in, step_place, place_in}
-use Rattle.typing.specs.Members.{levels, Arg, one_function}
-use Rattle.typing.specs.Functions.{bind_sig, bind_stmts, none_bound, enter_block, own_scope, sig_read, result_of, body_env, kept_facts, ended}
-use Rattle.typing.specs.Objects.{Entry, entry_of, entries_of, key_bound, Candidate, candidate_for, value_want, key_asked, all_given, prop_read, object_type, array_type, Elements, elements_for, element_want, count_of}
-use Rattle.typing.specs.Forms.{variable_out, prefixes_out, place_before, right_now, operator_out, first_want, cast_asked, compared, compared_out, index_out, Args, call_out, Choices, choices_out, unless_matched}
-use Rattle.typing.specs.Statements.{first_of, end_of, Goal, goal_want, variable_goal, variable_named, property_goal, element_goal, assigned_env, declared_env, returned_value, Fork, forked, merged, loop_env, after_loop}
-use Rattle.typing.specs.Typing.{Items, Props, Made, made_out, made_from, truth_out, arg_of, arg_want, read, read_form, read_elements, read_fields, read_field, read_links, read_link, read_args, read_operands, read_operand, read_arms, read_function, read_arrow, read_stmts, read_stmt, read_declaration, read_simple, read_branches, read_else, read_body, read_block}
+use Rattle.errors_law.specs.typing.specs.Names.{Scope, meaning_of}
+use Rattle.errors_law.specs.typing.specs.Changes.{changes_of_ex, changes_of_stmts, changes_of_body}
+use Rattle.errors_law.specs.typing.specs.States.{World, Want, Notes, Now, Out, Env, no_of, after, on_yes, now_of, with_now, plainly, change_notes, against, noted_out, reach, dead, leave}
+use Rattle.errors_law.specs.typing.specs.TypeFaults.{written, annotated, type_read, annotation_read}
+use Rattle.errors_law.specs.typing.specs.Tests.{number_type, variable_in, step_place, place_in}
+use Rattle.errors_law.specs.typing.specs.Members.{levels, Arg, one_function}
+use Rattle.errors_law.specs.typing.specs.Functions.{bind_sig, bind_stmts, none_bound, enter_block, own_scope, sig_read, result_of, body_env, kept_facts, ended}
+use Rattle.errors_law.specs.typing.specs.Objects.{Entry, entry_of, entries_of, key_bound, Candidate, candidate_for, value_want, key_asked, all_given, prop_read, object_type, array_type, Elements, elements_for, element_want, count_of}
+use Rattle.errors_law.specs.typing.specs.Forms.{variable_out, prefixes_out, place_before, right_now, operator_out, first_want, cast_asked, compared, compared_out, index_out, Args, call_out, Choices, choices_out, unless_matched}
+use Rattle.errors_law.specs.typing.specs.Statements.{first_of, end_of, Goal, goal_want, variable_goal, variable_named, property_goal, element_goal, assigned_env, declared_env, returned_value, Fork, forked, merged, loop_env, after_loop}
+use Rattle.errors_law.specs.typing.specs.Typing.{Items, Props, Made, made_out, made_from, truth_out, arg_of, arg_want, read, read_form, read_elements, read_fields, read_field, read_links, read_link, read_args, read_operands, read_operand, read_arms, read_function, read_arrow, read_stmts, read_stmt, read_declaration, read_simple, read_branches, read_else, read_body, read_block}
 use Rattle.reach_law.specs.Good.{Good, AllGood, GoodProp}
 use Rattle.reach_law.specs.Twins.{Twins, one, other, GoodWant, GoodKnown, GoodOut, GoodScope, GoodEnv, GoodFork, GoodParamsMaybe}
 use Rattle.reach_law.proofs.Types.{all_append, null_good, literal_good, truth_good, widened_good}

@@ -4,9 +4,9 @@ use Rattle.check_values.specs.Rows.{Bytes, Rows, row_at}
 use Rattle.check_values.specs.declared.faults.Fault.{Fault}
 use Rattle.check_values.specs.declared.signatures.Deps.{Deps}
 use Rattle.check_values.specs.declared.signatures.Sig.{Sig}
-use Rattle.errors_by_reach.specs.Law.{Source, whole, broken, HasErrors, Agree}
-use Rattle.errors_by_reach.proofs.Tables.{agree_back}
-use Rattle.errors_by_reach.proofs.Laws.{cut_agrees}
+use Rattle.errors_law.specs.errors_by_reach.specs.Law.{Source, whole, broken, HasErrors, Agree}
+use Rattle.errors_law.specs.errors_by_reach.proofs.Tables.{agree_back}
+use Rattle.errors_law.specs.errors_by_reach.proofs.Laws.{cut_agrees}
 use Rattle.errors_law.proofs.Reached.{table_of, is_table}
 use Rattle.errors_law.proofs.Views.{each_sees, each_sees_reached}
 use Rattle.reach_law.specs.Law.{KeyLaw, TypeKeyLaw, CutIsRight, TypeCutIsRight, JobsAreRight}

@@ -11,17 +11,17 @@ use Rattle.type_names.specs.Names.{Name}
 use Rattle.local_signatures.specs.Scope.{scope_of, default_name}
 use Rattle.merged_signatures.specs.Chains.{found}
 use Rattle.flow_facts.specs.Known.{no_facts}
-use Rattle.typing.specs.Names.{constant, type_name, Binding, prelude, binding_of}
-use Rattle.typing.specs.Names as typing
-use Rattle.typing.specs.Changes.{Change}
-use Rattle.typing.specs.States.{World, Notes, Env, Out, after, now_of, with_now, fault_at, name_fault}
-use Rattle.typing.specs.TypeFaults.{type_meant, type_read}
-use Rattle.typing.specs.Functions.{Bound, bind, bind_declaration, bind_function, none_bound}
-use Rattle.typing.specs.Typing.{read}
-use Rattle.module_errors.specs.Program.{Program, said, value_said, wrong_import}
-use Rattle.module_errors.specs.TopNames.{top_binding, import_binding, bind_importeds, bind_list, bind_default, bind_import, bind_alias, bind_export, bind_item, bind_items, changes_of_items, exportings_of, Exporting, exported_twice}
-use Rattle.module_errors.specs.Items.{specifier_found, specifier_read, wrong_at, imported_read, importeds_read, list_read, import_read, wrong_export, exporteds_read, exports_read, handed_on, list_handed_on, is_bound_at, level_on_cycle, is_on_cycle, alias_read, noted_env, read_export, read_item_form, read_item, read_items}
-use Rattle.module_errors.specs.Errors.{no_notes, top_env}
+use Rattle.errors_law.specs.typing.specs.Names.{constant, type_name, Binding, prelude, binding_of}
+use Rattle.errors_law.specs.typing.specs.Names as typing
+use Rattle.errors_law.specs.typing.specs.Changes.{Change}
+use Rattle.errors_law.specs.typing.specs.States.{World, Notes, Env, Out, after, now_of, with_now, fault_at, name_fault}
+use Rattle.errors_law.specs.typing.specs.TypeFaults.{type_meant, type_read}
+use Rattle.errors_law.specs.typing.specs.Functions.{Bound, bind, bind_declaration, bind_function, none_bound}
+use Rattle.errors_law.specs.typing.specs.Typing.{read}
+use Rattle.errors_law.specs.module_errors.specs.Program.{Program, said, value_said, wrong_import}
+use Rattle.errors_law.specs.module_errors.specs.TopNames.{top_binding, import_binding, bind_importeds, bind_list, bind_default, bind_import, bind_alias, bind_export, bind_item, bind_items, changes_of_items, exportings_of, Exporting, exported_twice}
+use Rattle.errors_law.specs.module_errors.specs.Items.{specifier_found, specifier_read, wrong_at, imported_read, importeds_read, list_read, import_read, wrong_export, exporteds_read, exports_read, handed_on, list_handed_on, is_bound_at, level_on_cycle, is_on_cycle, alias_read, noted_env, read_export, read_item_form, read_item, read_items}
+use Rattle.errors_law.specs.module_errors.specs.Errors.{no_notes, top_env}
 use Rattle.reach_law.specs.Good.{Level, Good, GoodLevel}
 use Rattle.reach_law.specs.Twins.{Twins, one, other, GoodBinding, GoodNames, GoodEnv}
 use Rattle.reach_law.proofs.Types.{all_append, out_good, any_good, void_good}

@@ -24,15 +24,15 @@ use Rattle.local_signatures.specs.Scope as home
 use Rattle.local_signatures.specs.Scope.{bound_import, bound_variable, bound_function, bound_alias, scope_of}
 use Rattle.merged_signatures.specs.Chains.{found}
 use Rattle.merged_signatures.specs.Reach.{paths_in, paths_of_export, paths_named, Reach, by_specifier, by_signature}
-use Rattle.typing.specs.States.{TypeMeaning, a_type, World, Env}
-use Rattle.typing.specs.TypeFaults.{type_meant, written_by}
-use Rattle.module_errors.specs.Program.{Program, Saying, says_nothing, lacks_it, says_it, said_by_rows, said_by_sig, said_by, said_in, value_said, type_said, type_bound, world_of}
-use Rattle.module_errors.specs.Items.{read_items}
-use Rattle.module_errors.specs.Errors.{top_env, module_read, seen_type}
-use Rattle.errors_by_reach.specs.Seen.{Sigs, IsTable, meaning_in, own_alias, alias_told, own_type, alias_type, names_unfolded, IsSeen}
+use Rattle.errors_law.specs.typing.specs.States.{TypeMeaning, a_type, World, Env}
+use Rattle.errors_law.specs.typing.specs.TypeFaults.{type_meant, written_by}
+use Rattle.errors_law.specs.module_errors.specs.Program.{Program, Saying, says_nothing, lacks_it, says_it, said_by_rows, said_by_sig, said_by, said_in, value_said, type_said, type_bound, world_of}
+use Rattle.errors_law.specs.module_errors.specs.Items.{read_items}
+use Rattle.errors_law.specs.module_errors.specs.Errors.{top_env, module_read, seen_type}
+use Rattle.errors_law.specs.errors_by_reach.specs.Seen.{Sigs, IsTable, meaning_in, own_alias, alias_told, own_type, alias_type, names_unfolded, IsSeen}
 use Rattle.reach_law.specs.Good.{Good, AllGood}
 use Rattle.reach_law.specs.Twins.{Twins, one, other}
-use Rattle.errors_by_reach.specs.Law.{Agree}
+use Rattle.errors_law.specs.errors_by_reach.specs.Law.{Agree}
 use Rattle.reach_law.specs.Law.{ErrorsByReach, TypesByReach}
 use Rattle.reach_law.proofs.Types.{any_good, ref_good}
 use Rattle.reach_law.proofs.Trees.{type_good}

@@ -7,10 +7,10 @@ use Rattle.check_values.specs.declared.faults.Fault.{Fault}
 use Rattle.check_values.specs.declared.signatures.Deps.{Deps}
 use Rattle.check_values.specs.declared.signatures.Sig.{Sig}
 use Rattle.type_values.specs.declared.types.FlowType.{FlowType}
-use Rattle.module_errors.specs.Program.{Program}
-use Rattle.module_errors.specs.Errors.{module_errors, type_at_place}
-use Rattle.errors_by_reach.specs.Seen.{Sigs, IsTable, IsSeen}
-use Rattle.errors_by_reach.specs.Law.{Source, HasErrors, AreErrors, HasType, IsTypeAt, Agree}
+use Rattle.errors_law.specs.module_errors.specs.Program.{Program}
+use Rattle.errors_law.specs.module_errors.specs.Errors.{module_errors, type_at_place}
+use Rattle.errors_law.specs.errors_by_reach.specs.Seen.{Sigs, IsTable, IsSeen}
+use Rattle.errors_law.specs.errors_by_reach.specs.Law.{Source, HasErrors, AreErrors, HasType, IsTypeAt, Agree}
 
 -- This holds of what a module sees by some signatures, and by others that say the same where it reaches. Neither are cut: the table is
 -- there alone to tell where it reaches.

@@ -6,8 +6,8 @@ use mathlib.Core.Logic.{dite}
 use native.Mathlib.Decide.{ℕ_discrete}
 use Rattle.heap_core.proofs.Lists.{put_here, put_else}
 use Rattle.check_values.specs.declared.faults.Errs.{Errs}
-use Rattle.check_phases.specs.declared.merging.Sources.{Sources}
-use Rattle.check_phases.proofs.Lists.{one_value, value_at}
+use Rattle.recheck_merging.specs.check_phases.specs.declared.merging.Sources.{Sources}
+use Rattle.recheck_merging.specs.check_phases.proofs.Lists.{one_value, value_at}
 use Rattle.recheck_checking.specs.Keeping.{IsFilled}
 use Rattle.recheck_checking.specs.Checking.{IsCheckedBy, AreCheckedTo}
 use Rattle.recheck_checking.specs.declared.signing.Signed.{Signed}

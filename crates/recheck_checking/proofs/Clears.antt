@@ -6,7 +6,7 @@ use Rattle.heap_core.proofs.Lists.{put_here, put_else, get_index}
 use Rattle.check_values.specs.declared.faults.Errs.{Errs}
 use Rattle.graph_search.specs.Cycles.{Has}
 use Rattle.graph_search.proofs.Lists.{has_more, earlier, this, has_none, take_whole}
-use Rattle.check_phases.proofs.Lists.{one_value}
+use Rattle.recheck_merging.specs.check_phases.proofs.Lists.{one_value}
 use Rattle.recheck_checking.specs.Keeping.{kept_in, AreKept, AreCleared, AreFilled}
 use Rattle.recheck_merging.proofs.Mapped.{get_mapped, length_mapped}
 

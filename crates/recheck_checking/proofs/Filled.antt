@@ -7,15 +7,15 @@ use Rattle.check_values.specs.Rows.{Rows, row_at}
 use Rattle.check_values.specs.declared.faults.Errs.{Errs}
 use Rattle.check_values.specs.declared.signatures.Deps.{Deps}
 use Rattle.check_values.specs.declared.signatures.Sig.{Sig}
-use Rattle.source_front.specs.declared.parse.Parse.{Parse}
+use Rattle.recheck_merging.specs.source_front.specs.declared.parse.Parse.{Parse}
 use Rattle.errors_by_reach.specs.Seen.{Sigs}
 use Rattle.errors_by_reach.specs.Law.{HasErrors}
-use Rattle.check_job.specs.Jobs.{source_in}
-use Rattle.check_phases.specs.Phases.{AreChecked, IsCheckedAt}
-use Rattle.check_phases.specs.Sourced.{program_in}
-use Rattle.check_phases.specs.declared.merging.Sources.{Sources}
-use Rattle.check_phases.proofs.Lists.{one_value, within_there}
-use Rattle.check_phases.proofs.Waves.{named_has, has_named}
+use Rattle.recheck_merging.specs.check_job.specs.Jobs.{source_in}
+use Rattle.recheck_merging.specs.check_phases.specs.Phases.{AreChecked, IsCheckedAt}
+use Rattle.recheck_merging.specs.check_phases.specs.Sourced.{program_in}
+use Rattle.recheck_merging.specs.check_phases.specs.declared.merging.Sources.{Sources}
+use Rattle.recheck_merging.specs.check_phases.proofs.Lists.{one_value, within_there}
+use Rattle.recheck_merging.specs.check_phases.proofs.Waves.{named_has, has_named}
 use Rattle.recheck_merging.proofs.Mapped.{get_mapped}
 use Rattle.recheck_checking.specs.Keeping.{IsFilled, AreFilled}
 use Rattle.recheck_checking.specs.Checking.{AreCheckedTo, AllAreChecked}

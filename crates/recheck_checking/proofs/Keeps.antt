@@ -1,7 +1,7 @@
 -- The old errors of modules, as a loop makes them.
 use Rattle.std.proofs.Common.{◌≡◌, ℕ, ◌+◌, ◌<◌, List, [], ◌∷◌, ◌++◌, map, length, take, get_or, Option, None, sym, ◌∙◌}
 use Rattle.check_values.specs.declared.faults.Errs.{Errs}
-use Rattle.check_phases.proofs.Lists.{place_at}
+use Rattle.recheck_merging.specs.check_phases.proofs.Lists.{place_at}
 use Rattle.recheck_merging.proofs.Mapped.{mapped_more}
 use Rattle.recheck_checking.specs.Keeping.{kept_in}
 

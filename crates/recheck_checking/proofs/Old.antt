@@ -7,9 +7,9 @@ use Rattle.check_values.specs.declared.root.RootRow.{RootRow}
 use Rattle.check_values.specs.declared.faults.Errs.{Errs}
 use Rattle.check_values.specs.declared.signatures.Deps.{Deps}
 use Rattle.check_values.specs.declared.signatures.Sig.{Sig}
-use Rattle.source_front.specs.declared.parse.Parse.{Parse}
-use Rattle.check_phases.specs.Phases.{results_by}
-use Rattle.check_phases.proofs.Lists.{one_value}
+use Rattle.recheck_merging.specs.source_front.specs.declared.parse.Parse.{Parse}
+use Rattle.recheck_merging.specs.check_phases.specs.Phases.{results_by}
+use Rattle.recheck_merging.specs.check_phases.proofs.Lists.{one_value}
 use Rattle.edited_root.specs.From.{texts_in, number_in}
 
 -- a module that had a number stood there

@@ -4,21 +4,21 @@ use Rattle.std.specs.Prelude.{slice_range}
 use Rattle.std.specs.List.{AllZip}
 use Rattle.std.proofs.lemmas.List.{length-take, length-drop}
 use Rattle.heap_core.proofs.Lists.{get_index}
-use Rattle.check_job.proofs.Fronted.{fronted_errors}
-use Rattle.check_job.specs.declared.job.CheckJob.{CheckJob}
+use Rattle.recheck_merging.specs.check_job.proofs.Fronted.{fronted_errors}
+use Rattle.recheck_merging.specs.check_job.specs.declared.job.CheckJob.{CheckJob}
 use Rattle.check_values.specs.declared.faults.Errs.{Errs}
-use Rattle.check_phases.specs.Checking.{IsJobOf, batch_after}
-use Rattle.check_phases.specs.Sourced.{AreSources}
-use Rattle.check_phases.specs.declared.merging.Sources.{Sources}
-use Rattle.check_phases.proofs.Checks.{job_errors, job_fronted}
-use Rattle.check_phases.proofs.Lists.{one_value, value_at, place_at, take_whole, within_there, zip_more}
+use Rattle.recheck_merging.specs.check_phases.specs.Checking.{IsJobOf, batch_after}
+use Rattle.recheck_merging.specs.check_phases.specs.Sourced.{AreSources}
+use Rattle.recheck_merging.specs.check_phases.specs.declared.merging.Sources.{Sources}
+use Rattle.recheck_merging.specs.check_phases.proofs.Checks.{job_errors, job_fronted}
+use Rattle.recheck_merging.specs.check_phases.proofs.Lists.{one_value, value_at, place_at, take_whole, within_there, zip_more}
 use Rattle.recheck_merging.proofs.Mapped.{all_has, has_all}
 use Rattle.reach_law.specs.Law.{JobsAreRight}
 use Rattle.recheck_checking.specs.Checking.{IsCheckedBy, AreCheckedTo}
 use Rattle.recheck_checking.specs.Keeping.{put_all}
 use Rattle.recheck_checking.specs.declared.signing.Signed.{Signed}
 use Rattle.recheck_checking.proofs.Batches.{number_low, more_checked}
-use Rattle.worker_jobs.specs.Checking.{HasErrors}
+use Rattle.recheck_merging.specs.worker_jobs.specs.Checking.{HasErrors}
 
 -- ---- jobs
 

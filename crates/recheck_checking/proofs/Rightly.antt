@@ -8,28 +8,28 @@ use Rattle.check_values.specs.declared.faults.Errs.{Errs}
 use Rattle.check_values.specs.declared.faults.Fault.{Fault}
 use Rattle.check_values.specs.declared.signatures.Deps.{Deps}
 use Rattle.check_values.specs.declared.signatures.Sig.{Sig}
-use Rattle.source_front.specs.Front.{IsParse}
-use Rattle.source_front.specs.Law.{OneParse}
-use Rattle.source_front.specs.declared.parse.Parse.{Parse}
+use Rattle.recheck_merging.specs.source_front.specs.Front.{IsParse}
+use Rattle.recheck_merging.specs.source_front.specs.Law.{OneParse}
+use Rattle.recheck_merging.specs.source_front.specs.declared.parse.Parse.{Parse}
 use Rattle.module_resolution.specs.Dependencies.{dependencies_of}
 use Rattle.graph_search.specs.Cycles.{Has}
 use Rattle.merged_signatures.specs.Chains.{View}
 use Rattle.errors_by_reach.specs.Seen.{Sigs}
 use Rattle.errors_by_reach.specs.Law.{Source, HasErrors}
-use Rattle.check_job.specs.Jobs.{source_in}
-use Rattle.program_check.specs.Full as full
-use Rattle.program_check.specs.Full.{Results, beside, deps_in, AreResultsOf, AreResults, IsFull}
-use Rattle.affected_law.specs.Affected.{results_at, Checked, by_text}
-use Rattle.affected_law.specs.Law.{ErrorsStay}
-use Rattle.path_numbers.proofs.Ways.{one_place, is_path_of}
-use Rattle.check_phases.specs.Phases.{AreMerged}
-use Rattle.check_phases.specs.Sourced.{program_in, paths_in, view_in, AreSources}
-use Rattle.check_phases.specs.Whole.{AreMade}
-use Rattle.check_phases.specs.declared.merging.Sources.{Sources}
-use Rattle.check_phases.specs.declared.phases.Made.{Made}
-use Rattle.check_phases.proofs.Jobs.{beside_at, zip_at}
-use Rattle.check_phases.proofs.Lists.{one_value, within_there, place_at, same_paths}
-use Rattle.check_phases.proofs.Merges.{beside_get, program_get}
+use Rattle.recheck_merging.specs.check_job.specs.Jobs.{source_in}
+use Rattle.edited_root.specs.program_check.specs.Full as full
+use Rattle.edited_root.specs.program_check.specs.Full.{Results, beside, deps_in, AreResultsOf, AreResults, IsFull}
+use Rattle.edited_root.specs.affected_law.specs.Affected.{results_at, Checked, by_text}
+use Rattle.edited_root.specs.affected_law.specs.Law.{ErrorsStay}
+use Rattle.recheck_merging.specs.path_numbers.proofs.Ways.{one_place, is_path_of}
+use Rattle.recheck_merging.specs.check_phases.specs.Phases.{AreMerged}
+use Rattle.recheck_merging.specs.check_phases.specs.Sourced.{program_in, paths_in, view_in, AreSources}
+use Rattle.recheck_merging.specs.check_phases.specs.Whole.{AreMade}
+use Rattle.recheck_merging.specs.check_phases.specs.declared.merging.Sources.{Sources}
+use Rattle.recheck_merging.specs.check_phases.specs.declared.phases.Made.{Made}
+use Rattle.recheck_merging.specs.check_phases.proofs.Jobs.{beside_at, zip_at}
+use Rattle.recheck_merging.specs.check_phases.proofs.Lists.{one_value, within_there, place_at, same_paths}
+use Rattle.recheck_merging.specs.check_phases.proofs.Merges.{beside_get, program_get}
 use Rattle.edited_root.specs.From.{number_in, numbers_from}
 use Rattle.recheck_merging.proofs.Imported.{IsHere, here, low_path, rising_program}
 use Rattle.recheck_merging.proofs.Mapped.{get_mapped, mapped_from, length_mapped, all_has}

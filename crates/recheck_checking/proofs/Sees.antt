@@ -4,22 +4,22 @@ use Rattle.std.proofs.lemmas.List.{length-map}
 use Rattle.flow_base.specs.Program.{Bytes, Program, paths_of}
 use Rattle.check_values.specs.Rows.{row_at}
 use Rattle.check_values.specs.declared.signatures.Sig.{Sig}
-use Rattle.source_front.specs.Law.{seen, OneParse}
-use Rattle.source_front.specs.declared.parse.Parse.{Parse}
-use Rattle.source_front.specs.declared.parse.ParseTree.{ParseTree}
-use Rattle.source_front.specs.declared.parse.ParseTree.TheVariants.{Tree, Broken}
+use Rattle.recheck_merging.specs.source_front.specs.Law.{seen, OneParse}
+use Rattle.recheck_merging.specs.source_front.specs.declared.parse.Parse.{Parse}
+use Rattle.recheck_merging.specs.source_front.specs.declared.parse.ParseTree.{ParseTree}
+use Rattle.recheck_merging.specs.source_front.specs.declared.parse.ParseTree.TheVariants.{Tree, Broken}
 use Rattle.module_resolution.specs.Dependencies.{dependencies_of}
 use Rattle.merged_signatures.specs.Chains.{Known, View}
 use Rattle.errors_by_reach.specs.Seen.{Sigs}
-use Rattle.check_job.specs.Jobs.{source_in}
-use Rattle.program_check.specs.Full as full
-use Rattle.program_check.specs.Full.{Results, beside, known_of, module_in, AreResults, IsFull}
-use Rattle.check_phases.specs.Phases.{AreParsed, lists_in, knowns, AreMerged}
-use Rattle.check_phases.specs.Sourced.{program_in, view_in, AreSources}
-use Rattle.check_phases.specs.Whole.{sigs_by}
-use Rattle.check_phases.specs.declared.merging.Sources.{Sources}
-use Rattle.check_phases.proofs.Lists.{one_value, same_paths}
-use Rattle.check_phases.proofs.Results.{full_by}
+use Rattle.recheck_merging.specs.check_job.specs.Jobs.{source_in}
+use Rattle.edited_root.specs.program_check.specs.Full as full
+use Rattle.edited_root.specs.program_check.specs.Full.{Results, beside, known_of, module_in, AreResults, IsFull}
+use Rattle.recheck_merging.specs.check_phases.specs.Phases.{AreParsed, lists_in, knowns, AreMerged}
+use Rattle.recheck_merging.specs.check_phases.specs.Sourced.{program_in, view_in, AreSources}
+use Rattle.recheck_merging.specs.check_phases.specs.Whole.{sigs_by}
+use Rattle.recheck_merging.specs.check_phases.specs.declared.merging.Sources.{Sources}
+use Rattle.recheck_merging.specs.check_phases.proofs.Lists.{one_value, same_paths}
+use Rattle.recheck_merging.specs.check_phases.proofs.Results.{full_by}
 use Rattle.recheck_checking.specs.Full.{MadeIsFull, ChecksSeeSources}
 
 -- trees that say the same

@@ -3,9 +3,9 @@ use Rattle.std.proofs.Common.{◌≡◌, List, sym, ◌∙◌, subst}
 use Rattle.check_values.specs.Rows.{Rows}
 use Rattle.check_values.specs.declared.signatures.Sig.{Sig}
 use Rattle.import_sayings.specs.Reached.{AreNumbers}
-use Rattle.program_check.specs.Full.{beside}
-use Rattle.check_phases.specs.Sourced.{program_in}
-use Rattle.check_phases.specs.declared.merging.Sources.{Sources}
+use Rattle.edited_root.specs.program_check.specs.Full.{beside}
+use Rattle.recheck_merging.specs.check_phases.specs.Sourced.{program_in}
+use Rattle.recheck_merging.specs.check_phases.specs.declared.merging.Sources.{Sources}
 use Rattle.recheck_checking.specs.Signing.{AreSigned}
 use Rattle.recheck_checking.specs.declared.signing.Signed.{Signed}
 

@@ -4,10 +4,10 @@ use Rattle.check_values.specs.Rows.{row_at}
 use Rattle.check_values.specs.declared.faults.Errs.{Errs}
 use Rattle.check_values.specs.declared.signatures.Sig.{Sig}
 use Rattle.graph_search.specs.Cycles.{Has}
-use Rattle.check_phases.specs.Phases.{AreChecked, IsCheckedAt}
-use Rattle.check_phases.specs.Sourced.{program_in, AreSources}
-use Rattle.check_phases.specs.Whole.{sigs_by}
-use Rattle.check_phases.specs.declared.merging.Sources.{Sources}
+use Rattle.recheck_merging.specs.check_phases.specs.Phases.{AreChecked, IsCheckedAt}
+use Rattle.recheck_merging.specs.check_phases.specs.Sourced.{program_in, AreSources}
+use Rattle.recheck_merging.specs.check_phases.specs.Whole.{sigs_by}
+use Rattle.recheck_merging.specs.check_phases.specs.declared.merging.Sources.{Sources}
 use Rattle.recheck_checking.specs.Keeping.{IsFilled, AreFilled}
 use Rattle.recheck_checking.specs.Signing.{AreSigned}
 use Rattle.recheck_checking.specs.declared.signing.Signed.{Signed}

@@ -1,13 +1,13 @@
 -- All results as a full check.
 use Rattle.std.specs.Prelude.{◌≡◌, List}
 use Rattle.check_values.specs.declared.signatures.Sig.{Sig}
-use Rattle.program_check.specs.Full as full
-use Rattle.program_check.specs.Full.{Results, IsFull}
-use Rattle.check_phases.specs.Phases.{AreMerged, results_by}
-use Rattle.check_phases.specs.Sourced.{program_in, view_in, AreSources}
-use Rattle.check_phases.specs.Whole.{sigs_by, AreMade}
-use Rattle.check_phases.specs.declared.merging.Sources.{Sources}
-use Rattle.check_phases.specs.declared.phases.Made.{Made}
+use Rattle.edited_root.specs.program_check.specs.Full as full
+use Rattle.edited_root.specs.program_check.specs.Full.{Results, IsFull}
+use Rattle.recheck_merging.specs.check_phases.specs.Phases.{AreMerged, results_by}
+use Rattle.recheck_merging.specs.check_phases.specs.Sourced.{program_in, view_in, AreSources}
+use Rattle.recheck_merging.specs.check_phases.specs.Whole.{sigs_by, AreMade}
+use Rattle.recheck_merging.specs.check_phases.specs.declared.merging.Sources.{Sources}
+use Rattle.recheck_merging.specs.check_phases.specs.declared.phases.Made.{Made}
 
 -- the results of each module
 abbrev pub results_of : Made → List Results

@@ -2,15 +2,15 @@
 use Rattle.std.specs.Prelude.{◌≡◌, ◌<◌, ℕ, List, All, length, Option}
 use Rattle.check_values.specs.declared.faults.Errs.{Errs}
 use Rattle.check_values.specs.declared.signatures.Sig.{Sig}
-use Rattle.program_check.specs.Full.{Results, IsFull}
-use Rattle.affected_law.specs.Affected.{Checked}
-use Rattle.affected_sizes.specs.Paths.{ArePaths}
-use Rattle.path_numbers.specs.Sets.{paths_at}
-use Rattle.check_phases.specs.Phases.{AreMerged}
-use Rattle.check_phases.specs.Sourced.{program_in, paths_in, view_in, AreSources}
-use Rattle.check_phases.specs.Whole.{AreMade}
-use Rattle.check_phases.specs.declared.merging.Sources.{Sources}
-use Rattle.check_phases.specs.declared.phases.Made.{Made}
+use Rattle.edited_root.specs.program_check.specs.Full.{Results, IsFull}
+use Rattle.edited_root.specs.affected_law.specs.Affected.{Checked}
+use Rattle.recheck_merging.specs.affected_sizes.specs.Paths.{ArePaths}
+use Rattle.recheck_merging.specs.path_numbers.specs.Sets.{paths_at}
+use Rattle.recheck_merging.specs.check_phases.specs.Phases.{AreMerged}
+use Rattle.recheck_merging.specs.check_phases.specs.Sourced.{program_in, paths_in, view_in, AreSources}
+use Rattle.recheck_merging.specs.check_phases.specs.Whole.{AreMade}
+use Rattle.recheck_merging.specs.check_phases.specs.declared.merging.Sources.{Sources}
+use Rattle.recheck_merging.specs.check_phases.specs.declared.phases.Made.{Made}
 use Rattle.edited_root.specs.From.{numbers_from}
 use Rattle.recheck_checking.specs.Checking.{AreCheckedTo}
 use Rattle.recheck_checking.specs.Full.{results_of}

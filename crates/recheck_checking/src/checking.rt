@@ -1,31 +1,31 @@
 //! The errors of the modules that are checked.
 ghost use Rattle.std.specs.Prelude.{◌≡◌, ◌-◌, ◌<◌, ◌≤◌, All, IfOk, OnOk, length, map};
 ghost use Rattle.std.specs.List.{AllZip};
-ghost use Rattle.analyst.specs.Work.{Works, checks_of};
-ghost use Rattle.work_totals.specs.Totals.{total};
-ghost use Rattle.check_phases.specs.Checking.{IsJobOf, batch_after};
-ghost use Rattle.check_phases.specs.Sourced.{AreSources};
+ghost use Rattle.recheck_merging.specs.analyst.specs.Work.{Works, checks_of};
+ghost use Rattle.recheck_merging.specs.work_totals.specs.Totals.{total};
+ghost use Rattle.recheck_merging.specs.check_phases.specs.Checking.{IsJobOf, batch_after};
+ghost use Rattle.recheck_merging.specs.check_phases.specs.Sourced.{AreSources};
 ghost use Rattle.recheck_checking.specs.Checking.{IsCheckedBy, AreCheckedTo};
 ghost use Rattle.recheck_checking.specs.Keeping.{put_all};
 ghost use Rattle.recheck_checking.specs.Signing.{IsNumbered};
 
 use crate::keeping::ErrorSlots;
 use crate::signing::{Signed, modules_of, signatures_for};
-use analyst::Analyst;
-use check_job::CheckJob;
-use check_phases::Sources;
 use check_values::Errs;
 use flow_values::{List, NoMemory, Shared};
+use recheck_merging::analyst::Analyst;
+use recheck_merging::check_job::CheckJob;
+use recheck_merging::check_phases::Sources;
+use recheck_merging::worker_jobs::run_checks;
 use std::alloc::Global;
 use std::sync::Wait;
 use std::thread::Threads;
-use worker_jobs::run_checks;
 
 /// The most modules that are checked between two polls.
 const BATCH: usize = 64;
 
 // The job of the module of a number.
-#[tactic(auto, using(check_phases::proofs::Merges::many_parses, check_phases::proofs::Merges::many_lists))]
+#[tactic(auto, using(recheck_merging::specs::check_phases::proofs::Merges::many_parses, recheck_merging::specs::check_phases::proofs::Merges::many_lists))]
 fn job_of(alloc: Global, sources: &Sources, signed: &Signed, x: usize) -> Result<CheckJob, NoMemory>
     requires sources { AreSources sources.now }
     requires within { x < length sources.now.root.modules }
@@ -79,7 +79,7 @@ fn shared_all(alloc: Global, errors: List<Errs>) -> Result<Vec<Shared<Errs>>, No
 }
 
 // The errors of the modules of some numbers, by the analysts.
-#[tactic(auto, using(work_totals::proofs::Totals::none_within))]
+#[tactic(auto, using(recheck_merging::specs::work_totals::proofs::Totals::none_within))]
 fn errors_of<R: Threads + Wait + Sync, A: Analyst + Send>(
     rt: &R,
     alloc: Global,

@@ -12,15 +12,15 @@ pub fn made_is_full()
 pub fn checks_see_sources()
     ensures { ChecksSeeSources }
 {
-    source_front::one_parse();
+    recheck_merging::source_front::one_parse();
 }
 
 /// Old errors that are kept are right, where all modules are checked that the edit affects: nothing is checked yet.
 pub fn kept_errors_are_right()
     ensures { KeptErrorsAreRight }
 {
-    source_front::one_parse();
-    affected_law::what_stays();
+    recheck_merging::source_front::one_parse();
+    edited_root::affected_law::what_stays();
 }
 
 /// Behind the last batch the errors of all modules are known, and are those of the program.

@@ -1,17 +1,17 @@
 //! The merged signatures, as the checks of modules read them.
 ghost use Rattle.std.specs.Prelude.{◌≡◌, ◌++◌, IfOk, OnOk, length};
 ghost use Rattle.std.specs.List.{flat_map};
-ghost use Rattle.program_check.specs.Full.{beside};
+ghost use Rattle.edited_root.specs.program_check.specs.Full.{beside};
 ghost use Rattle.check_values.specs.Rows.{row_at};
 ghost use Rattle.errors_by_reach.specs.Law.{Agree};
-ghost use Rattle.check_phases.specs.Checking.{picked};
-ghost use Rattle.check_phases.specs.Sourced.{program_in};
+ghost use Rattle.recheck_merging.specs.check_phases.specs.Checking.{picked};
+ghost use Rattle.recheck_merging.specs.check_phases.specs.Sourced.{program_in};
 ghost use Rattle.recheck_checking.specs.Signing.{IsNumbered, AreSigned};
 
-use check_phases::Sources;
 use check_values::{Deps, RootRow, Sig};
 use flow_values::{List, NoMemory, Path, Shared};
 use import_sayings::{Numbers, numbers_of, reached_from};
+use recheck_merging::check_phases::Sources;
 use std::alloc::Global;
 
 /// The merged signatures of all modules by their paths, in order, and the number of each path. It is made once a recheck.
@@ -68,7 +68,7 @@ pub fn sign(
 }
 
 // Adds the signature of a number, with its path.
-#[tactic(auto, using(check_phases::proofs::Checks::none_picked))]
+#[tactic(auto, using(recheck_merging::specs::check_phases::proofs::Checks::none_picked))]
 fn add_signature(
     rows: &[(Path, Shared<Sig>)],
     number: u32,
@@ -83,7 +83,7 @@ fn add_signature(
 }
 
 // The signatures of some numbers, with their paths.
-#[tactic(auto, using(check_phases::proofs::Checks::picked_none, check_phases::proofs::Checks::picked_more, check_phases::proofs::Checks::picked_all))]
+#[tactic(auto, using(recheck_merging::specs::check_phases::proofs::Checks::picked_none, recheck_merging::specs::check_phases::proofs::Checks::picked_more, recheck_merging::specs::check_phases::proofs::Checks::picked_all))]
 fn signatures_at(
     alloc: Global,
     rows: &[(Path, Shared<Sig>)],

@@ -8,7 +8,7 @@ use Rattle.check_values.specs.Rows.{is_among}
 use Rattle.check_values.specs.declared.signatures.DepRow.{DepRow}
 use Rattle.module_resolution.specs.Resolution.{candidates, resolved}
 use Rattle.module_resolution.specs.Dependencies.{specifiers}
-use Rattle.program_check.specs.Full.{module_in}
+use Rattle.affected_law.specs.program_check.specs.Full.{module_in}
 use Rattle.affected_law.specs.Kept.{DepsServe}
 use Rattle.recheck_law.specs.Lists.{row_again, again, ListsAgain, DepsServeAgain, FoundStays, RowsStay, KeepsAllCandidates, ListsStay}
 

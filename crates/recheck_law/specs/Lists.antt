@@ -5,11 +5,11 @@ use Rattle.check_values.specs.Rows.{is_among}
 use Rattle.check_values.specs.declared.signatures.DepRow.{DepRow}
 use Rattle.check_values.specs.declared.signatures.Deps.{Deps}
 use Rattle.js_grammar.specs.Items.{Module}
-use Rattle.source_front.specs.declared.parse.Parse.{Parse}
-use Rattle.source_front.specs.Front.{IsParse}
+use Rattle.affected_law.specs.source_front.specs.declared.parse.Parse.{Parse}
+use Rattle.affected_law.specs.source_front.specs.Front.{IsParse}
 use Rattle.module_resolution.specs.Resolution.{candidates, resolved}
 use Rattle.module_resolution.specs.Dependencies.{dependencies_of}
-use Rattle.program_check.specs.Full.{Results, deps_in}
+use Rattle.affected_law.specs.program_check.specs.Full.{Results, deps_in}
 use Rattle.affected_law.specs.Kept.{IsModuleOf}
 
 -- a row, by its own specifier, with what it finds among these paths

@@ -8,7 +8,7 @@ use Rattle.merged_signatures.specs.Chains.{found}
 use Rattle.merged_signatures.specs.Reach.{Reach, paths_named}
 use Rattle.errors_by_reach.specs.Seen.{Sigs}
 use Rattle.errors_by_reach.specs.Law.{Agree}
-use Rattle.program_check.specs.Full.{Results, sigs_in}
+use Rattle.affected_law.specs.program_check.specs.Full.{Results, sigs_in}
 use Rattle.affected_law.specs.Affected.{results_at, Differs, Parsed, Checked}
 
 -- a specifier of the list finds the path

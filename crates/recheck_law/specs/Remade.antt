@@ -5,12 +5,12 @@ use Rattle.flow_base.specs.Program.{Bytes, Program, paths_of, text_at}
 use Rattle.check_values.specs.declared.faults.Fault.{Fault}
 use Rattle.check_values.specs.declared.signatures.Deps.{Deps}
 use Rattle.check_values.specs.declared.signatures.Sig.{Sig}
-use Rattle.source_front.specs.declared.parse.Parse.{Parse}
-use Rattle.source_front.specs.Front.{IsParse}
+use Rattle.affected_law.specs.source_front.specs.declared.parse.Parse.{Parse}
+use Rattle.affected_law.specs.source_front.specs.Front.{IsParse}
 use Rattle.merged_signatures.specs.Merged.{merged}
 use Rattle.errors_by_reach.specs.Law.{HasErrors, Agree}
-use Rattle.check_job.specs.Jobs.{source_in}
-use Rattle.program_check.specs.Full.{Results, view_in, sigs_in, deps_in, IsFull}
+use Rattle.affected_law.specs.check_job.specs.Jobs.{source_in}
+use Rattle.affected_law.specs.program_check.specs.Full.{Results, view_in, sigs_in, deps_in, IsFull}
 use Rattle.affected_law.specs.Affected.{results_at}
 use Rattle.affected_law.specs.Kept.{KeepsImports}
 use Rattle.affected_law.specs.Recheck.{Kept}

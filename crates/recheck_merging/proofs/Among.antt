@@ -7,7 +7,7 @@ use Rattle.heap_core.proofs.Lists.{get_there}
 use Rattle.graph_search.specs.Cycles.{Has, Edge, AreWithin}
 use Rattle.graph_search.specs.Reach.{IsRising}
 use Rattle.merged_signatures.specs.Chains.{View}
-use Rattle.affected_sizes.specs.Polls.{IsImport, AreImports}
+use Rattle.path_numbers.specs.affected_sizes.specs.Polls.{IsImport, AreImports}
 use Rattle.path_numbers.specs.Sets.{paths_at}
 use Rattle.check_phases.specs.Sourced.{paths_in, view_in}
 use Rattle.check_phases.specs.declared.merging.Sources.{Sources}

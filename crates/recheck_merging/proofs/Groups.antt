@@ -8,7 +8,7 @@ use Rattle.graph_search.specs.Cycles.{Has, Edge}
 use Rattle.graph_search.specs.Components.{AreComponents, StandsIn}
 use Rattle.graph_search.specs.Waves.{AreWaves, DependsOn}
 use Rattle.graph_search.proofs.Lists.{has_more, has_none}
-use Rattle.affected_sizes.specs.Polls.{IsImport}
+use Rattle.path_numbers.specs.affected_sizes.specs.Polls.{IsImport}
 use Rattle.check_phases.specs.Sourced.{paths_in, view_in, AreSources}
 use Rattle.check_phases.specs.Merging.{IsMade, AreRight, HasMerged}
 use Rattle.check_phases.specs.declared.merging.Sources.{Sources}

@@ -10,13 +10,13 @@ use Rattle.check_values.specs.declared.root.RootRow.{RootRow}
 use Rattle.check_values.specs.declared.signatures.DepRow.{DepRow}
 use Rattle.check_values.specs.declared.signatures.Deps.{Deps}
 use Rattle.js_grammar.specs.Items.{Module}
-use Rattle.source_front.specs.declared.parse.Parse.{Parse}
+use Rattle.check_phases.specs.source_front.specs.declared.parse.Parse.{Parse}
 use Rattle.module_resolution.specs.Resolution.{resolved}
 use Rattle.module_resolution.specs.Dependencies.{specifiers, dependencies_of}
 use Rattle.merged_signatures.specs.Chains.{Known, found, found_in}
 use Rattle.graph_search.specs.Cycles.{Has, Edge}
-use Rattle.program_check.specs.Full.{module_in, deps_in}
-use Rattle.affected_sizes.specs.Polls.{IsImport, AreImports}
+use Rattle.check_phases.specs.program_check.specs.Full.{module_in, deps_in}
+use Rattle.path_numbers.specs.affected_sizes.specs.Polls.{IsImport, AreImports}
 use Rattle.check_phases.specs.Phases.{lists_in, knowns}
 use Rattle.check_phases.specs.Sourced.{program_in, paths_in, view_in, AreSources}
 use Rattle.check_phases.specs.Merging.{known_rows}

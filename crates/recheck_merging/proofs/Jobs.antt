@@ -13,9 +13,9 @@ use Rattle.merged_signatures.specs.Chains.{Known, found}
 use Rattle.merged_signatures.specs.Merged.{merged, merged_known}
 use Rattle.merged_signatures.specs.Job.{job_signatures}
 use Rattle.merged_signatures.specs.Settled.{IsSettled, AJobTellsTheProgram}
-use Rattle.program_check.specs.Full.{module_in}
-use Rattle.affected_law.proofs.Inside.{found_is_among}
-use Rattle.affected_sizes.specs.Polls.{IsImport}
+use Rattle.check_phases.specs.program_check.specs.Full.{module_in}
+use Rattle.path_numbers.specs.affected_law.proofs.Inside.{found_is_among}
+use Rattle.path_numbers.specs.affected_sizes.specs.Polls.{IsImport}
 use Rattle.check_phases.specs.Sourced.{program_in, paths_in, view_in, AreSources}
 use Rattle.check_phases.specs.Merging.{IsMade, AreRight, known_rows, member_at, made_row, made_at}
 use Rattle.check_phases.specs.declared.merging.Sources.{Sources}

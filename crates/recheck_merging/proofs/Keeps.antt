@@ -11,7 +11,7 @@ use Rattle.graph_search.specs.Cycles.{Has}
 use Rattle.merged_signatures.specs.Chains.{Known, View, found}
 use Rattle.merged_signatures.specs.Imports.{Imports, itself, further, Edge, IsLocal}
 use Rattle.merged_signatures.specs.Merged.{merged}
-use Rattle.affected_law.proofs.Deciding.{same_by, same_deps}
+use Rattle.path_numbers.specs.affected_law.proofs.Deciding.{same_by, same_deps}
 use Rattle.check_phases.specs.Merging.{IsMade}
 use Rattle.check_phases.specs.Sourced.{program_in, paths_in, view_in, AreSources}
 use Rattle.check_phases.specs.Whole.{AreMade}

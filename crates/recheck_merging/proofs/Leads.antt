@@ -8,7 +8,7 @@ use Rattle.graph_search.specs.Cycles.{Has, Leads, here, along}
 use Rattle.graph_search.proofs.Searches.{joined}
 use Rattle.merged_signatures.specs.Chains.{Known, View}
 use Rattle.merged_signatures.specs.Imports.{Imports, itself, further, Edge}
-use Rattle.affected_sizes.specs.Polls.{AreImports}
+use Rattle.path_numbers.specs.affected_sizes.specs.Polls.{AreImports}
 use Rattle.recheck_plan.specs.Affected.{AreExactly, LeadsToTouched}
 use Rattle.check_phases.specs.Phases.{knowns}
 use Rattle.check_phases.specs.Sourced.{program_in, paths_in, view_in, AreSources}

@@ -8,7 +8,7 @@ use Rattle.graph_search.specs.Waves.{AreWaves}
 use Rattle.graph_search.proofs.Lists.{has_none, none_some}
 use Rattle.graph_search.proofs.Rising.{rising_none}
 use Rattle.merged_signatures.specs.Chains.{View}
-use Rattle.affected_sizes.specs.Polls.{IsImport, AreImports}
+use Rattle.path_numbers.specs.affected_sizes.specs.Polls.{IsImport, AreImports}
 use Rattle.path_numbers.specs.Sets.{paths_at}
 use Rattle.recheck_plan.specs.Affected.{AreExactly, LeadsToTouched}
 use Rattle.check_phases.specs.Sourced.{paths_in, view_in, AreSources}

@@ -4,11 +4,11 @@ use Rattle.flow_base.specs.Program.{Bytes, Program, paths_of}
 use Rattle.graph_search.specs.Cycles.{Has}
 use Rattle.merged_signatures.specs.Chains.{View}
 use Rattle.merged_signatures.specs.Imports.{Imports}
-use Rattle.program_check.specs.Full as full
-use Rattle.program_check.specs.Full.{Results}
-use Rattle.affected_law.specs.Affected.{IsPathOf, Differs, Merged}
-use Rattle.affected_sizes.specs.Paths.{HasPath}
-use Rattle.affected_sizes.specs.Polls.{AreWavesAmong}
+use Rattle.check_phases.specs.program_check.specs.Full as full
+use Rattle.check_phases.specs.program_check.specs.Full.{Results}
+use Rattle.path_numbers.specs.affected_law.specs.Affected.{IsPathOf, Differs, Merged}
+use Rattle.path_numbers.specs.affected_sizes.specs.Paths.{HasPath}
+use Rattle.path_numbers.specs.affected_sizes.specs.Polls.{AreWavesAmong}
 use Rattle.path_numbers.specs.Sets.{paths_at, ArePlaces}
 use Rattle.path_numbers.proofs.Sets.{are_paths}
 use Rattle.path_numbers.proofs.Ways.{is_path_of, has_path_of}

@@ -1,11 +1,11 @@
 -- The plan of what differs is that of the paths that an edit affects.
 use Rattle.std.specs.Prelude.{◌≡◌, ℕ, List}
 use Rattle.flow_base.specs.Program.{Program}
-use Rattle.program_check.specs.Full as full
-use Rattle.program_check.specs.Full.{Results}
-use Rattle.affected_law.specs.Affected.{Differs, Merged}
-use Rattle.affected_sizes.specs.Paths.{ArePaths}
-use Rattle.affected_sizes.specs.Polls.{AreWavesAmong}
+use Rattle.check_phases.specs.program_check.specs.Full as full
+use Rattle.check_phases.specs.program_check.specs.Full.{Results}
+use Rattle.path_numbers.specs.affected_law.specs.Affected.{Differs, Merged}
+use Rattle.path_numbers.specs.affected_sizes.specs.Paths.{ArePaths}
+use Rattle.path_numbers.specs.affected_sizes.specs.Polls.{AreWavesAmong}
 use Rattle.path_numbers.specs.Sets.{paths_at, ArePlaces}
 use Rattle.check_phases.specs.Sourced.{program_in, paths_in, view_in, AreSources}
 use Rattle.check_phases.specs.declared.merging.Sources.{Sources}

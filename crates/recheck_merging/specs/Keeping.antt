@@ -3,7 +3,7 @@ use Rattle.std.specs.Prelude.{◌≡◌, ◌≢◌, ◌<◌, ℕ, List, length, 
 use Rattle.flow_base.specs.Program.{Bytes}
 use Rattle.check_values.specs.declared.signatures.Deps.{Deps}
 use Rattle.check_values.specs.declared.signatures.Sig.{Sig}
-use Rattle.source_front.specs.declared.parse.Parse.{Parse}
+use Rattle.check_phases.specs.source_front.specs.declared.parse.Parse.{Parse}
 use Rattle.graph_search.specs.Cycles.{Has}
 use Rattle.check_phases.specs.Sourced.{paths_in, AreSources}
 use Rattle.check_phases.specs.Whole.{AreMade}

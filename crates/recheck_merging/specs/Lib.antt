@@ -1,3 +1,15 @@
+pub use Rattle.path_numbers.specs.affected_sizes
+pub use Rattle.check_phases.specs.analyst
+pub use Rattle.check_phases.specs.check_job
+pub use Rattle.check_phases
+pub use Rattle.path_numbers
+pub use Rattle.check_phases.specs.payloads
+pub use Rattle.check_phases.specs.program_check
+pub use Rattle.path_numbers.specs.recheck_law
+pub use Rattle.check_phases.specs.source_front
+pub use Rattle.worker_jobs.specs.tree_crossing
+pub use Rattle.work_totals
+pub use Rattle.worker_jobs
 pub mod Rows
 pub mod Inner
 pub mod Plans

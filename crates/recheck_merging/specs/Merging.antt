@@ -9,7 +9,7 @@ use Rattle.graph_search.specs.Cycles.{Has}
 use Rattle.graph_search.specs.Components.{StandsIn}
 use Rattle.merged_signatures.specs.Job.{Job}
 use Rattle.merged_signatures.specs.Merged.{merged}
-use Rattle.affected_sizes.specs.Polls.{IsImport}
+use Rattle.path_numbers.specs.affected_sizes.specs.Polls.{IsImport}
 use Rattle.check_phases.specs.Phases.{AreMerged}
 use Rattle.check_phases.specs.Merging.{IsMade, AreRight, member_at, made_at}
 use Rattle.check_phases.specs.Sourced.{program_in, paths_in, view_in, AreSources}

@@ -4,7 +4,7 @@ use Rattle.flow_base.specs.Program.{Bytes}
 use Rattle.graph_search.specs.Cycles.{Has, Edge}
 use Rattle.graph_search.specs.Reach.{IsRising}
 use Rattle.merged_signatures.specs.Imports.{Imports}
-use Rattle.affected_sizes.specs.Polls.{IsImport, AreWavesAmong}
+use Rattle.path_numbers.specs.affected_sizes.specs.Polls.{IsImport, AreWavesAmong}
 use Rattle.path_numbers.specs.Sets.{paths_at}
 use Rattle.recheck_plan.specs.Affected.{AreExactly}
 use Rattle.check_phases.specs.Sourced.{paths_in, view_in}

@@ -2,7 +2,7 @@
 ghost use Rattle.std.specs.Prelude.{◌<◌, ◌^◌, IfOk, OnOk, length};
 ghost use Rattle.flow_values.specs.Path.{IsRising};
 ghost use Rattle.check_values.specs.Roots.{paths_of};
-ghost use Rattle.affected_sizes.specs.Polls.{AreImports};
+ghost use Rattle.path_numbers.specs.affected_sizes.specs.Polls.{AreImports};
 ghost use Rattle.check_phases.specs.Sourced.{AreSources, paths_in, view_in};
 ghost use Rattle.recheck_merging.specs.Rows.{AddsFound, FollowRows, FollowLists};
 

@@ -2,7 +2,7 @@
 ghost use Rattle.std.specs.Prelude.{◌≡◌, ◌+◌, ◌<◌, ◌++◌, [], All, IfOk, OnOk, map, take, length, slice_get, get_or, Some};
 ghost use Rattle.std.specs.List.{AllZip, flat_map};
 ghost use Rattle.job_ends.specs.Jobs.{job_view, member_view};
-ghost use Rattle.analyst.specs.Work.{Works, merging};
+ghost use Rattle.check_phases.specs.analyst.specs.Work.{Works, merging};
 ghost use Rattle.work_totals.specs.Totals.{total};
 ghost use Rattle.check_phases.specs.Sourced.{AreSources};
 ghost use Rattle.check_phases.specs.Merging.{known_rows, member_at, made_at, put_all};
@@ -11,8 +11,8 @@ ghost use Rattle.recheck_merging.specs.Merging.{outside_by, job_by, job_in, AreS
 
 use crate::keeping::Slots;
 use crate::planning::MergePlan;
-use analyst::Analyst;
 use check_phases::Sources;
+use check_phases::analyst::Analyst;
 use check_values::{RootRow, Sig};
 use flow_values::{List, NoMemory, Path, Shared};
 use job_ends::{MergeJob, MergeMember};

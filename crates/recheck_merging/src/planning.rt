@@ -1,7 +1,7 @@
 //! Which modules are merged anew, and in which order.
 ghost use Rattle.std.specs.Prelude.{◌≡◌, ◌<◌, ◌+◌, ◌^◌, ◌++◌, All, IfOk, OnOk, length, map, option_to_list, get_or, None};
 ghost use Rattle.graph_search.specs.Reach.{IsRising};
-ghost use Rattle.affected_sizes.specs.Polls.{AreImports};
+ghost use Rattle.path_numbers.specs.affected_sizes.specs.Polls.{AreImports};
 ghost use Rattle.check_phases.specs.Sourced.{AreSources, paths_in, view_in};
 ghost use Rattle.recheck_merging.specs.Inner.{ArePlacesTo, placed, lists_of};
 ghost use Rattle.path_numbers.specs.Sets.{paths_at};

@@ -5,34 +5,34 @@ use Rattle.heap_core.proofs.Lists.{get_there}
 use Rattle.check_values.specs.Rows.{row_at}
 use Rattle.check_values.specs.declared.signatures.Deps.{Deps}
 use Rattle.check_values.specs.declared.signatures.Sig.{Sig}
-use Rattle.source_front.specs.declared.parse.Parse.{Parse}
-use Rattle.source_front.specs.Law.{OneParse}
+use Rattle.recheck_sources.specs.source_front.specs.declared.parse.Parse.{Parse}
+use Rattle.recheck_sources.specs.source_front.specs.Law.{OneParse}
 use Rattle.graph_search.specs.Cycles.{Has, IsOn}
 use Rattle.merged_signatures.specs.Chains.{Known, View, found}
 use Rattle.merged_signatures.specs.Imports as imports
 use Rattle.errors_by_reach.specs.Seen.{Sigs}
-use Rattle.program_check.specs.Full as whole
-use Rattle.program_check.specs.Full.{Results, beside, known_of}
-use Rattle.affected_law.specs.Affected.{IsPathOf, results_at, Differs, Checked, by_text, by_deps}
-use Rattle.affected_law.specs.Inside.{NamedIsKnown}
-use Rattle.affected_law.proofs.Places.{made_at, module_at, is_path}
-use Rattle.affected_sizes.specs.Polls.{IsImport}
+use Rattle.recheck_merging.specs.program_check.specs.Full as whole
+use Rattle.recheck_merging.specs.program_check.specs.Full.{Results, beside, known_of}
+use Rattle.recheck_sources.specs.affected_law.specs.Affected.{IsPathOf, results_at, Differs, Checked, by_text, by_deps}
+use Rattle.recheck_sources.specs.affected_law.specs.Inside.{NamedIsKnown}
+use Rattle.recheck_sources.specs.affected_law.proofs.Places.{made_at, module_at, is_path}
+use Rattle.recheck_merging.specs.affected_sizes.specs.Polls.{IsImport}
 use Rattle.recheck_plan.specs.Affected.{AreExactly}
-use Rattle.recheck_law.specs.Names.{LeadsByNames, LeadsToMoved, text_differs, deps_differ, finds_moved, CheckedIsByNames}
-use Rattle.path_numbers.specs.Sets.{ArePlaces}
-use Rattle.path_numbers.proofs.Sets.{are_paths}
-use Rattle.path_numbers.proofs.Ways.{has_path_of, names_inside}
-use Rattle.payloads.specs.State.{program_of}
-use Rattle.edited_root.specs.From.{numbers_from}
-use Rattle.edited_root.proofs.Users.{many_from, was_module, was_none}
-use Rattle.edited_root.proofs.Walked.{number_here}
-use Rattle.check_phases.specs.Phases.{knowns, AreMerged}
-use Rattle.check_phases.specs.Sourced.{program_in, paths_in, view_in, AreSources}
-use Rattle.check_phases.specs.Whole.{sigs_by, AreMade}
-use Rattle.check_phases.specs.declared.merging.Sources.{Sources}
-use Rattle.check_phases.specs.declared.phases.Made.{Made}
-use Rattle.check_phases.proofs.Lists.{one_value, same_paths}
-use Rattle.check_phases.proofs.Merges.{many_parses, many_lists, path_get}
+use Rattle.recheck_merging.specs.recheck_law.specs.Names.{LeadsByNames, LeadsToMoved, text_differs, deps_differ, finds_moved, CheckedIsByNames}
+use Rattle.recheck_merging.specs.path_numbers.specs.Sets.{ArePlaces}
+use Rattle.recheck_merging.specs.path_numbers.proofs.Sets.{are_paths}
+use Rattle.recheck_merging.specs.path_numbers.proofs.Ways.{has_path_of, names_inside}
+use Rattle.recheck_merging.specs.payloads.specs.State.{program_of}
+use Rattle.recheck_sources.specs.edited_root.specs.From.{numbers_from}
+use Rattle.recheck_sources.specs.edited_root.proofs.Users.{many_from, was_module, was_none}
+use Rattle.recheck_sources.specs.edited_root.proofs.Walked.{number_here}
+use Rattle.recheck_merging.specs.check_phases.specs.Phases.{knowns, AreMerged}
+use Rattle.recheck_merging.specs.check_phases.specs.Sourced.{program_in, paths_in, view_in, AreSources}
+use Rattle.recheck_merging.specs.check_phases.specs.Whole.{sigs_by, AreMade}
+use Rattle.recheck_merging.specs.check_phases.specs.declared.merging.Sources.{Sources}
+use Rattle.recheck_merging.specs.check_phases.specs.declared.phases.Made.{Made}
+use Rattle.recheck_merging.specs.check_phases.proofs.Lists.{one_value, same_paths}
+use Rattle.recheck_merging.specs.check_phases.proofs.Merges.{many_parses, many_lists, path_get}
 use Rattle.recheck_merging.proofs.Imported.{low_path}
 use Rattle.recheck_merging.proofs.Keeps.{imports_place}
 use Rattle.recheck_sources.specs.Changed.{list_at, IsChanged}

@@ -13,19 +13,19 @@ use Rattle.check_values.specs.declared.root.RootRow.{RootRow}
 use Rattle.graph_search.specs.Cycles.{Has, IsOn}
 use Rattle.graph_search.proofs.Lists.{has_none, take_whole}
 use Rattle.graph_search.proofs.Rising.{rising_none}
-use Rattle.affected_law.specs.Affected.{Parsed}
+use Rattle.recheck_sources.specs.affected_law.specs.Affected.{Parsed}
 use Rattle.recheck_plan.specs.Marks.{AreBelow}
 use Rattle.recheck_plan.proofs.Listed.{below_skip, below_more}
-use Rattle.path_numbers.specs.Sets.{paths_at}
-use Rattle.path_numbers.proofs.Sets.{are_paths}
-use Rattle.path_numbers.proofs.Ways.{has_path_of}
-use Rattle.payloads.specs.State.{program_of}
-use Rattle.edited_root.specs.From.{has_text, fresh_from}
-use Rattle.edited_root.proofs.Users.{same_text}
-use Rattle.edited_root.proofs.Walked.{number_here}
-use Rattle.check_phases.proofs.Edges.{length_paths}
-use Rattle.check_phases.proofs.Lists.{one_value, same_paths, within_there, place_at}
-use Rattle.check_phases.proofs.Merges.{path_get}
+use Rattle.recheck_merging.specs.path_numbers.specs.Sets.{paths_at}
+use Rattle.recheck_merging.specs.path_numbers.proofs.Sets.{are_paths}
+use Rattle.recheck_merging.specs.path_numbers.proofs.Ways.{has_path_of}
+use Rattle.recheck_merging.specs.payloads.specs.State.{program_of}
+use Rattle.recheck_sources.specs.edited_root.specs.From.{has_text, fresh_from}
+use Rattle.recheck_sources.specs.edited_root.proofs.Users.{same_text}
+use Rattle.recheck_sources.specs.edited_root.proofs.Walked.{number_here}
+use Rattle.recheck_merging.specs.check_phases.proofs.Edges.{length_paths}
+use Rattle.recheck_merging.specs.check_phases.proofs.Lists.{one_value, same_paths, within_there, place_at}
+use Rattle.recheck_merging.specs.check_phases.proofs.Merges.{path_get}
 use Rattle.recheck_merging.proofs.Mapped.{get_mapped}
 use Rattle.recheck_reach.specs.Law.{ParsedAreFresh}
 

@@ -7,17 +7,17 @@ use Rattle.check_values.specs.Rows.{Rows, row_at}
 use Rattle.check_values.specs.declared.signatures.Sig.{Sig}
 use Rattle.graph_search.specs.Cycles.{Has, Leads, here, along, Edge, IsOn, AreWithin}
 use Rattle.graph_search.proofs.Searches.{joined}
-use Rattle.affected_sizes.specs.Polls.{AreImports}
+use Rattle.recheck_merging.specs.affected_sizes.specs.Polls.{AreImports}
 use Rattle.recheck_plan.specs.Affected.{AreExactly, LeadsToTouched, IsToCheck}
-use Rattle.recheck_law.specs.Names.{Names, LeadsByNames, itself, further}
-use Rattle.path_numbers.specs.Ways.{AreSteps}
-use Rattle.path_numbers.proofs.Ways.{has_start}
-use Rattle.check_phases.specs.Sourced.{program_in, paths_in, view_in, AreSources}
-use Rattle.check_phases.specs.Whole.{sigs_by}
-use Rattle.check_phases.specs.declared.merging.Sources.{Sources}
-use Rattle.check_phases.proofs.Edges.{one_place}
-use Rattle.check_phases.proofs.Jobs.{beside_path}
-use Rattle.check_phases.proofs.Lists.{one_value, same_paths, place_at, within_there}
+use Rattle.recheck_merging.specs.recheck_law.specs.Names.{Names, LeadsByNames, itself, further}
+use Rattle.recheck_merging.specs.path_numbers.specs.Ways.{AreSteps}
+use Rattle.recheck_merging.specs.path_numbers.proofs.Ways.{has_start}
+use Rattle.recheck_merging.specs.check_phases.specs.Sourced.{program_in, paths_in, view_in, AreSources}
+use Rattle.recheck_merging.specs.check_phases.specs.Whole.{sigs_by}
+use Rattle.recheck_merging.specs.check_phases.specs.declared.merging.Sources.{Sources}
+use Rattle.recheck_merging.specs.check_phases.proofs.Edges.{one_place}
+use Rattle.recheck_merging.specs.check_phases.proofs.Jobs.{beside_path}
+use Rattle.recheck_merging.specs.check_phases.proofs.Lists.{one_value, same_paths, place_at, within_there}
 use Rattle.recheck_merging.proofs.Among as among
 use Rattle.recheck_merging.proofs.Imported.{as_many}
 use Rattle.recheck_merging.proofs.Mapped.{has_all}

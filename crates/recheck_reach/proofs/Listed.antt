@@ -2,7 +2,7 @@
 use Rattle.std.proofs.Common.{◌≡◌, ℕ, ◌+◌, ◌<◌, ◌≤◌, Bool, true, false, List, [], ◌∷◌, ◌++◌, length, get_or, Some, sym, ap, ◌∙◌, subst, arith}
 use Rattle.graph_search.specs.Cycles.{IsOn}
 use Rattle.graph_search.proofs.Lists.{off_here, get_small}
-use Rattle.check_phases.proofs.Lists.{place_at}
+use Rattle.recheck_merging.specs.check_phases.proofs.Lists.{place_at}
 use Rattle.recheck_plan.specs.Affected.{AreExactly}
 use Rattle.recheck_plan.specs.Marks.{AreBelow}
 use Rattle.recheck_plan.proofs.Listed.{below_skip, below_more}

@@ -7,7 +7,7 @@ use native.Mathlib.Decide.{ℕ_discrete}
 use Rattle.heap_core.proofs.Lists.{put_here, put_else, get_index}
 use Rattle.check_values.specs.declared.signatures.Sig.{Sig}
 use Rattle.graph_search.proofs.Fills.{get-replicate}
-use Rattle.check_phases.proofs.Lists.{one_value, within_there, place_at}
+use Rattle.recheck_merging.specs.check_phases.proofs.Lists.{one_value, within_there, place_at}
 use Rattle.recheck_merging.proofs.Mapped.{all_has}
 use Rattle.recheck_sources.specs.Parts.{TellsOthers}
 use Rattle.recheck_reach.specs.Moved.{IsAsBefore, IsSameOutside, IsOld, AreTold}

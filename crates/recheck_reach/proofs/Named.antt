@@ -15,15 +15,15 @@ use Rattle.dep_lists.specs.Looking.{IsPlaceOf}
 use Rattle.graph_search.specs.Cycles.{Has, Edge}
 use Rattle.graph_search.proofs.Lists.{has_none}
 use Rattle.merged_signatures.specs.Reach.{paths_named}
-use Rattle.recheck_law.specs.Names.{Names}
-use Rattle.path_numbers.specs.Ways.{IsStep, AreSteps}
-use Rattle.check_phases.specs.Sourced.{program_in, paths_in, AreSources}
-use Rattle.check_phases.specs.Whole.{sigs_by}
-use Rattle.check_phases.specs.declared.merging.Sources.{Sources}
-use Rattle.check_phases.proofs.Edges.{among}
-use Rattle.check_phases.proofs.Jobs.{beside_at, zip_at}
-use Rattle.check_phases.proofs.Lists.{one_value, within_there, zip_more, zip_whole, zip_length}
-use Rattle.check_phases.proofs.Merges.{beside_get, path_get}
+use Rattle.recheck_merging.specs.recheck_law.specs.Names.{Names}
+use Rattle.recheck_merging.specs.path_numbers.specs.Ways.{IsStep, AreSteps}
+use Rattle.recheck_merging.specs.check_phases.specs.Sourced.{program_in, paths_in, AreSources}
+use Rattle.recheck_merging.specs.check_phases.specs.Whole.{sigs_by}
+use Rattle.recheck_merging.specs.check_phases.specs.declared.merging.Sources.{Sources}
+use Rattle.recheck_merging.specs.check_phases.proofs.Edges.{among}
+use Rattle.recheck_merging.specs.check_phases.proofs.Jobs.{beside_at, zip_at}
+use Rattle.recheck_merging.specs.check_phases.proofs.Lists.{one_value, within_there, zip_more, zip_whole, zip_length}
+use Rattle.recheck_merging.specs.check_phases.proofs.Merges.{beside_get, path_get}
 use Rattle.recheck_merging.specs.Rows.{IsFoundAt, AddsFound}
 use Rattle.recheck_merging.proofs.Finds.{finds_missing, finds_one}
 use Rattle.recheck_merging.proofs.Imported.{as_many, low_path, rising_program}

@@ -8,15 +8,15 @@ use Rattle.check_values.specs.declared.root.RootRow.{RootRow}
 use Rattle.check_values.specs.declared.signatures.Sig.{Sig}
 use Rattle.graph_search.specs.Cycles.{Has}
 use Rattle.merged_signatures.specs.Merged as merged_spec
-use Rattle.check_phases.specs.Phases.{AreMerged}
-use Rattle.check_phases.specs.Sourced.{program_in, view_in, AreSources}
-use Rattle.check_phases.specs.Whole.{AreMade}
-use Rattle.check_phases.specs.declared.merging.Sources.{Sources}
-use Rattle.check_phases.specs.declared.phases.Made.{Made}
-use Rattle.check_phases.proofs.Jobs.{zip_at}
-use Rattle.check_phases.proofs.Lists.{one_value, zip_length}
-use Rattle.check_phases.proofs.Merges.{program_get, path_get}
-use Rattle.check_phases.proofs.Waves.{named_has, has_named}
+use Rattle.recheck_merging.specs.check_phases.specs.Phases.{AreMerged}
+use Rattle.recheck_merging.specs.check_phases.specs.Sourced.{program_in, view_in, AreSources}
+use Rattle.recheck_merging.specs.check_phases.specs.Whole.{AreMade}
+use Rattle.recheck_merging.specs.check_phases.specs.declared.merging.Sources.{Sources}
+use Rattle.recheck_merging.specs.check_phases.specs.declared.phases.Made.{Made}
+use Rattle.recheck_merging.specs.check_phases.proofs.Jobs.{zip_at}
+use Rattle.recheck_merging.specs.check_phases.proofs.Lists.{one_value, zip_length}
+use Rattle.recheck_merging.specs.check_phases.proofs.Merges.{program_get, path_get}
+use Rattle.recheck_merging.specs.check_phases.proofs.Waves.{named_has, has_named}
 use Rattle.recheck_merging.specs.Plans.{IsPlanOf}
 use Rattle.recheck_merging.specs.Keeping.{kept_in, AreKept, ComeFrom, AreTouched, KeptAreRight}
 use Rattle.recheck_merging.specs.declared.planning.MergePlan.{MergePlan}

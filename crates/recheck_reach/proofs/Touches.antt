@@ -3,19 +3,19 @@ use Rattle.std.proofs.Common.{◌≡◌, ◌≢◌, ℕ, ◌<◌, List, length, 
 use Rattle.flow_base.specs.Program.{Bytes, text_at}
 use Rattle.heap_core.proofs.Lists.{get_there}
 use Rattle.check_values.specs.declared.signatures.Deps.{Deps}
-use Rattle.source_front.specs.declared.parse.Parse.{Parse}
+use Rattle.recheck_sources.specs.source_front.specs.declared.parse.Parse.{Parse}
 use Rattle.graph_search.specs.Cycles.{Has}
 use Rattle.merged_signatures.specs.Chains.{Known}
-use Rattle.affected_law.specs.Affected.{Differs}
-use Rattle.path_numbers.specs.Sets.{ArePlaces}
-use Rattle.payloads.specs.State.{program_of}
-use Rattle.edited_root.specs.From.{numbers_from}
-use Rattle.edited_root.proofs.Users.{many_from, was_module, was_none}
-use Rattle.edited_root.proofs.Walked.{number_here}
-use Rattle.check_phases.specs.Sourced.{paths_in, view_in, AreSources}
-use Rattle.check_phases.specs.declared.merging.Sources.{Sources}
-use Rattle.check_phases.proofs.Lists.{one_value, within_there}
-use Rattle.check_phases.proofs.Merges.{path_get}
+use Rattle.recheck_sources.specs.affected_law.specs.Affected.{Differs}
+use Rattle.recheck_merging.specs.path_numbers.specs.Sets.{ArePlaces}
+use Rattle.recheck_merging.specs.payloads.specs.State.{program_of}
+use Rattle.recheck_sources.specs.edited_root.specs.From.{numbers_from}
+use Rattle.recheck_sources.specs.edited_root.proofs.Users.{many_from, was_module, was_none}
+use Rattle.recheck_sources.specs.edited_root.proofs.Walked.{number_here}
+use Rattle.recheck_merging.specs.check_phases.specs.Sourced.{paths_in, view_in, AreSources}
+use Rattle.recheck_merging.specs.check_phases.specs.declared.merging.Sources.{Sources}
+use Rattle.recheck_merging.specs.check_phases.proofs.Lists.{one_value, within_there}
+use Rattle.recheck_merging.specs.check_phases.proofs.Merges.{path_get}
 use Rattle.recheck_merging.specs.Keeping.{ComeFrom, AreTouched}
 use Rattle.recheck_merging.proofs.Imported.{known_here, here, low_path}
 use Rattle.recheck_merging.proofs.Leads.{seen_place}

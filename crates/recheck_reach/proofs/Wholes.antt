@@ -3,20 +3,20 @@ use Rattle.std.proofs.Common.{◌≡◌, List, [], ◌∷◌, map, refl, sym, ap
 use Rattle.flow_base.specs.Program.{Bytes, Program, paths_of}
 use Rattle.check_values.specs.Rows.{row_at}
 use Rattle.check_values.specs.declared.signatures.Sig.{Sig}
-use Rattle.source_front.specs.declared.parse.Parse.{Parse}
-use Rattle.source_front.specs.declared.parse.ParseTree.{ParseTree}
-use Rattle.source_front.specs.declared.parse.ParseTree.TheVariants.{Tree, Broken}
-use Rattle.source_front.specs.Law.{seen, OneParse}
+use Rattle.recheck_sources.specs.source_front.specs.declared.parse.Parse.{Parse}
+use Rattle.recheck_sources.specs.source_front.specs.declared.parse.ParseTree.{ParseTree}
+use Rattle.recheck_sources.specs.source_front.specs.declared.parse.ParseTree.TheVariants.{Tree, Broken}
+use Rattle.recheck_sources.specs.source_front.specs.Law.{seen, OneParse}
 use Rattle.module_resolution.specs.Dependencies.{dependencies_of}
 use Rattle.merged_signatures.specs.Chains.{Known, View}
 use Rattle.errors_by_reach.specs.Seen.{Sigs}
-use Rattle.program_check.specs.Full as whole
-use Rattle.program_check.specs.Full.{Results, beside, known_of, module_in, deps_in, AreResults, IsFull}
-use Rattle.check_phases.specs.Phases.{AreParsed, lists_in, knowns, AreMerged}
-use Rattle.check_phases.specs.Sourced.{program_in, view_in, AreSources}
-use Rattle.check_phases.specs.Whole.{sigs_by}
-use Rattle.check_phases.specs.declared.merging.Sources.{Sources}
-use Rattle.check_phases.proofs.Lists.{one_value, same_paths}
+use Rattle.recheck_merging.specs.program_check.specs.Full as whole
+use Rattle.recheck_merging.specs.program_check.specs.Full.{Results, beside, known_of, module_in, deps_in, AreResults, IsFull}
+use Rattle.recheck_merging.specs.check_phases.specs.Phases.{AreParsed, lists_in, knowns, AreMerged}
+use Rattle.recheck_merging.specs.check_phases.specs.Sourced.{program_in, view_in, AreSources}
+use Rattle.recheck_merging.specs.check_phases.specs.Whole.{sigs_by}
+use Rattle.recheck_merging.specs.check_phases.specs.declared.merging.Sources.{Sources}
+use Rattle.recheck_merging.specs.check_phases.proofs.Lists.{one_value, same_paths}
 use Rattle.recheck_reach.specs.Law.{SeenAsChecked, SignedAsChecked}
 
 -- trees that say the same

@@ -3,11 +3,11 @@ use Rattle.std.specs.Prelude.{◌≡◌, ◌⊎◌, ℕ, Bool, List, slice_get, 
 use Rattle.flow_base.specs.Program.{Bytes}
 use Rattle.check_values.specs.declared.signatures.Sig.{Sig}
 use Rattle.graph_search.specs.Cycles.{Has, IsOn}
-use Rattle.affected_sizes.specs.Polls.{IsImport}
-use Rattle.recheck_law.specs.Names.{LeadsByNames}
-use Rattle.check_phases.specs.Sourced.{paths_in, view_in}
-use Rattle.check_phases.specs.Whole.{sigs_by}
-use Rattle.check_phases.specs.declared.merging.Sources.{Sources}
+use Rattle.recheck_merging.specs.affected_sizes.specs.Polls.{IsImport}
+use Rattle.recheck_merging.specs.recheck_law.specs.Names.{LeadsByNames}
+use Rattle.recheck_merging.specs.check_phases.specs.Sourced.{paths_in, view_in}
+use Rattle.recheck_merging.specs.check_phases.specs.Whole.{sigs_by}
+use Rattle.recheck_merging.specs.check_phases.specs.declared.merging.Sources.{Sources}
 
 -- the module of a number leads by names to one whose signature moved
 pub record IsStirred (s : Sources) (sigs : List Sig) (moved : List Bool) (x : ℕ) : Type 0 where

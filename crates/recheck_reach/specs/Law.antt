@@ -7,19 +7,19 @@ use Rattle.check_values.specs.declared.root.Root.{Root}
 use Rattle.check_values.specs.declared.signatures.Sig.{Sig}
 use Rattle.graph_search.specs.Cycles.{IsOn}
 use Rattle.graph_search.specs.Reach as reach
-use Rattle.program_check.specs.Full as full
-use Rattle.program_check.specs.Full.{Results, IsFull}
-use Rattle.affected_law.specs.Affected.{Differs, Parsed, Checked}
-use Rattle.affected_sizes.specs.Paths.{ArePaths}
+use Rattle.recheck_merging.specs.program_check.specs.Full as full
+use Rattle.recheck_merging.specs.program_check.specs.Full.{Results, IsFull}
+use Rattle.recheck_sources.specs.affected_law.specs.Affected.{Differs, Parsed, Checked}
+use Rattle.recheck_merging.specs.affected_sizes.specs.Paths.{ArePaths}
 use Rattle.recheck_plan.specs.Affected.{AreExactly}
-use Rattle.path_numbers.specs.Sets.{paths_at, ArePlaces}
-use Rattle.payloads.specs.State.{program_of}
-use Rattle.edited_root.specs.From.{numbers_from, fresh_from}
-use Rattle.check_phases.specs.Phases.{AreMerged}
-use Rattle.check_phases.specs.Sourced.{program_in, paths_in, view_in, AreSources}
-use Rattle.check_phases.specs.Whole.{sigs_by, AreMade}
-use Rattle.check_phases.specs.declared.merging.Sources.{Sources}
-use Rattle.check_phases.specs.declared.phases.Made.{Made}
+use Rattle.recheck_merging.specs.path_numbers.specs.Sets.{paths_at, ArePlaces}
+use Rattle.recheck_merging.specs.payloads.specs.State.{program_of}
+use Rattle.recheck_sources.specs.edited_root.specs.From.{numbers_from, fresh_from}
+use Rattle.recheck_merging.specs.check_phases.specs.Phases.{AreMerged}
+use Rattle.recheck_merging.specs.check_phases.specs.Sourced.{program_in, paths_in, view_in, AreSources}
+use Rattle.recheck_merging.specs.check_phases.specs.Whole.{sigs_by, AreMade}
+use Rattle.recheck_merging.specs.check_phases.specs.declared.merging.Sources.{Sources}
+use Rattle.recheck_merging.specs.check_phases.specs.declared.phases.Made.{Made}
 use Rattle.recheck_merging.specs.Keeping.{ComeFrom, AreTouched}
 use Rattle.recheck_merging.specs.Plans.{IsPlanOf}
 use Rattle.recheck_merging.specs.declared.planning.MergePlan.{MergePlan}

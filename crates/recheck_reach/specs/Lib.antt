@@ -1,3 +1,10 @@
+pub use Rattle.recheck_merging.specs.affected_sizes
+pub use Rattle.recheck_merging.specs.analyst
+pub use Rattle.recheck_merging.specs.check_phases
+pub use Rattle.recheck_merging.specs.path_numbers
+pub use Rattle.recheck_merging
+pub use Rattle.recheck_sources
+pub use Rattle.recheck_merging.specs.work_totals
 pub mod Moved
 pub mod Named
 pub mod Checked

@@ -12,9 +12,9 @@ pub fn rest_is_same()
 pub fn checked_are_of_checked()
     ensures { CheckedAreOfChecked }
 {
-    source_front::one_parse();
-    affected_law::all_stays_inside();
-    recheck_law::reach_is_by_names();
+    recheck_sources::source_front::one_parse();
+    recheck_sources::affected_law::all_stays_inside();
+    recheck_merging::recheck_law::reach_is_by_names();
 }
 
 /// Where no signature moved, the modules that are to be checked are those that changed.
@@ -37,5 +37,5 @@ pub fn checks_are_of_sources()
     ensures seen { SeenAsChecked }
     ensures signed { SignedAsChecked }
 {
-    source_front::one_parse();
+    recheck_sources::source_front::one_parse();
 }

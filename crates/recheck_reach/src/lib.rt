@@ -14,3 +14,6 @@ pub use laws::{
 };
 pub use moving::{any_moved, moved_signatures};
 pub use reaching::checked_modules;
+pub use recheck_merging;
+pub use recheck_merging::{affected_sizes, analyst, check_phases, work_totals};
+pub use recheck_sources;

@@ -2,18 +2,18 @@
 ghost use Rattle.std.specs.Prelude.{◌≡◌, ◌<◌, ◌^◌, IfOk, OnOk, length, Some};
 ghost use Rattle.flow_values.specs.Path.{IsRising};
 ghost use Rattle.check_values.specs.Roots.{paths_of};
-ghost use Rattle.recheck_law.specs.Names.{Names};
-ghost use Rattle.path_numbers.specs.Ways.{AreSteps};
-ghost use Rattle.check_phases.specs.Sourced.{AreSources, paths_in};
-ghost use Rattle.check_phases.specs.Whole.{sigs_by};
+ghost use Rattle.recheck_merging.specs.recheck_law.specs.Names.{Names};
+ghost use Rattle.recheck_merging.specs.path_numbers.specs.Ways.{AreSteps};
+ghost use Rattle.recheck_merging.specs.check_phases.specs.Sourced.{AreSources, paths_in};
+ghost use Rattle.recheck_merging.specs.check_phases.specs.Whole.{sigs_by};
 ghost use Rattle.recheck_merging.specs.Rows.{AddsFound};
 ghost use Rattle.recheck_reach.specs.Named.{FollowPaths, FollowNames, FollowAllNames};
 
-use check_phases::Sources;
 use check_values::{Root, Sig};
 use flow_values::{List, NoMemory, Path, Shared};
 use named_modules::add_named;
 use pending_edits::place_of;
+use recheck_merging::check_phases::Sources;
 use std::alloc::Global;
 
 // Adds the number of the module at a path, if there is one.

@@ -1,15 +1,15 @@
 //! Which modules are to be checked.
 ghost use Rattle.std.specs.Prelude.{◌≡◌, ◌<◌, ◌^◌, All, IfOk, length};
-ghost use Rattle.affected_sizes.specs.Polls.{AreImports};
+ghost use Rattle.recheck_merging.specs.affected_sizes.specs.Polls.{AreImports};
 ghost use Rattle.recheck_plan.specs.Affected.{AreExactly};
-ghost use Rattle.check_phases.specs.Sourced.{AreSources, paths_in, view_in};
+ghost use Rattle.recheck_merging.specs.check_phases.specs.Sourced.{AreSources, paths_in, view_in};
 ghost use Rattle.recheck_reach.specs.Checked.{IsStirred, IsToCheckIn};
 
 use crate::listing::numbers_on;
 use crate::naming::names_of;
-use check_phases::Sources;
 use check_values::Sig;
 use flow_values::{List, NoMemory, Shared};
+use recheck_merging::check_phases::Sources;
 use recheck_plan::{check_set, merge_set};
 use std::alloc::Global;
 

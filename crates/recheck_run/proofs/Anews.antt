@@ -7,19 +7,19 @@ use Rattle.heap_core.proofs.Lists.{get_there}
 use Rattle.check_values.specs.declared.faults.Errs.{Errs}
 use Rattle.check_values.specs.declared.signatures.Deps.{Deps}
 use Rattle.check_values.specs.declared.root.Root.{Root}
-use Rattle.source_front.specs.declared.parse.Parse.{Parse}
+use Rattle.committed_results.specs.source_front.specs.declared.parse.Parse.{Parse}
 use Rattle.graph_search.specs.Cycles.{Has}
 use Rattle.errors_by_reach.specs.Seen.{Sigs}
 use Rattle.errors_by_reach.specs.Law.{HasErrors, OneAnswer}
-use Rattle.check_job.specs.Jobs.{source_in}
-use Rattle.affected_law.specs.Affected.{Checked}
+use Rattle.committed_results.specs.check_job.specs.Jobs.{source_in}
+use Rattle.recheck_checking.specs.affected_law.specs.Affected.{Checked}
 use Rattle.recheck_plan.specs.Marks.{AreMarksOf}
-use Rattle.check_phases.specs.Phases.{IsCheckedAt}
-use Rattle.check_phases.specs.Sourced.{program_in, paths_in}
-use Rattle.check_phases.proofs.Lists.{one_value, within_there, value_at}
-use Rattle.edited_root.proofs.Users.{many_from, many_fresh}
-use Rattle.recheck_merging.proofs.Mapped.{get_mapped, all_has}
-use Rattle.recheck_sources.specs.Parts.{AreKeptBy}
+use Rattle.recheck_reach.specs.check_phases.specs.Phases.{IsCheckedAt}
+use Rattle.recheck_reach.specs.check_phases.specs.Sourced.{program_in, paths_in}
+use Rattle.recheck_reach.specs.check_phases.proofs.Lists.{one_value, within_there, value_at}
+use Rattle.recheck_checking.specs.edited_root.proofs.Users.{many_from, many_fresh}
+use Rattle.recheck_reach.specs.recheck_merging.proofs.Mapped.{get_mapped, all_has}
+use Rattle.recheck_reach.specs.recheck_sources.specs.Parts.{AreKeptBy}
 use Rattle.recheck_checking.specs.Keeping.{AreFilled}
 use Rattle.recheck_checking.specs.Checking.{AreCheckedTo, AreAllErrors, AllAreChecked}
 use Rattle.recheck_run.specs.Stages.{old_of, IsBase, IsChecking}

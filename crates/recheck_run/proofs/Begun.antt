@@ -1,18 +1,18 @@
 -- The checks begin, as the code has them.
 use Rattle.std.proofs.Common.{◌≡◌, ℕ, ◌^◌, ◌<◌, ◌≤◌, Bool, List, All, map, length, Option, Some, sym, ap, ◌∙◌, subst, arith}
 use Rattle.std.specs.Global.{Vec}
-use Rattle.full_law.specs.Law.{EachFull}
+use Rattle.committed_results.specs.full_law.specs.Law.{EachFull}
 use Rattle.check_values.specs.declared.faults.Errs.{Errs}
 use Rattle.check_values.specs.declared.root.Root.{Root}
 use Rattle.check_values.specs.declared.signatures.Sig.{Sig}
 use Rattle.graph_search.specs.Cycles.{IsOn}
-use Rattle.affected_sizes.specs.Polls.{AreImports}
+use Rattle.recheck_reach.specs.affected_sizes.specs.Polls.{AreImports}
 use Rattle.recheck_plan.specs.Affected.{AreExactly}
-use Rattle.check_phases.specs.Phases.{AreMerged}
-use Rattle.check_phases.specs.Sourced.{program_in, paths_in, view_in}
-use Rattle.recheck_merging.specs.Merging.{WavesMakeAll}
-use Rattle.recheck_sources.specs.Parts.{TellsOthers}
-use Rattle.recheck_sources.specs.Changed.{IsChanged}
+use Rattle.recheck_reach.specs.check_phases.specs.Phases.{AreMerged}
+use Rattle.recheck_reach.specs.check_phases.specs.Sourced.{program_in, paths_in, view_in}
+use Rattle.recheck_reach.specs.recheck_merging.specs.Merging.{WavesMakeAll}
+use Rattle.recheck_reach.specs.recheck_sources.specs.Parts.{TellsOthers}
+use Rattle.recheck_reach.specs.recheck_sources.specs.Changed.{IsChanged}
 use Rattle.recheck_reach.specs.Moved.{IsSameOutside}
 use Rattle.recheck_reach.specs.Checked.{IsToCheckIn}
 use Rattle.recheck_reach.specs.Law.{RestIsSame, CheckedAreOfChecked, DiffersAreTouched}

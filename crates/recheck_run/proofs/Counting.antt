@@ -9,11 +9,11 @@ use Rattle.graph_search.specs.Components.{StandsIn}
 use Rattle.graph_search.proofs.Lists.{get_small}
 use Rattle.graph_search.proofs.Rising.{get_there}
 use Rattle.merged_signatures.specs.Chains.{View}
-use Rattle.affected_law.specs.Affected.{IsPathOf}
-use Rattle.affected_sizes.specs.Paths.{HasPath, ArePaths}
-use Rattle.affected_sizes.specs.Polls.{AreWavesAmong, AreBatches}
-use Rattle.path_numbers.proofs.Ways.{one_place, has_path_of}
-use Rattle.check_phases.proofs.Counts.{Once, once_distinct, any_has}
+use Rattle.recheck_checking.specs.affected_law.specs.Affected.{IsPathOf}
+use Rattle.recheck_reach.specs.affected_sizes.specs.Paths.{HasPath, ArePaths}
+use Rattle.recheck_reach.specs.affected_sizes.specs.Polls.{AreWavesAmong, AreBatches}
+use Rattle.recheck_reach.specs.path_numbers.proofs.Ways.{one_place, has_path_of}
+use Rattle.recheck_reach.specs.check_phases.proofs.Counts.{Once, once_distinct, any_has}
 
 -- ---- each of some numbers has one of its own below a bound
 

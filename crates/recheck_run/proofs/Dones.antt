@@ -5,7 +5,7 @@ use Rattle.std.proofs.lemmas.Bool.Decides.{nat_tests}
 use Rattle.std.proofs.lemmas.List.{length-map}
 use Rattle.flow_base.specs.Program.{Bytes, Program, paths_of}
 use Rattle.flow_base.specs.Seen.{FolderSeen}
-use Rattle.full_law.specs.Law.{EachFull}
+use Rattle.committed_results.specs.full_law.specs.Law.{EachFull}
 use Rattle.heap_core.specs.Meaning.{Meaning, IsSound, Appends, none_of, opened, after_commit, after_rollback}
 use Rattle.heap_core.specs.Transactions.{IsStaging, Committed, all_staged}
 use Rattle.heap_core.proofs.TransactionLaws.{given_up}
@@ -16,32 +16,32 @@ use Rattle.check_values.specs.declared.faults.Errs.{Errs}
 use Rattle.check_values.specs.declared.signatures.Deps.{Deps}
 use Rattle.check_values.specs.declared.root.RootRow.{RootRow}
 use Rattle.check_values.specs.declared.root.Root.{Root}
-use Rattle.program_check.specs.Full.{IsFull}
-use Rattle.program_check.specs.Status.{error_count}
-use Rattle.affected_law.specs.Affected.{results_at, Merged, Checked}
-use Rattle.affected_law.specs.Law.{SignaturesStay}
-use Rattle.analyst.specs.Work.{Work, risen, done, RisesWithin, IsCounted}
-use Rattle.payloads.specs.Entities.{parse_entity, deps_entity, signature_entity, errors_entity}
-use Rattle.payloads.specs.State.{program_of, IsRoot, fits}
-use Rattle.payloads.specs.declared.payload.Payload.{Payload}
-use Rattle.payloads.specs.declared.payload.Payload.TheVariants as payload
+use Rattle.committed_results.specs.program_check.specs.Full.{IsFull}
+use Rattle.committed_results.specs.program_check.specs.Status.{error_count}
+use Rattle.recheck_checking.specs.affected_law.specs.Affected.{results_at, Merged, Checked}
+use Rattle.recheck_checking.specs.affected_law.specs.Law.{SignaturesStay}
+use Rattle.recheck_reach.specs.analyst.specs.Work.{Work, risen, done, RisesWithin, IsCounted}
+use Rattle.recheck_checking.specs.payloads.specs.Entities.{parse_entity, deps_entity, signature_entity, errors_entity}
+use Rattle.recheck_checking.specs.payloads.specs.State.{program_of, IsRoot, fits}
+use Rattle.recheck_checking.specs.payloads.specs.declared.payload.Payload.{Payload}
+use Rattle.recheck_checking.specs.payloads.specs.declared.payload.Payload.TheVariants as payload
 use Rattle.pending_edits.specs.Pending.{Pending, edited, MayBecome}
 use Rattle.pending_edits.specs.Counting.{StandsOn}
 use Rattle.pending_edits.specs.Rows.{Follows}
 use Rattle.pending_edits.specs.declared.edit.Edit.{Edit}
-use Rattle.check_phases.specs.Phases.{AreChecked, results_by, lists_in}
-use Rattle.check_phases.specs.Sourced.{program_in, view_in}
-use Rattle.check_phases.specs.Whole.{sigs_by, AreMade}
-use Rattle.check_phases.specs.declared.phases.Made.{Made}
-use Rattle.check_phases.proofs.Lists.{same_paths}
-use Rattle.check_phases.proofs.Results.{errors_counted}
-use Rattle.check_phases.proofs.Works.{within_none}
-use Rattle.edited_root.specs.Reading.{IsUnread}
-use Rattle.edited_root.specs.declared.halt.Halt as read
-use Rattle.edited_root.specs.declared.halt.Halt.TheVariants as unread
-use Rattle.edited_root.proofs.Rooted.{few_modules, root_rising}
-use Rattle.edited_root.specs.From.{numbers_from, fresh_from, freed_from}
-use Rattle.recheck_staging.specs.Staging.{changes_of, state_of, HasState}
+use Rattle.recheck_reach.specs.check_phases.specs.Phases.{AreChecked, results_by, lists_in}
+use Rattle.recheck_reach.specs.check_phases.specs.Sourced.{program_in, view_in}
+use Rattle.recheck_reach.specs.check_phases.specs.Whole.{sigs_by, AreMade}
+use Rattle.recheck_reach.specs.check_phases.specs.declared.phases.Made.{Made}
+use Rattle.recheck_reach.specs.check_phases.proofs.Lists.{same_paths}
+use Rattle.recheck_reach.specs.check_phases.proofs.Results.{errors_counted}
+use Rattle.recheck_reach.specs.check_phases.proofs.Works.{within_none}
+use Rattle.recheck_checking.specs.edited_root.specs.Reading.{IsUnread}
+use Rattle.recheck_checking.specs.edited_root.specs.declared.halt.Halt as read
+use Rattle.recheck_checking.specs.edited_root.specs.declared.halt.Halt.TheVariants as unread
+use Rattle.recheck_checking.specs.edited_root.proofs.Rooted.{few_modules, root_rising}
+use Rattle.recheck_checking.specs.edited_root.specs.From.{numbers_from, fresh_from, freed_from}
+use Rattle.committed_results.specs.recheck_staging.specs.Staging.{changes_of, state_of, HasState}
 use Rattle.recheck_reach.specs.Law.{SeenAsChecked, SignedAsChecked}
 use Rattle.recheck_checking.specs.Full.{results_of, MadeIsFull}
 use Rattle.recheck_run.specs.Extent.{Extent, polls}

@@ -3,15 +3,15 @@ use Rattle.std.proofs.Common.{◌≡◌, ℕ, suc, ◌+◌, ◌-◌, ◌^◌, �
 use Rattle.std.proofs.lemmas.List.{length-map}
 use Rattle.flow_base.specs.Program.{Bytes, Program, paths_of}
 use Rattle.graph_laws.proofs.Ways.{HasPlace}
-use Rattle.full_law.specs.Law.{EachFull}
-use Rattle.program_check.specs.Full.{view_in}
-use Rattle.program_check.specs.Law.{OneFull}
-use Rattle.affected_law.specs.Affected.{Parsed, Merged, Checked}
-use Rattle.affected_sizes.specs.Paths.{HasPath, ArePaths}
-use Rattle.affected_sizes.specs.Polls.{AreWavesAmong, AreBatches, ArePolls}
-use Rattle.affected_sizes.proofs.Lists.{one_rising_list}
-use Rattle.affected_sizes.proofs.Deciding.{checked_inside}
-use Rattle.affected_sizes.proofs.Polls.{parsed_paths, have_polls, one_polls}
+use Rattle.committed_results.specs.full_law.specs.Law.{EachFull}
+use Rattle.committed_results.specs.program_check.specs.Full.{view_in}
+use Rattle.committed_results.specs.program_check.specs.Law.{OneFull}
+use Rattle.recheck_checking.specs.affected_law.specs.Affected.{Parsed, Merged, Checked}
+use Rattle.recheck_reach.specs.affected_sizes.specs.Paths.{HasPath, ArePaths}
+use Rattle.recheck_reach.specs.affected_sizes.specs.Polls.{AreWavesAmong, AreBatches, ArePolls}
+use Rattle.recheck_reach.specs.affected_sizes.proofs.Lists.{one_rising_list}
+use Rattle.recheck_reach.specs.affected_sizes.proofs.Deciding.{checked_inside}
+use Rattle.recheck_reach.specs.affected_sizes.proofs.Polls.{parsed_paths, have_polls, one_polls}
 use Rattle.recheck_run.specs.Extent.{Extent, Affects, polls}
 use Rattle.recheck_run.proofs.Counting.{few_of, few_waves, few_batches, few_paths}
 

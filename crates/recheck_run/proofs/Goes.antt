@@ -3,24 +3,24 @@ use Rattle.std.proofs.Common.{◌≡◌, ℕ, ◌+◌, ◌-◌, ◌*◌, ◌<◌
 use Rattle.std.specs.Global.{Vec}
 use Rattle.std.proofs.lemmas.List.{length-map}
 use Rattle.std.proofs.lemmas.List.Sums.{sum_by_more, sum_by-take-le}
-use Rattle.source_front.specs.declared.parse.Parse.{Parse}
+use Rattle.committed_results.specs.source_front.specs.declared.parse.Parse.{Parse}
 use Rattle.graph_search.proofs.Lists.{take_whole}
 use Rattle.merged_signatures.specs.Chains.{View}
-use Rattle.program_check.specs.Full as full
-use Rattle.program_check.specs.Law.{OneFull}
-use Rattle.affected_law.specs.Affected.{Differs}
-use Rattle.analyst.specs.Work.{Work, work_of, fronts_of, merging, checks_of, done, IsWithin, IsCounted}
-use Rattle.payloads.specs.State.{program_of}
-use Rattle.path_numbers.specs.Sets.{paths_at, ArePlaces}
+use Rattle.committed_results.specs.program_check.specs.Full as full
+use Rattle.committed_results.specs.program_check.specs.Law.{OneFull}
+use Rattle.recheck_checking.specs.affected_law.specs.Affected.{Differs}
+use Rattle.recheck_reach.specs.analyst.specs.Work.{Work, work_of, fronts_of, merging, checks_of, done, IsWithin, IsCounted}
+use Rattle.recheck_checking.specs.payloads.specs.State.{program_of}
+use Rattle.recheck_reach.specs.path_numbers.specs.Sets.{paths_at, ArePlaces}
 use Rattle.check_values.specs.declared.faults.Errs.{Errs}
 use Rattle.check_values.specs.declared.root.Root.{Root}
-use Rattle.check_phases.specs.Sourced.{program_in, paths_in, view_in, AreSources}
-use Rattle.check_phases.specs.Checking.{batch_after}
-use Rattle.check_phases.specs.declared.merging.Sources.{Sources}
-use Rattle.check_phases.proofs.Works.{worked_more, within_all, within_more}
-use Rattle.recheck_merging.specs.Affected.{PlansAreOfMerged}
-use Rattle.recheck_merging.specs.Plans.{members_of, members_in, MembersAddUp, IsPlanOf}
-use Rattle.recheck_merging.specs.declared.planning.MergePlan.{MergePlan}
+use Rattle.recheck_reach.specs.check_phases.specs.Sourced.{program_in, paths_in, view_in, AreSources}
+use Rattle.recheck_reach.specs.check_phases.specs.Checking.{batch_after}
+use Rattle.recheck_reach.specs.check_phases.specs.declared.merging.Sources.{Sources}
+use Rattle.recheck_reach.specs.check_phases.proofs.Works.{worked_more, within_all, within_more}
+use Rattle.recheck_reach.specs.recheck_merging.specs.Affected.{PlansAreOfMerged}
+use Rattle.recheck_reach.specs.recheck_merging.specs.Plans.{members_of, members_in, MembersAddUp, IsPlanOf}
+use Rattle.recheck_reach.specs.recheck_merging.specs.declared.planning.MergePlan.{MergePlan}
 use Rattle.recheck_reach.specs.Law.{ParsedAreFresh, SeenAsChecked}
 use Rattle.recheck_checking.specs.Checking.{AreCheckedTo}
 use Rattle.recheck_checking.specs.declared.signing.Signed.{Signed}

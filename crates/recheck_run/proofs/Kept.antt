@@ -11,30 +11,30 @@ use Rattle.check_values.specs.declared.root.Root.{Root}
 use Rattle.check_values.specs.declared.signatures.Deps.{Deps}
 use Rattle.check_values.specs.declared.signatures.Sig.{Sig}
 use Rattle.merged_signatures.specs.Chains.{Known}
-use Rattle.program_check.specs.Full.{Results, beside, known_of, IsFull}
-use Rattle.affected_law.specs.Affected.{results_at, Parsed, Merged, Checked}
-use Rattle.affected_law.specs.Law.{SignaturesStay}
-use Rattle.payloads.specs.Entities.{parse_entity, deps_entity, signature_entity, errors_entity}
-use Rattle.payloads.specs.State.{program_of, HaveOwnRows}
-use Rattle.payloads.specs.declared.payload.Payload.{Payload}
+use Rattle.committed_results.specs.program_check.specs.Full.{Results, beside, known_of, IsFull}
+use Rattle.recheck_checking.specs.affected_law.specs.Affected.{results_at, Parsed, Merged, Checked}
+use Rattle.recheck_checking.specs.affected_law.specs.Law.{SignaturesStay}
+use Rattle.recheck_checking.specs.payloads.specs.Entities.{parse_entity, deps_entity, signature_entity, errors_entity}
+use Rattle.recheck_checking.specs.payloads.specs.State.{program_of, HaveOwnRows}
+use Rattle.recheck_checking.specs.payloads.specs.declared.payload.Payload.{Payload}
 use Rattle.pending_edits.specs.Rows.{row_of}
-use Rattle.check_phases.specs.Phases.{AreMerged}
-use Rattle.check_phases.specs.Sourced.{program_in, paths_in, view_in, AreSources}
-use Rattle.check_phases.specs.declared.merging.Sources.{Sources}
-use Rattle.check_phases.specs.declared.phases.Made.{Made}
-use Rattle.check_phases.proofs.Lists.{one_value, within_there, same_paths}
-use Rattle.check_phases.proofs.Merges.{path_get, beside_get, many_lists}
-use Rattle.check_phases.proofs.Waves.{many_merged}
-use Rattle.check_phases.proofs.Jobs.{beside_at}
-use Rattle.edited_root.specs.From.{freed_from, number_in}
-use Rattle.edited_root.specs.Numbering.{row_by}
-use Rattle.edited_root.proofs.Rooted.{row_by_number}
-use Rattle.edited_root.proofs.Users.{was_module, number_there, many_from, many_fresh, fresh_parsed}
-use Rattle.recheck_merging.proofs.Imported.{IsHere, here}
+use Rattle.recheck_reach.specs.check_phases.specs.Phases.{AreMerged}
+use Rattle.recheck_reach.specs.check_phases.specs.Sourced.{program_in, paths_in, view_in, AreSources}
+use Rattle.recheck_reach.specs.check_phases.specs.declared.merging.Sources.{Sources}
+use Rattle.recheck_reach.specs.check_phases.specs.declared.phases.Made.{Made}
+use Rattle.recheck_reach.specs.check_phases.proofs.Lists.{one_value, within_there, same_paths}
+use Rattle.recheck_reach.specs.check_phases.proofs.Merges.{path_get, beside_get, many_lists}
+use Rattle.recheck_reach.specs.check_phases.proofs.Waves.{many_merged}
+use Rattle.recheck_reach.specs.check_phases.proofs.Jobs.{beside_at}
+use Rattle.recheck_checking.specs.edited_root.specs.From.{freed_from, number_in}
+use Rattle.recheck_checking.specs.edited_root.specs.Numbering.{row_by}
+use Rattle.recheck_checking.specs.edited_root.proofs.Rooted.{row_by_number}
+use Rattle.recheck_checking.specs.edited_root.proofs.Users.{was_module, number_there, many_from, many_fresh, fresh_parsed}
+use Rattle.recheck_reach.specs.recheck_merging.proofs.Imported.{IsHere, here}
 use Rattle.recheck_reach.specs.Law.{SeenAsChecked, SignedAsChecked}
-use Rattle.recheck_staging.specs.Staging.{changes_of}
-use Rattle.recheck_staging.specs.declared.staging.Anew.{Anew}
-use Rattle.recheck_staging.proofs.Versions.{parse_unnamed, deps_unnamed, signature_unnamed, errors_unnamed}
+use Rattle.committed_results.specs.recheck_staging.specs.Staging.{changes_of}
+use Rattle.committed_results.specs.recheck_staging.specs.declared.staging.Anew.{Anew}
+use Rattle.committed_results.specs.recheck_staging.proofs.Versions.{parse_unnamed, deps_unnamed, signature_unnamed, errors_unnamed}
 use Rattle.recheck_run.specs.Stages.{old_of, IsBaseIn}
 use Rattle.recheck_run.specs.Steps.{AreAnew}
 use Rattle.recheck_run.specs.declared.stages.Base.{Base}

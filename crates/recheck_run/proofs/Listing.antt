@@ -5,22 +5,22 @@ use Rattle.flow_values.specs.Path as paths
 use Rattle.check_values.specs.Roots.{paths_of}
 use Rattle.check_values.specs.declared.root.Root.{Root}
 use Rattle.check_values.specs.declared.signatures.Sig.{Sig}
-use Rattle.source_front.specs.declared.parse.Parse.{Parse}
+use Rattle.committed_results.specs.source_front.specs.declared.parse.Parse.{Parse}
 use Rattle.graph_search.specs.Reach.{IsRising}
-use Rattle.affected_law.specs.Affected.{Differs}
-use Rattle.affected_sizes.specs.Polls.{AreImports}
-use Rattle.payloads.specs.State.{program_of}
-use Rattle.path_numbers.specs.Sets.{ArePlaces}
-use Rattle.check_phases.specs.Phases.{AreParsed}
-use Rattle.check_phases.specs.Sourced.{paths_in, view_in, AreSources}
-use Rattle.edited_root.specs.From.{numbers_from, fresh_from}
-use Rattle.recheck_merging.specs.Keeping as keeping
-use Rattle.recheck_merging.specs.Keeping.{KeptAreRight}
-use Rattle.recheck_merging.specs.Plans.{IsPlanOf}
-use Rattle.recheck_merging.specs.declared.planning.MergePlan.{MergePlan}
-use Rattle.recheck_sources.specs.Parts.{AreKeptBy, TellsOthers}
-use Rattle.recheck_sources.specs.Changed.{IsChanged}
-use Rattle.recheck_sources.specs.declared.sourcing.Listed.{Listed}
+use Rattle.recheck_checking.specs.affected_law.specs.Affected.{Differs}
+use Rattle.recheck_reach.specs.affected_sizes.specs.Polls.{AreImports}
+use Rattle.recheck_checking.specs.payloads.specs.State.{program_of}
+use Rattle.recheck_reach.specs.path_numbers.specs.Sets.{ArePlaces}
+use Rattle.recheck_reach.specs.check_phases.specs.Phases.{AreParsed}
+use Rattle.recheck_reach.specs.check_phases.specs.Sourced.{paths_in, view_in, AreSources}
+use Rattle.recheck_checking.specs.edited_root.specs.From.{numbers_from, fresh_from}
+use Rattle.recheck_reach.specs.recheck_merging.specs.Keeping as keeping
+use Rattle.recheck_reach.specs.recheck_merging.specs.Keeping.{KeptAreRight}
+use Rattle.recheck_reach.specs.recheck_merging.specs.Plans.{IsPlanOf}
+use Rattle.recheck_reach.specs.recheck_merging.specs.declared.planning.MergePlan.{MergePlan}
+use Rattle.recheck_reach.specs.recheck_sources.specs.Parts.{AreKeptBy, TellsOthers}
+use Rattle.recheck_reach.specs.recheck_sources.specs.Changed.{IsChanged}
+use Rattle.recheck_reach.specs.recheck_sources.specs.declared.sourcing.Listed.{Listed}
 use Rattle.recheck_reach.specs.Law.{DiffersAreTouched}
 use Rattle.recheck_run.specs.Stages.{old_of, IsBase, AreListed, IsMerging}
 use Rattle.recheck_run.specs.declared.stages.Base.{Base}

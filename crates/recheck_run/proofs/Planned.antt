@@ -3,32 +3,32 @@ use Rattle.std.proofs.Common.{◌≡◌, ℕ, zero, suc, ◌<◌, ◌≤◌, Boo
 use Rattle.std.specs.Prelude.{◌==◌, ◌↔◌, IsTrue, false}
 use Rattle.std.proofs.lemmas.Bool.Decides.{nat_tests}
 use Rattle.flow_base.specs.Program.{Bytes}
-use Rattle.full_law.specs.Law.{EachFull}
+use Rattle.committed_results.specs.full_law.specs.Law.{EachFull}
 use Rattle.heap_core.proofs.Lists.{get_there}
 use Rattle.check_values.specs.declared.faults.Errs.{Errs}
 use Rattle.check_values.specs.declared.root.Root.{Root}
 use Rattle.check_values.specs.declared.signatures.Sig.{Sig}
 use Rattle.graph_search.specs.Cycles.{Has, IsOn}
 use Rattle.graph_search.specs.Reach.{IsRising}
-use Rattle.affected_law.specs.Affected.{Differs}
-use Rattle.affected_sizes.specs.Polls.{AreImports}
-use Rattle.path_numbers.specs.Sets.{ArePlaces}
+use Rattle.recheck_checking.specs.affected_law.specs.Affected.{Differs}
+use Rattle.recheck_reach.specs.affected_sizes.specs.Polls.{AreImports}
+use Rattle.recheck_reach.specs.path_numbers.specs.Sets.{ArePlaces}
 use Rattle.recheck_plan.specs.Affected.{AreExactly}
-use Rattle.check_phases.specs.Phases.{AreMerged}
-use Rattle.check_phases.specs.Sourced.{program_in, paths_in, view_in, AreSources}
-use Rattle.check_phases.specs.declared.merging.Sources.{Sources}
-use Rattle.check_phases.proofs.Lists.{one_value}
-use Rattle.check_phases.proofs.Waves.{many_merged}
-use Rattle.edited_root.specs.From.{numbers_from}
-use Rattle.recheck_merging.specs.Keeping as keeping
-use Rattle.recheck_merging.specs.Keeping.{ComeFrom, AreTouched, KeptAreRight}
-use Rattle.recheck_merging.specs.Plans.{IsPlanOf, IsPlanOfNothing}
-use Rattle.recheck_merging.specs.declared.planning.MergePlan.{MergePlan}
-use Rattle.recheck_merging.specs.Merging.{AreMergedTo, IsFilled, WavesMakeAll}
-use Rattle.recheck_merging.proofs.Imported.{low_path}
-use Rattle.recheck_merging.proofs.Mapped.{has_all, all_has}
-use Rattle.recheck_sources.specs.Parts.{TellsOthers}
-use Rattle.recheck_sources.specs.Changed.{IsChanged}
+use Rattle.recheck_reach.specs.check_phases.specs.Phases.{AreMerged}
+use Rattle.recheck_reach.specs.check_phases.specs.Sourced.{program_in, paths_in, view_in, AreSources}
+use Rattle.recheck_reach.specs.check_phases.specs.declared.merging.Sources.{Sources}
+use Rattle.recheck_reach.specs.check_phases.proofs.Lists.{one_value}
+use Rattle.recheck_reach.specs.check_phases.proofs.Waves.{many_merged}
+use Rattle.recheck_checking.specs.edited_root.specs.From.{numbers_from}
+use Rattle.recheck_reach.specs.recheck_merging.specs.Keeping as keeping
+use Rattle.recheck_reach.specs.recheck_merging.specs.Keeping.{ComeFrom, AreTouched, KeptAreRight}
+use Rattle.recheck_reach.specs.recheck_merging.specs.Plans.{IsPlanOf, IsPlanOfNothing}
+use Rattle.recheck_reach.specs.recheck_merging.specs.declared.planning.MergePlan.{MergePlan}
+use Rattle.recheck_reach.specs.recheck_merging.specs.Merging.{AreMergedTo, IsFilled, WavesMakeAll}
+use Rattle.recheck_reach.specs.recheck_merging.proofs.Imported.{low_path}
+use Rattle.recheck_reach.specs.recheck_merging.proofs.Mapped.{has_all, all_has}
+use Rattle.recheck_reach.specs.recheck_sources.specs.Parts.{TellsOthers}
+use Rattle.recheck_reach.specs.recheck_sources.specs.Changed.{IsChanged}
 use Rattle.recheck_reach.specs.Moved.{IsSameOutside}
 use Rattle.recheck_reach.specs.Checked.{IsToCheckIn}
 use Rattle.recheck_reach.specs.Law.{RestIsSame, CheckedAreOfChecked, UnmovedAreChanged, DiffersAreTouched}

@@ -7,25 +7,25 @@ use Rattle.check_values.specs.declared.root.RootRow.{RootRow}
 use Rattle.check_values.specs.declared.root.Root.{Root}
 use Rattle.check_values.specs.declared.signatures.Deps.{Deps}
 use Rattle.check_values.specs.declared.signatures.Sig.{Sig}
-use Rattle.source_front.specs.declared.parse.Parse.{Parse}
-use Rattle.program_check.specs.Full.{Results}
-use Rattle.payloads.specs.Entities.{parse_entity, deps_entity, signature_entity, errors_entity}
-use Rattle.payloads.specs.State.{IsRoot, payload_in, payload_at}
-use Rattle.payloads.specs.declared.payload.Payload.{Payload}
-use Rattle.payloads.specs.declared.payload.Payload.TheVariants as payload
-use Rattle.payloads.proofs.Places.{stand_here}
-use Rattle.check_phases.specs.Phases.{results_by}
-use Rattle.check_phases.specs.Whole.{AreMade}
-use Rattle.check_phases.specs.declared.phases.Made.{Made}
-use Rattle.check_phases.proofs.Lists.{one_value, within_there}
-use Rattle.check_phases.proofs.Merges.{many_parses, many_lists}
-use Rattle.check_phases.proofs.Waves.{many_merged}
-use Rattle.edited_root.proofs.Users.{was_module, many_from}
-use Rattle.edited_root.specs.From.{freed_from}
-use Rattle.recheck_staging.specs.Staging.{state_of, HasState, AreKept, KeepsTheRest, Frees}
-use Rattle.recheck_staging.specs.declared.staging.Anew.{Anew}
-use Rattle.recheck_staging.proofs.Kept.{kept_by_old}
-use Rattle.recheck_sources.specs.Parts.{AreKeptBy, TellsOthers}
+use Rattle.committed_results.specs.source_front.specs.declared.parse.Parse.{Parse}
+use Rattle.committed_results.specs.program_check.specs.Full.{Results}
+use Rattle.recheck_checking.specs.payloads.specs.Entities.{parse_entity, deps_entity, signature_entity, errors_entity}
+use Rattle.recheck_checking.specs.payloads.specs.State.{IsRoot, payload_in, payload_at}
+use Rattle.recheck_checking.specs.payloads.specs.declared.payload.Payload.{Payload}
+use Rattle.recheck_checking.specs.payloads.specs.declared.payload.Payload.TheVariants as payload
+use Rattle.recheck_checking.specs.payloads.proofs.Places.{stand_here}
+use Rattle.recheck_reach.specs.check_phases.specs.Phases.{results_by}
+use Rattle.recheck_reach.specs.check_phases.specs.Whole.{AreMade}
+use Rattle.recheck_reach.specs.check_phases.specs.declared.phases.Made.{Made}
+use Rattle.recheck_reach.specs.check_phases.proofs.Lists.{one_value, within_there}
+use Rattle.recheck_reach.specs.check_phases.proofs.Merges.{many_parses, many_lists}
+use Rattle.recheck_reach.specs.check_phases.proofs.Waves.{many_merged}
+use Rattle.recheck_checking.specs.edited_root.proofs.Users.{was_module, many_from}
+use Rattle.recheck_checking.specs.edited_root.specs.From.{freed_from}
+use Rattle.committed_results.specs.recheck_staging.specs.Staging.{state_of, HasState, AreKept, KeepsTheRest, Frees}
+use Rattle.committed_results.specs.recheck_staging.specs.declared.staging.Anew.{Anew}
+use Rattle.committed_results.specs.recheck_staging.proofs.Kept.{kept_by_old}
+use Rattle.recheck_reach.specs.recheck_sources.specs.Parts.{AreKeptBy, TellsOthers}
 use Rattle.recheck_run.specs.Stages.{old_of, IsBase, IsBaseIn}
 use Rattle.recheck_run.specs.Steps.{AreAnew}
 use Rattle.recheck_run.specs.declared.stages.Base.{Base}

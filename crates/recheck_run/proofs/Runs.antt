@@ -6,14 +6,14 @@ use Rattle.std.proofs.lemmas.List.{length-map}
 use Rattle.flow_base.specs.Outside.{WhereTold}
 use Rattle.flow_base.specs.Program.{Bytes}
 use Rattle.flow_base.specs.Causes.{raised, RoseBy}
-use Rattle.full_law.specs.Law.{EachFull}
+use Rattle.committed_results.specs.full_law.specs.Law.{EachFull}
 use Rattle.heap_core.specs.Meaning.{Meaning, none_of}
 use Rattle.stops.specs.Asked.{StopSeen}
 use Rattle.check_values.specs.declared.root.RootRow.{RootRow}
-use Rattle.analyst.specs.Work.{Work, risen, RisesWithin, IsWithin, IsCounted}
-use Rattle.payloads.specs.State.{program_of}
-use Rattle.payloads.specs.declared.payload.Payload.{Payload}
-use Rattle.recheck_merging.specs.Plans.{MembersAddUp}
+use Rattle.recheck_reach.specs.analyst.specs.Work.{Work, risen, RisesWithin, IsWithin, IsCounted}
+use Rattle.recheck_checking.specs.payloads.specs.State.{program_of}
+use Rattle.recheck_checking.specs.payloads.specs.declared.payload.Payload.{Payload}
+use Rattle.recheck_reach.specs.recheck_merging.specs.Plans.{MembersAddUp}
 use Rattle.recheck_run.specs.Extent.{Extent, polls}
 use Rattle.recheck_run.specs.Recheck.{WorkedTo, whole_work}
 use Rattle.recheck_run.specs.Stages.{old_of, IsBase, IsBaseIn, Holds}

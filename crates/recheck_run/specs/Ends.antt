@@ -5,10 +5,10 @@ use Rattle.flow_base.specs.Causes.{raised, RoseBy}
 use Rattle.flow_base.specs.declared.outside.LastFault.TheVariants.{Reading}
 use Rattle.check_values.specs.declared.root.Root.{Root}
 use Rattle.stops.specs.Asked.{StopSeen}
-use Rattle.analyst.specs.Work.{Work, done, IsWithin}
+use Rattle.recheck_reach.specs.analyst.specs.Work.{Work, done, IsWithin}
 use Rattle.pending_edits.specs.Pending.{IsTouched}
-use Rattle.edited_root.specs.declared.halt.Halt as read
-use Rattle.edited_root.specs.declared.halt.Halt.TheVariants as unread
+use Rattle.recheck_checking.specs.edited_root.specs.declared.halt.Halt as read
+use Rattle.recheck_checking.specs.edited_root.specs.declared.halt.Halt.TheVariants as unread
 use Rattle.recheck_run.specs.Extent.{Extent, polls}
 use Rattle.recheck_run.specs.Recheck.{RecheckState, Edits, WorkedTo, whole_work, IsUnasked}
 use Rattle.recheck_run.specs.Stages.{old_of, IsBaseIn}

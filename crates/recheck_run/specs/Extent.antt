@@ -1,10 +1,10 @@
 -- How much an edit affects, and how often a recheck asks whether it is to stop.
 use Rattle.std.specs.Prelude.{◌≡◌, ℕ, ◌+◌, List, length}
 use Rattle.flow_base.specs.Program.{Bytes, Program}
-use Rattle.program_check.specs.Full.{Results, view_in, IsFull}
-use Rattle.affected_law.specs.Affected.{Parsed, Merged, Checked}
-use Rattle.affected_sizes.specs.Paths.{ArePaths}
-use Rattle.affected_sizes.specs.Polls.{AreWavesAmong, AreBatches}
+use Rattle.committed_results.specs.program_check.specs.Full.{Results, view_in, IsFull}
+use Rattle.recheck_checking.specs.affected_law.specs.Affected.{Parsed, Merged, Checked}
+use Rattle.recheck_reach.specs.affected_sizes.specs.Paths.{ArePaths}
+use Rattle.recheck_reach.specs.affected_sizes.specs.Polls.{AreWavesAmong, AreBatches}
 
 -- how many modules are read, merged and checked, and in how many waves and batches
 pub record Extent : Type 0 where

@@ -1,3 +1,8 @@
+pub use Rattle.recheck_reach.specs.affected_sizes
+pub use Rattle.recheck_checking.specs.edited_root
+pub use Rattle.committed_results.specs.full_law
+pub use Rattle.recheck_checking.specs.tree_crossing
+pub use Rattle.recheck_reach.specs.work_totals
 pub mod Extent
 pub mod Recheck
 pub mod Stages

@@ -8,14 +8,14 @@ use Rattle.flow_base.specs.declared.outside.LastFault.TheVariants.{Reading}
 use Rattle.heap_core.specs.Meaning.{Meaning, Appends}
 use Rattle.check_values.specs.declared.root.Root.{Root}
 use Rattle.stops.specs.Asked.{StopSeen}
-use Rattle.program_check.specs.Full.{Results, IsFull}
-use Rattle.program_check.specs.Status.{error_count}
-use Rattle.affected_law.specs.Affected.{results_at, Parsed, Merged, Checked}
-use Rattle.analyst.specs.Work.{Work, work_of, risen, done, RisesWithin, IsWithin}
-use Rattle.payloads.specs.Entities.{parse_entity, deps_entity, signature_entity, errors_entity}
-use Rattle.payloads.specs.State.{program_of}
-use Rattle.payloads.specs.declared.payload.Payload.{Payload}
-use Rattle.payloads.specs.declared.payload.Payload.TheVariants as payload
+use Rattle.committed_results.specs.program_check.specs.Full.{Results, IsFull}
+use Rattle.committed_results.specs.program_check.specs.Status.{error_count}
+use Rattle.recheck_checking.specs.affected_law.specs.Affected.{results_at, Parsed, Merged, Checked}
+use Rattle.recheck_reach.specs.analyst.specs.Work.{Work, work_of, risen, done, RisesWithin, IsWithin}
+use Rattle.recheck_checking.specs.payloads.specs.Entities.{parse_entity, deps_entity, signature_entity, errors_entity}
+use Rattle.recheck_checking.specs.payloads.specs.State.{program_of}
+use Rattle.recheck_checking.specs.payloads.specs.declared.payload.Payload.{Payload}
+use Rattle.recheck_checking.specs.payloads.specs.declared.payload.Payload.TheVariants as payload
 use Rattle.pending_edits.specs.Pending.{Pending, MayBecome, IsTouched}
 use Rattle.pending_edits.specs.Counting.{StandsOn}
 use Rattle.pending_edits.specs.Rows.{Follows, row_of}

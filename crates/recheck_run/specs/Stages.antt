@@ -6,25 +6,25 @@ use Rattle.check_values.specs.declared.faults.Errs.{Errs}
 use Rattle.check_values.specs.declared.root.Root.{Root}
 use Rattle.graph_search.specs.Cycles.{Has}
 use Rattle.graph_search.specs.Reach.{IsRising}
-use Rattle.program_check.specs.Full.{Results, IsFull}
-use Rattle.affected_law.specs.Affected.{Differs, Checked}
-use Rattle.affected_sizes.specs.Paths.{ArePaths}
-use Rattle.affected_sizes.specs.Polls.{AreImports}
-use Rattle.payloads.specs.State.{program_of, IsRoot}
-use Rattle.payloads.specs.declared.payload.Payload.{Payload}
-use Rattle.payloads.specs.declared.payload.Payload.TheVariants as payload
+use Rattle.committed_results.specs.program_check.specs.Full.{Results, IsFull}
+use Rattle.recheck_checking.specs.affected_law.specs.Affected.{Differs, Checked}
+use Rattle.recheck_reach.specs.affected_sizes.specs.Paths.{ArePaths}
+use Rattle.recheck_reach.specs.affected_sizes.specs.Polls.{AreImports}
+use Rattle.recheck_checking.specs.payloads.specs.State.{program_of, IsRoot}
+use Rattle.recheck_checking.specs.payloads.specs.declared.payload.Payload.{Payload}
+use Rattle.recheck_checking.specs.payloads.specs.declared.payload.Payload.TheVariants as payload
 use Rattle.pending_edits.specs.Rows.{Follows}
-use Rattle.path_numbers.specs.Sets.{paths_at, ArePlaces}
-use Rattle.check_phases.specs.Phases.{AreParsed, AreMerged}
-use Rattle.check_phases.specs.Sourced.{program_in, paths_in, view_in, AreSources}
-use Rattle.check_phases.specs.Whole.{AreMade}
-use Rattle.check_phases.specs.declared.merging.Sources.{Sources}
-use Rattle.edited_root.specs.From.{numbers_from, fresh_from, freed_from}
-use Rattle.recheck_merging.specs.Plans.{IsPlanOf}
-use Rattle.recheck_merging.specs.Merging.{AreMergedTo}
-use Rattle.recheck_staging.specs.Staging.{state_of, HasState}
-use Rattle.recheck_sources.specs.Parts.{AreKeptBy, TellsOthers}
-use Rattle.recheck_sources.specs.Changed.{IsChanged}
+use Rattle.recheck_reach.specs.path_numbers.specs.Sets.{paths_at, ArePlaces}
+use Rattle.recheck_reach.specs.check_phases.specs.Phases.{AreParsed, AreMerged}
+use Rattle.recheck_reach.specs.check_phases.specs.Sourced.{program_in, paths_in, view_in, AreSources}
+use Rattle.recheck_reach.specs.check_phases.specs.Whole.{AreMade}
+use Rattle.recheck_reach.specs.check_phases.specs.declared.merging.Sources.{Sources}
+use Rattle.recheck_checking.specs.edited_root.specs.From.{numbers_from, fresh_from, freed_from}
+use Rattle.recheck_reach.specs.recheck_merging.specs.Plans.{IsPlanOf}
+use Rattle.recheck_reach.specs.recheck_merging.specs.Merging.{AreMergedTo}
+use Rattle.committed_results.specs.recheck_staging.specs.Staging.{state_of, HasState}
+use Rattle.recheck_reach.specs.recheck_sources.specs.Parts.{AreKeptBy, TellsOthers}
+use Rattle.recheck_reach.specs.recheck_sources.specs.Changed.{IsChanged}
 use Rattle.recheck_checking.specs.Signing.{AreSigned}
 use Rattle.recheck_checking.specs.Checking.{IsCheckedBy, AreCheckedTo}
 use Rattle.recheck_checking.specs.declared.signing.Signed.{Signed}

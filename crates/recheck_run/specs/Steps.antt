@@ -4,20 +4,20 @@ use Rattle.check_values.specs.declared.faults.Errs.{Errs}
 use Rattle.flow_base.specs.Program.{Bytes}
 use Rattle.heap_core.specs.Meaning.{Meaning, AllFit}
 use Rattle.heap_core.specs.Transactions.{all_staged}
-use Rattle.program_check.specs.Full.{Results, IsFull}
-use Rattle.affected_law.specs.Affected.{Checked}
-use Rattle.analyst.specs.Work.{Work, work_of, no_work, done, IsWithin, IsCounted}
-use Rattle.payloads.specs.State.{program_of, fits}
-use Rattle.payloads.specs.declared.payload.Payload.{Payload}
-use Rattle.check_phases.specs.Sourced.{program_in, paths_in}
-use Rattle.check_phases.specs.Whole.{AreMade}
-use Rattle.check_phases.specs.declared.merging.Sources.{Sources}
-use Rattle.check_phases.specs.declared.phases.Made.{Made}
-use Rattle.recheck_merging.specs.Plans.{members_of}
-use Rattle.recheck_merging.specs.declared.planning.MergePlan.{MergePlan}
-use Rattle.recheck_staging.specs.Staging.{changes_of, state_of, HasState}
-use Rattle.recheck_staging.specs.declared.staging.Anew.{Anew}
-use Rattle.recheck_sources.specs.Parts.{AreKeptBy, TellsOthers}
+use Rattle.committed_results.specs.program_check.specs.Full.{Results, IsFull}
+use Rattle.recheck_checking.specs.affected_law.specs.Affected.{Checked}
+use Rattle.recheck_reach.specs.analyst.specs.Work.{Work, work_of, no_work, done, IsWithin, IsCounted}
+use Rattle.recheck_checking.specs.payloads.specs.State.{program_of, fits}
+use Rattle.recheck_checking.specs.payloads.specs.declared.payload.Payload.{Payload}
+use Rattle.recheck_reach.specs.check_phases.specs.Sourced.{program_in, paths_in}
+use Rattle.recheck_reach.specs.check_phases.specs.Whole.{AreMade}
+use Rattle.recheck_reach.specs.check_phases.specs.declared.merging.Sources.{Sources}
+use Rattle.recheck_reach.specs.check_phases.specs.declared.phases.Made.{Made}
+use Rattle.recheck_reach.specs.recheck_merging.specs.Plans.{members_of}
+use Rattle.recheck_reach.specs.recheck_merging.specs.declared.planning.MergePlan.{MergePlan}
+use Rattle.committed_results.specs.recheck_staging.specs.Staging.{changes_of, state_of, HasState}
+use Rattle.committed_results.specs.recheck_staging.specs.declared.staging.Anew.{Anew}
+use Rattle.recheck_reach.specs.recheck_sources.specs.Parts.{AreKeptBy, TellsOthers}
 use Rattle.recheck_run.specs.Extent.{Extent, Affects, polls}
 use Rattle.recheck_run.specs.Recheck.{whole_work}
 use Rattle.recheck_run.specs.Stages.{old_of, Holds}

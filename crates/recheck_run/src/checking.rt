@@ -4,8 +4,8 @@ ghost use Rattle.graph_search.specs.Cycles.{IsOn};
 ghost use Rattle.recheck_plan.specs.Affected.{AreExactly};
 ghost use Rattle.recheck_reach.specs.Checked.{IsToCheckIn};
 ghost use Rattle.graph_search.specs.Reach.{IsRising};
-ghost use Rattle.affected_sizes.specs.Polls.{AreImports};
-ghost use Rattle.check_phases.specs.Sourced.{AreSources, paths_in, view_in};
+ghost use Rattle.recheck_reach.specs.affected_sizes.specs.Polls.{AreImports};
+ghost use Rattle.recheck_reach.specs.check_phases.specs.Sourced.{AreSources, paths_in, view_in};
 ghost use Rattle.recheck_run.specs.Stages.{IsBase, IsMerging, IsChecking};
 ghost use Rattle.recheck_run.specs.Steps.{IsAlso};
 ghost use Rattle.recheck_run.specs.declared.stages.Stage.TheVariants as stage;
@@ -15,9 +15,9 @@ use crate::stages::{Base, Checking, Merging};
 use check_values::Sig;
 use flow_values::{List, NoMemory, Shared};
 use recheck_checking::{kept_errors, sign};
-use recheck_merging::whole_signatures;
+use recheck_reach::recheck_merging::whole_signatures;
+use recheck_reach::recheck_sources::Listed;
 use recheck_reach::{any_moved, checked_modules, moved_signatures};
-use recheck_sources::Listed;
 use std::alloc::Global;
 
 // Which modules are to be checked: those that changed, and where any signature moved, those that reach it.
@@ -64,9 +64,9 @@ pub(crate) fn begin_checks(
 {
     reach_laws();
     error_laws();
-    recheck_merging::waves_make_all();
-    recheck_merging::members_add_up();
-    full_law::each_full();
+    recheck_reach::recheck_merging::waves_make_all();
+    recheck_reach::recheck_merging::members_add_up();
+    committed_results::full_law::each_full();
     let Merging {
         listed,
         edges,

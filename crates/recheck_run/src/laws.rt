@@ -1,26 +1,26 @@
 //! Laws, as the contracts of calls that do nothing.
 ghost use Rattle.std.specs.Prelude.{◌≡◌, ◌<◌, ◌^◌, ℕ, List, false, map};
-ghost use Rattle.analyst.specs.Work.{IsCounted};
+ghost use Rattle.recheck_reach.specs.analyst.specs.Work.{IsCounted};
 ghost use Rattle.heap_core.specs.Meaning.{IsSound};
 ghost use Rattle.heap_core.specs.Meaning.{Meaning, opened, after_commit};
 ghost use Rattle.heap_core.specs.Transactions.{Committed, all_staged};
-ghost use Rattle.payloads.specs.State.{fits};
+ghost use Rattle.recheck_checking.specs.payloads.specs.State.{fits};
 ghost use Rattle.recheck_reach.specs.Law.{RestIsSame, CheckedAreOfChecked, UnmovedAreChanged, ParsedAreFresh, DiffersAreTouched, SeenAsChecked, SignedAsChecked};
 ghost use Rattle.recheck_checking.specs.Checking.{AllAreChecked};
 ghost use Rattle.recheck_checking.specs.Full.{MadeIsFull};
 ghost use Rattle.recheck_checking.specs.Right.{KeptErrorsAreRight};
-ghost use Rattle.work_totals.specs.Totals.{total};
+ghost use Rattle.recheck_reach.specs.work_totals.specs.Totals.{total};
 
-use analyst::Analyst;
 use heap_core::HeapWriter;
-use payloads::Payload;
+use recheck_checking::payloads::Payload;
+use recheck_reach::analyst::Analyst;
 use stops::Stop;
 
 /// The counts of all analysts together stay within their type.
 pub(crate) fn counted<A: Analyst>(analysts: &[A])
     ensures { IsCounted (total (map A.work analysts.now)) }
 {
-    work_totals::totals_rise();
+    recheck_reach::work_totals::totals_rise();
 }
 
 /// What holds of a heap at all times.

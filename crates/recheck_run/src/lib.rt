@@ -14,4 +14,5 @@ mod staging;
 mod stepping;
 
 pub use outcome::Outcome;
+pub use recheck_reach::affected_sizes;
 pub use rechecking::recheck;

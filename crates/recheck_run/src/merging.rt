@@ -1,18 +1,20 @@
 //! From the sources to the plan of what is merged.
 ghost use Rattle.std.specs.Prelude.{◌≡◌, ◌⊎◌, ◌<◌, ◌^◌, [], All, IfOk, length};
-ghost use Rattle.affected_sizes.specs.Polls.{AreImports};
-ghost use Rattle.check_phases.specs.Sourced.{AreSources, paths_in, view_in};
-ghost use Rattle.recheck_merging.specs.Plans.{IsPlanOf};
+ghost use Rattle.recheck_reach.specs.affected_sizes.specs.Polls.{AreImports};
+ghost use Rattle.recheck_reach.specs.check_phases.specs.Sourced.{AreSources, paths_in, view_in};
+ghost use Rattle.recheck_reach.specs.recheck_merging.specs.Plans.{IsPlanOf};
 ghost use Rattle.recheck_run.specs.Stages.{Holds, IsBase, IsMerging};
 ghost use Rattle.recheck_run.specs.declared.stages.Stage.TheVariants as stage;
 
 use crate::laws::reach_laws;
 use crate::stages::{Base, Merging};
-use check_phases::Sources;
+use committed_results::source_front::Parse;
 use flow_values::{List, NoMemory, Shared};
-use recheck_merging::{MergePlan, edges_of, kept_signatures, nothing_to_merge, plan_of};
-use recheck_sources::listed_sources;
-use source_front::Parse;
+use recheck_reach::check_phases::Sources;
+use recheck_reach::recheck_merging::{
+    MergePlan, edges_of, kept_signatures, nothing_to_merge, plan_of,
+};
+use recheck_reach::recheck_sources::listed_sources;
 use std::alloc::Global;
 
 // Which modules are merged, and the import edges, where any is touched.
@@ -58,7 +60,7 @@ pub(crate) fn list_all(
     ensures wave { IfOk result (λ m. m.wave ≡ 0) }
 {
     reach_laws();
-    recheck_merging::kept_are_right();
+    recheck_reach::recheck_merging::kept_are_right();
     let root = base.root.share()?;
     let from = base.from.as_slice();
     let fresh = base.fresh.as_slice();

@@ -1,7 +1,7 @@
 ghost use Rattle.std.specs.Prelude.{◌≡◌};
 
-use edited_root::Halt as ReadHalt;
 use flow_values::{NoMemory, Path};
+use recheck_checking::edited_root::Halt as ReadHalt;
 
 /// How a recheck ended.
 #[derive(Debug, Drop)]

@@ -3,22 +3,22 @@ ghost use Rattle.std.specs.Prelude.{◌≡◌, ◌≤◌, IfOk, IfErr, OnOk, len
 ghost use Rattle.heap_core.specs.Meaning.{none_of};
 ghost use Rattle.check_values.specs.Roots.{paths_of};
 ghost use Rattle.check_values.specs.declared.root.Root.{Root};
-ghost use Rattle.payloads.specs.State.{program_of};
+ghost use Rattle.recheck_checking.specs.payloads.specs.State.{program_of};
 ghost use Rattle.pending_edits.specs.Counting.{counted};
 ghost use Rattle.pending_edits.specs.Pending.{MayBecome};
-ghost use Rattle.edited_root.specs.Reading.{IsUnread};
+ghost use Rattle.recheck_checking.specs.edited_root.specs.Reading.{IsUnread};
 ghost use Rattle.recheck_run.specs.Recheck.{Commits, HasRoom};
 ghost use Rattle.recheck_run.specs.Stages.{old_of, IsBaseIn};
 
 use crate::laws::sound;
 use crate::stages::Base;
 use committed_results::committed_results;
-use edited_root::{Halt, NextRoot, edited_root};
 use flow_base::Folder;
 use flow_values::Shared;
 use heap_core::HeapWriter;
-use payloads::Payload;
 use pending_edits::Edits;
+use recheck_checking::edited_root::{Halt, NextRoot, edited_root};
+use recheck_checking::payloads::Payload;
 use std::alloc::Global;
 
 /// Reads off the heap all results of the committed program, and reads the folder for each touched path.

@@ -6,18 +6,18 @@ ghost use Rattle.check_values.specs.declared.root.Root.{Root};
 ghost use Rattle.pending_edits.specs.Counting.{counted};
 ghost use Rattle.recheck_run.specs.Recheck.{HasRoom, Commits, Rechecked, CountsReads, Tells};
 ghost use Rattle.recheck_run.specs.Ends.{IsStaged, IsHalted, IsStop};
-ghost use Rattle.work_totals.specs.Totals.{total};
+ghost use Rattle.recheck_reach.specs.work_totals.specs.Totals.{total};
 
 use crate::laws::{bounded, commits, counted, error_laws, reach_laws, sound};
 use crate::outcome::{Halt, Outcome};
 use crate::reading::read_base;
 use crate::running::run;
 use crate::stages::Staged;
-use analyst::Analyst;
 use flow_base::{Folder, Turnstile};
 use heap_core::HeapWriter;
-use payloads::Payload;
 use pending_edits::Edits;
+use recheck_checking::payloads::Payload;
+use recheck_reach::analyst::Analyst;
 use std::alloc::Global;
 use std::sync::Wait;
 use std::thread::Threads;
@@ -64,7 +64,7 @@ fn stage_edited<
     counted(&*analysts);
     bounded(&*stop);
     sound(&*writer);
-    full_law::each_full();
+    committed_results::full_law::each_full();
     let base = read_base(alloc, &*writer, edits, folder)?;
     run(rt, alloc, writer, stop, turns, analysts, &base)
 }
@@ -121,7 +121,7 @@ pub fn recheck<
     sound(&*writer);
     reach_laws();
     error_laws();
-    affected_law::what_stays();
+    recheck_checking::affected_law::what_stays();
     commits();
     writer.begin();
     match stage_edited(rt, alloc, writer, &*edits, folder, stop, turns, analysts) {

@@ -6,16 +6,16 @@ ghost use Rattle.recheck_run.specs.Extent.{Extent};
 ghost use Rattle.recheck_run.specs.Stages.{IsBaseIn};
 ghost use Rattle.recheck_run.specs.Steps.{AffectsIn, IsReady};
 ghost use Rattle.recheck_run.specs.Ends.{HasEnded, HasHalted};
-ghost use Rattle.work_totals.specs.Totals.{total};
+ghost use Rattle.recheck_reach.specs.work_totals.specs.Totals.{total};
 
 use crate::laws::{bounded, counted};
 use crate::outcome::Halt;
 use crate::stages::{Base, Next, Stage, Staged};
 use crate::stepping::step;
-use analyst::Analyst;
 use flow_base::{Point, Turnstile};
 use heap_core::HeapWriter;
-use payloads::Payload;
+use recheck_checking::payloads::Payload;
+use recheck_reach::analyst::Analyst;
 use std::alloc::Global;
 use std::sync::Wait;
 use std::thread::Threads;
@@ -57,8 +57,8 @@ pub(crate) fn run<
 {
     counted(&*analysts);
     bounded(&*stop);
-    full_law::each_full();
-    recheck_merging::members_add_up();
+    committed_results::full_law::each_full();
+    recheck_reach::recheck_merging::members_add_up();
     let mut next = Next::GoesTo(Stage::Fronts);
     let mut poll = 1u32;
     'polls: loop {

@@ -1,11 +1,11 @@
 //! What a recheck works with, and where it stands.
-use check_phases::{Made, Sources};
 use check_values::{Root, Sig};
+use committed_results::source_front::Parse;
 use flow_values::{List, Shared};
 use recheck_checking::{ErrorSlots, Signed};
-use recheck_merging::{MergePlan, Slots};
-use recheck_sources::Listed;
-use source_front::Parse;
+use recheck_reach::check_phases::{Made, Sources};
+use recheck_reach::recheck_merging::{MergePlan, Slots};
+use recheck_reach::recheck_sources::Listed;
 
 /// All results of the committed program, and the root of the edited one.
 #[derive(Drop)]

@@ -9,12 +9,12 @@ ghost use Rattle.recheck_run.specs.Steps.{AreAnew, IsReady};
 
 use crate::laws::error_laws;
 use crate::stages::{Base, Checking, Staged};
-use check_phases::{Made, count_errors};
+use committed_results::recheck_staging::{Anew, stage_anew};
 use flow_values::NoMemory;
 use heap_core::HeapWriter;
-use payloads::Payload;
+use recheck_checking::payloads::Payload;
 use recheck_checking::whole_errors;
-use recheck_staging::{Anew, stage_anew};
+use recheck_reach::check_phases::{Made, count_errors};
 use std::alloc::Global;
 
 // Turns the flags of these numbers on.

@@ -2,25 +2,25 @@
 ghost use Rattle.std.specs.Prelude.{◌≡◌, ◌<◌, true, IfOk, length, map};
 ghost use Rattle.heap_core.specs.Meaning.{none_of};
 ghost use Rattle.heap_core.specs.Transactions.{IsStaging};
-ghost use Rattle.analyst.specs.Work.{Work, IsCounted};
+ghost use Rattle.recheck_reach.specs.analyst.specs.Work.{Work, IsCounted};
 ghost use Rattle.recheck_run.specs.Stages.{IsBase, IsBaseIn, Holds, IsMerging, IsChecking};
 ghost use Rattle.recheck_run.specs.Steps.{HoldsNext, StepsOn, LeadsOn};
 ghost use Rattle.recheck_run.specs.declared.stages.Stage.TheVariants as stage;
-ghost use Rattle.work_totals.specs.Totals.{total};
+ghost use Rattle.recheck_reach.specs.work_totals.specs.Totals.{total};
 
 use crate::checking::begin_checks;
 use crate::laws::{counted, reach_laws};
 use crate::merging::list_all;
 use crate::stages::{Base, Checking, Merging, Next, Stage};
 use crate::staging::stage_all;
-use analyst::Analyst;
+use committed_results::source_front::Parse;
 use flow_values::{NoMemory, Shared};
 use heap_core::HeapWriter;
-use payloads::Payload;
 use recheck_checking::check_batch;
-use recheck_merging::merge_wave;
-use recheck_sources::edited_parses;
-use source_front::Parse;
+use recheck_checking::payloads::Payload;
+use recheck_reach::analyst::Analyst;
+use recheck_reach::recheck_merging::merge_wave;
+use recheck_reach::recheck_sources::edited_parses;
 use std::alloc::Global;
 use std::sync::Wait;
 use std::thread::Threads;
@@ -55,8 +55,8 @@ fn list_next(alloc: Global, base: &Base, parses: Vec<Shared<Parse>>) -> Result<S
     ensures steps { (work : Work) → IsCounted work → StepsOn base.now (stage.Lists parses) result work work }
 {
     reach_laws();
-    program_check::one_full();
-    recheck_merging::plans_are_of_merged();
+    committed_results::program_check::one_full();
+    recheck_reach::recheck_merging::plans_are_of_merged();
     let merging = list_all(alloc, base, parses)?;
     Ok(Stage::Merges(merging))
 }
@@ -77,7 +77,7 @@ fn merge_next<R: Threads + Wait + Sync, A: Analyst + Send>(
     ensures many { length analysts.new ≡ length analysts.old }
 {
     counted(&*analysts);
-    recheck_merging::members_add_up();
+    recheck_reach::recheck_merging::members_add_up();
     let wave = merging.wave;
     merge_wave(
         rt,
@@ -184,7 +184,7 @@ pub(crate) fn step<R: Threads + Wait + Sync, W: HeapWriter<Payload>, A: Analyst 
     ensures many { length analysts.new ≡ length analysts.old }
 {
     counted(&*analysts);
-    recheck_merging::members_add_up();
+    recheck_reach::recheck_merging::members_add_up();
     match stage {
         Stage::Fronts => {
             let next = front_next(rt, alloc, analysts, base)?;

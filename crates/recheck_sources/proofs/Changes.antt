@@ -4,10 +4,10 @@ use Rattle.std.specs.Cmp.Lexicographic.{bytes_decides}
 use Rattle.flow_base.specs.Program.{Bytes, text_at}
 use Rattle.heap_core.proofs.Lists.{get_there}
 use Rattle.check_values.specs.declared.root.RootRow.{RootRow}
-use Rattle.source_front.specs.declared.parse.Parse.{Parse}
+use Rattle.export_counts.specs.source_front.specs.declared.parse.Parse.{Parse}
 use Rattle.graph_search.specs.Reach.{IsRising}
 use Rattle.merged_signatures.specs.Chains.{Known}
-use Rattle.affected_law.specs.Affected.{Differs, Parsed}
+use Rattle.edited_root.specs.affected_law.specs.Affected.{Differs, Parsed}
 use Rattle.path_numbers.specs.Sets.{ArePlaces}
 use Rattle.recheck_plan.specs.Marks.{AreBelow}
 use Rattle.check_phases.specs.Phases.{knowns}

@@ -6,8 +6,8 @@ use Rattle.std.proofs.lemmas.List.Sums.{sum_by-cons}
 use Rattle.flow_base.specs.Program.{Bytes}
 use Rattle.heap_core.proofs.Lists.{get_index}
 use Rattle.check_values.specs.declared.root.RootRow.{RootRow}
-use Rattle.source_front.specs.Front.{IsParse}
-use Rattle.source_front.specs.declared.parse.Parse.{Parse}
+use Rattle.export_counts.specs.source_front.specs.Front.{IsParse}
+use Rattle.export_counts.specs.source_front.specs.declared.parse.Parse.{Parse}
 use Rattle.check_phases.proofs.Fronts.{SayTheirs}
 use Rattle.check_phases.proofs.Lists.{one_value}
 use Rattle.recheck_sources.specs.Keeping.{where_on}

@@ -6,13 +6,13 @@ use Rattle.check_values.specs.Rows.{row_at}
 use Rattle.check_values.specs.declared.root.RootRow.{RootRow}
 use Rattle.check_values.specs.declared.root.Root.{Root}
 use Rattle.check_values.specs.declared.signatures.Deps.{Deps}
-use Rattle.source_front.specs.Front.{IsParse}
-use Rattle.source_front.specs.declared.parse.Parse.{Parse}
+use Rattle.export_counts.specs.source_front.specs.Front.{IsParse}
+use Rattle.export_counts.specs.source_front.specs.declared.parse.Parse.{Parse}
 use Rattle.merged_signatures.specs.Chains.{Known}
 use Rattle.merged_signatures.specs.Programs.{IsSmallWithFewExports}
 use Rattle.export_counts.specs.Law as exports
-use Rattle.payloads.specs.State.{program_of}
-use Rattle.program_check.specs.Full.{beside, deps_in}
+use Rattle.check_phases.specs.payloads.specs.State.{program_of}
+use Rattle.check_phases.specs.program_check.specs.Full.{beside, deps_in}
 use Rattle.check_values.specs.Roots as roots
 use Rattle.check_phases.specs.Phases.{AreParsed, lists_in, knowns}
 use Rattle.check_phases.specs.Sourced.{program_in, paths_in, view_in, AreSources}

@@ -7,11 +7,11 @@ use Rattle.check_values.specs.Roots.{paths_of}
 use Rattle.check_values.specs.declared.root.RootRow.{RootRow}
 use Rattle.check_values.specs.declared.root.Root.{Root}
 use Rattle.check_values.specs.declared.signatures.Deps.{Deps}
-use Rattle.source_front.specs.Front.{IsParse}
-use Rattle.source_front.specs.declared.parse.Parse.{Parse}
-use Rattle.program_check.specs.Full.{module_in, deps_in}
-use Rattle.recheck_law.specs.Lists.{again, ListsAgain}
-use Rattle.payloads.specs.State.{program_of}
+use Rattle.export_counts.specs.source_front.specs.Front.{IsParse}
+use Rattle.export_counts.specs.source_front.specs.declared.parse.Parse.{Parse}
+use Rattle.check_phases.specs.program_check.specs.Full.{module_in, deps_in}
+use Rattle.path_numbers.specs.recheck_law.specs.Lists.{again, ListsAgain}
+use Rattle.check_phases.specs.payloads.specs.State.{program_of}
 use Rattle.check_phases.specs.Phases.{AreParsed}
 use Rattle.check_phases.specs.Sourced.{paths_in, AreSources}
 use Rattle.check_phases.specs.declared.merging.Sources.{Sources}

@@ -6,9 +6,9 @@ use Rattle.check_values.specs.Roots.{paths_of}
 use Rattle.check_values.specs.declared.root.RootRow.{RootRow}
 use Rattle.check_values.specs.declared.root.Root.{Root}
 use Rattle.check_values.specs.declared.signatures.Deps.{Deps}
-use Rattle.source_front.specs.Front.{IsParse}
-use Rattle.source_front.specs.declared.parse.Parse.{Parse}
-use Rattle.recheck_law.specs.Lists.{ListsAgain}
+use Rattle.export_counts.specs.source_front.specs.Front.{IsParse}
+use Rattle.export_counts.specs.source_front.specs.declared.parse.Parse.{Parse}
+use Rattle.path_numbers.specs.recheck_law.specs.Lists.{ListsAgain}
 use Rattle.check_phases.specs.Sourced.{AreSources}
 use Rattle.check_phases.specs.declared.merging.Sources.{Sources}
 use Rattle.edited_root.specs.From.{numbers_from, fresh_from}

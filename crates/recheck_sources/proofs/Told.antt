@@ -1,9 +1,9 @@
 -- What the flags tell of all modules, as `told_sources` has it.
 use Rattle.std.proofs.Common.{◌≡◌, ℕ, Bool, List, length, Option, sym, ap, ◌∙◌, subst, arith}
 use Rattle.check_values.specs.declared.signatures.Deps.{Deps}
-use Rattle.source_front.specs.declared.parse.Parse.{Parse}
+use Rattle.export_counts.specs.source_front.specs.declared.parse.Parse.{Parse}
 use Rattle.graph_search.specs.Reach.{IsRising}
-use Rattle.affected_law.specs.Affected.{Differs}
+use Rattle.edited_root.specs.affected_law.specs.Affected.{Differs}
 use Rattle.path_numbers.specs.Sets.{ArePlaces}
 use Rattle.recheck_plan.specs.Marks.{AreBelow}
 use Rattle.check_phases.specs.Sourced.{paths_in, view_in, AreSources}

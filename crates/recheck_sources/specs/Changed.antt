@@ -3,8 +3,8 @@ use Rattle.std.specs.Prelude.{◌≡◌, ◌≢◌, ◌⊎◌, Option, Some}
 use Rattle.flow_base.specs.Program.{Bytes}
 use Rattle.check_values.specs.Rows.{row_at}
 use Rattle.check_values.specs.declared.signatures.Deps.{Deps}
-use Rattle.program_check.specs.Full.{beside}
-use Rattle.affected_law.specs.Affected.{Parsed}
+use Rattle.check_phases.specs.program_check.specs.Full.{beside}
+use Rattle.edited_root.specs.affected_law.specs.Affected.{Parsed}
 use Rattle.check_phases.specs.Sourced.{program_in}
 use Rattle.check_phases.specs.declared.merging.Sources.{Sources}
 

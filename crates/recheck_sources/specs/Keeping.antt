@@ -3,10 +3,10 @@ use Rattle.std.specs.Prelude.{◌≡◌, ◌≢◌, ◌<◌, ◌⊎◌, ℕ, Boo
 use Rattle.flow_base.specs.Program.{Bytes}
 use Rattle.check_values.specs.declared.signatures.Deps.{Deps}
 use Rattle.check_values.specs.declared.signatures.LocalSig.{LocalSig}
-use Rattle.source_front.specs.declared.parse.Parse.{Parse}
+use Rattle.export_counts.specs.source_front.specs.declared.parse.Parse.{Parse}
 use Rattle.graph_search.specs.Cycles.{IsOn}
-use Rattle.program_check.specs.Full.{deps_in}
-use Rattle.recheck_law.specs.Lists.{again}
+use Rattle.check_phases.specs.program_check.specs.Full.{deps_in}
+use Rattle.path_numbers.specs.recheck_law.specs.Lists.{again}
 
 -- the part of the old module of a number, where the module is not fresh
 abbrev pub kept_in : {X : Type 0} → List X → Option ℕ → Bool → Option X

@@ -8,5 +8,7 @@ mod parsing;
 mod sourcing;
 mod telling;
 
+pub use edited_root::affected_law;
+pub use export_counts::source_front;
 pub use parsing::edited_parses;
 pub use sourcing::{Listed, listed_sources};

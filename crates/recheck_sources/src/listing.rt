@@ -2,12 +2,12 @@
 ghost use Rattle.std.specs.Prelude.{◌≡◌, true, IfOk, IfSome, if◌then◌else◌};
 ghost use Rattle.flow_values.specs.Path.{IsRising};
 ghost use Rattle.check_values.specs.Roots.{paths_of};
-ghost use Rattle.program_check.specs.Full.{deps_in};
-ghost use Rattle.payloads.specs.State.{program_of};
+ghost use Rattle.check_phases.specs.program_check.specs.Full.{deps_in};
+ghost use Rattle.check_phases.specs.payloads.specs.State.{program_of};
 ghost use Rattle.check_phases.specs.Phases.{AreParsed, lists_in};
 ghost use Rattle.check_phases.specs.Sourced.{AreSources};
 ghost use Rattle.edited_root.specs.From.{numbers_from, fresh_from};
-ghost use Rattle.recheck_law.specs.Lists.{row_again, again};
+ghost use Rattle.path_numbers.specs.recheck_law.specs.Lists.{row_again, again};
 ghost use Rattle.recheck_sources.specs.Keeping.{IsInPlace, ServesOn};
 ghost use Rattle.recheck_sources.specs.Parts.{AreKeptBy};
 
@@ -15,10 +15,10 @@ use crate::keeping::kept_part;
 use check_phases::Sources;
 use check_values::{DepRow, Deps, Root};
 use dep_lists::resolve;
+use export_counts::source_front::{Parse, ParseTree};
 use flow_values::{List, NoMemory, Path, Shared};
 use module_deps::deps_of;
 use signature_equality::same_deps;
-use source_front::{Parse, ParseTree};
 use std::alloc::Global;
 
 // The dependency list of the module at a path, by its tree.
@@ -126,7 +126,7 @@ pub(crate) fn edited_lists(
     ensures lists { IfOk result (λ lists. lists.items ≡ lists_in (paths_of root.now) (program_of root.now) parses.now) }
     ensures kept { stays ≡ true → IfOk result (λ lists. AreKeptBy was.now.lists.items from.now fresh.now lists.items) }
 {
-    recheck_law::lists_again();
+    path_numbers::recheck_law::lists_again();
     let modules = root.modules.as_slice();
     let old = was.lists.as_slice();
     let mut lists = Vec::new(alloc);

@@ -1,10 +1,10 @@
 //! What the sources of an edited program say by themselves.
 ghost use Rattle.std.specs.Prelude.{◌≡◌, ◌+◌, ◌++◌, ◌<◌, [], ◌∷◌, IfOk, OnOk, None, Some, cond, count_by, length, map, slice_get};
 ghost use Rattle.std.specs.List.{AllZip};
-ghost use Rattle.source_front.specs.Front.{IsParse};
-ghost use Rattle.analyst.specs.Work.{Works, fronts_of};
+ghost use Rattle.export_counts.specs.source_front.specs.Front.{IsParse};
+ghost use Rattle.check_phases.specs.analyst.specs.Work.{Works, fronts_of};
 ghost use Rattle.work_totals.specs.Totals.{total};
-ghost use Rattle.payloads.specs.State.{program_of};
+ghost use Rattle.check_phases.specs.payloads.specs.State.{program_of};
 ghost use Rattle.check_phases.specs.Phases.{AreParsed};
 ghost use Rattle.check_phases.specs.Sourced.{AreSources};
 ghost use Rattle.edited_root.specs.From.{numbers_from, fresh_from};
@@ -12,11 +12,11 @@ ghost use Rattle.recheck_sources.specs.Keeping.{made_for, where_on, IsInPlace};
 ghost use Rattle.recheck_sources.specs.Parts.{AreKeptBy};
 
 use crate::keeping::{kept_or_next, kept_part};
-use analyst::Analyst;
 use check_phases::Sources;
+use check_phases::analyst::Analyst;
 use check_values::{Root, RootRow};
+use export_counts::source_front::Parse;
 use flow_values::{List, NoMemory, Shared, Text};
-use source_front::Parse;
 use std::alloc::Global;
 use std::sync::Wait;
 use std::thread::Threads;

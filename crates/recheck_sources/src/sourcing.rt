@@ -3,8 +3,8 @@ ghost use Rattle.std.specs.Prelude.{◌≡◌, ◌<◌, ◌^◌, true, IfOk, len
 ghost use Rattle.flow_values.specs.Path.{IsRising};
 ghost use Rattle.check_values.specs.Roots.{paths_of};
 ghost use Rattle.graph_search.specs.Reach.{IsRising as IsRisingRow};
-ghost use Rattle.payloads.specs.State.{program_of};
-ghost use Rattle.affected_law.specs.Affected.{Differs};
+ghost use Rattle.check_phases.specs.payloads.specs.State.{program_of};
+ghost use Rattle.edited_root.specs.affected_law.specs.Affected.{Differs};
 ghost use Rattle.path_numbers.specs.Sets.{ArePlaces};
 ghost use Rattle.check_phases.specs.Phases.{AreParsed};
 ghost use Rattle.check_phases.specs.Sourced.{paths_in, view_in, AreSources};
@@ -17,8 +17,8 @@ use crate::listing::edited_lists;
 use crate::telling::{either_places, relisted_of, resigned_of};
 use check_phases::Sources;
 use check_values::Root;
+use export_counts::source_front::Parse;
 use flow_values::{List, NoMemory, Shared};
-use source_front::Parse;
 use std::alloc::Global;
 
 /// The modules of an edited program with what is known of each by itself, and of which modules it differs.

@@ -5,9 +5,9 @@ ghost use Rattle.recheck_sources.specs.Keeping.{TellsOther, signatures_of, IsOnE
 ghost use Rattle.recheck_sources.specs.Parts.{AreKeptBy, TellsOthers};
 
 use check_values::Deps;
+use export_counts::source_front::Parse;
 use flow_values::{List, NoMemory, Shared};
 use signature_equality::{same_deps, same_local};
-use source_front::Parse;
 use std::alloc::Global;
 
 // Whether a dependency list is new, or another one than that of the old module.

@@ -9,8 +9,8 @@ use Rattle.heap_core.specs.Meaning.{Meaning, names, staging}
 use Rattle.heap_core.specs.Transactions.{numbers_of, written, all_staged}
 use Rattle.heap_core.proofs.Lists.{put_here, put_else}
 use Rattle.check_values.specs.declared.root.RootRow.{RootRow}
-use Rattle.payloads.specs.declared.payload.Payload.{Payload}
-use Rattle.payloads.specs.Entities.{parse_entity, deps_entity, signature_entity, errors_entity}
+use Rattle.check_phases.specs.payloads.specs.declared.payload.Payload.{Payload}
+use Rattle.check_phases.specs.payloads.specs.Entities.{parse_entity, deps_entity, signature_entity, errors_entity}
 use Rattle.check_phases.proofs.Lists.{one_value}
 use Rattle.recheck_staging.specs.Staging.{Change, flagged_one, flagged, vacated_row, vacated, AreKept}
 

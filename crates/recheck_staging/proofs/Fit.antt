@@ -10,11 +10,11 @@ use Rattle.flow_base.specs.Program.{Bytes, Program, paths_of}
 use Rattle.check_values.specs.declared.root.RootRow.{RootRow}
 use Rattle.check_values.specs.declared.root.Root.{Root}
 use Rattle.check_values.specs.declared.signatures.Deps.{Deps}
-use Rattle.program_check.specs.Full.{Results, IsFull}
-use Rattle.payloads.specs.Entities.{parse_entity, deps_entity, signature_entity, errors_entity}
-use Rattle.payloads.specs.State.{IsRoot, fits}
-use Rattle.payloads.specs.declared.payload.Payload.{Payload}
-use Rattle.payloads.specs.declared.payload.Payload.TheVariants as payload
+use Rattle.check_phases.specs.program_check.specs.Full.{Results, IsFull}
+use Rattle.check_phases.specs.payloads.specs.Entities.{parse_entity, deps_entity, signature_entity, errors_entity}
+use Rattle.check_phases.specs.payloads.specs.State.{IsRoot, fits}
+use Rattle.check_phases.specs.payloads.specs.declared.payload.Payload.{Payload}
+use Rattle.check_phases.specs.payloads.specs.declared.payload.Payload.TheVariants as payload
 use Rattle.check_phases.specs.Phases.{results_by, lists_in}
 use Rattle.check_phases.specs.Sourced.{program_in}
 use Rattle.check_phases.specs.Whole.{AreMade}

@@ -2,8 +2,8 @@
 use Rattle.std.proofs.Common.{◌≡◌, ℕ, suc, Bool, false, List, [], ◌∷◌, length, slice_get, Option, Some, refl, ap, ◌∙◌, arith}
 use Rattle.check_values.specs.declared.root.RootRow.{RootRow}
 use Rattle.check_values.specs.declared.root.Root.{Root}
-use Rattle.payloads.specs.State.{program_of}
-use Rattle.payloads.specs.declared.payload.Payload.{Payload}
+use Rattle.check_phases.specs.payloads.specs.State.{program_of}
+use Rattle.check_phases.specs.payloads.specs.declared.payload.Payload.{Payload}
 use Rattle.pending_edits.specs.Rows.{Follows}
 use Rattle.edited_root.specs.From.{numbers_from}
 use Rattle.edited_root.proofs.Users.{keeps_row}

@@ -14,13 +14,13 @@ use Rattle.check_values.specs.declared.root.RootRow.{RootRow}
 use Rattle.check_values.specs.declared.root.Root.{Root}
 use Rattle.check_values.specs.declared.signatures.Deps.{Deps}
 use Rattle.check_values.specs.declared.signatures.Sig.{Sig}
-use Rattle.source_front.specs.declared.parse.Parse.{Parse}
-use Rattle.program_check.specs.Full.{Results}
-use Rattle.payloads.specs.Entities.{parse_entity, deps_entity, signature_entity, errors_entity}
-use Rattle.payloads.specs.State.{IsRoot, payload_in, payload_at, fits, StandsIn}
-use Rattle.payloads.specs.declared.payload.Payload.{Payload}
-use Rattle.payloads.specs.declared.payload.Payload.TheVariants as payload
-use Rattle.payloads.proofs.Places.{IsOfRow, one_row, stand_here, nothing_here}
+use Rattle.check_phases.specs.source_front.specs.declared.parse.Parse.{Parse}
+use Rattle.check_phases.specs.program_check.specs.Full.{Results}
+use Rattle.check_phases.specs.payloads.specs.Entities.{parse_entity, deps_entity, signature_entity, errors_entity}
+use Rattle.check_phases.specs.payloads.specs.State.{IsRoot, payload_in, payload_at, fits, StandsIn}
+use Rattle.check_phases.specs.payloads.specs.declared.payload.Payload.{Payload}
+use Rattle.check_phases.specs.payloads.specs.declared.payload.Payload.TheVariants as payload
+use Rattle.check_phases.specs.payloads.proofs.Places.{IsOfRow, one_row, stand_here, nothing_here}
 use Rattle.check_phases.specs.Phases.{results_by}
 use Rattle.check_phases.specs.declared.phases.Made.{Made}
 use Rattle.check_phases.proofs.Lists.{one_value, within_there}

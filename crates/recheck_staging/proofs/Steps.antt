@@ -9,10 +9,10 @@ use Rattle.check_values.specs.declared.faults.Errs.{Errs}
 use Rattle.check_values.specs.declared.root.RootRow.{RootRow}
 use Rattle.check_values.specs.declared.signatures.Deps.{Deps}
 use Rattle.check_values.specs.declared.signatures.Sig.{Sig}
-use Rattle.source_front.specs.declared.parse.Parse.{Parse}
-use Rattle.payloads.specs.declared.payload.Payload.{Payload}
-use Rattle.payloads.specs.declared.payload.Payload.TheVariants as payload
-use Rattle.payloads.specs.Entities.{parse_entity, deps_entity, signature_entity, errors_entity}
+use Rattle.check_phases.specs.source_front.specs.declared.parse.Parse.{Parse}
+use Rattle.check_phases.specs.payloads.specs.declared.payload.Payload.{Payload}
+use Rattle.check_phases.specs.payloads.specs.declared.payload.Payload.TheVariants as payload
+use Rattle.check_phases.specs.payloads.specs.Entities.{parse_entity, deps_entity, signature_entity, errors_entity}
 use Rattle.check_phases.proofs.Lists.{one_value, place_at}
 use Rattle.check_phases.specs.declared.phases.Made.{Made}
 use Rattle.recheck_staging.specs.declared.staging.Anew.{Anew}

@@ -7,10 +7,10 @@ use Rattle.heap_core.specs.Meaning.{names}
 use Rattle.heap_core.specs.Transactions.{numbers_of}
 use Rattle.check_values.specs.declared.root.RootRow.{RootRow}
 use Rattle.check_values.specs.declared.root.Root.{Root}
-use Rattle.payloads.specs.Entities.{parse_entity, deps_entity, signature_entity, errors_entity}
-use Rattle.payloads.specs.State.{HaveOwnRows}
-use Rattle.payloads.specs.declared.payload.Payload.{Payload}
-use Rattle.payloads.specs.declared.payload.Payload.TheVariants as payload
+use Rattle.check_phases.specs.payloads.specs.Entities.{parse_entity, deps_entity, signature_entity, errors_entity}
+use Rattle.check_phases.specs.payloads.specs.State.{HaveOwnRows}
+use Rattle.check_phases.specs.payloads.specs.declared.payload.Payload.{Payload}
+use Rattle.check_phases.specs.payloads.specs.declared.payload.Payload.TheVariants as payload
 use Rattle.check_phases.specs.declared.phases.Made.{Made}
 use Rattle.check_phases.proofs.Lists.{one_value}
 use Rattle.edited_root.specs.From.{rows_in, freed_from}

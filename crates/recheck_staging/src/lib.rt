@@ -4,4 +4,6 @@
 
 mod staging;
 
+pub use check_phases;
+pub use result_parts;
 pub use staging::{Anew, stage_anew};

@@ -14,24 +14,24 @@ use Rattle.check_values.specs.declared.root.Root.{Root}
 use Rattle.check_values.specs.declared.signatures.Deps.{Deps}
 use Rattle.type_values.specs.declared.types.FlowType.{FlowType}
 use Rattle.js_lexer.specs.Answers.{source_limit}
-use Rattle.source_front.specs.Front.{Says, IsParse}
-use Rattle.source_front.specs.declared.parse.Parse.{Parse}
-use Rattle.source_front.specs.declared.parse.ParseTree.{ParseTree}
-use Rattle.source_front.specs.declared.parse.ParseTree.TheVariants.{Tree, Broken}
+use Rattle.place_analyst.specs.source_front.specs.Front.{Says, IsParse}
+use Rattle.place_analyst.specs.source_front.specs.declared.parse.Parse.{Parse}
+use Rattle.place_analyst.specs.source_front.specs.declared.parse.ParseTree.{ParseTree}
+use Rattle.place_analyst.specs.source_front.specs.declared.parse.ParseTree.TheVariants.{Tree, Broken}
 use Rattle.merged_signatures.specs.Merged.{merged}
 use Rattle.errors_by_reach.specs.Law.{Agree, AreErrors}
 use Rattle.errors_by_reach.specs.Seen.{Sigs}
 use Rattle.reach_law.specs.Law.{JobsAreRight}
 use Rattle.byte_places.specs.Places.{StandsAt}
-use Rattle.check_job.specs.Jobs.{source_in, source_of, HasFaults, IsFronted, AreErrorsOf}
-use Rattle.check_job.specs.declared.job.CheckJob.{CheckJob}
-use Rattle.check_job.proofs.Fronted.{fronted_errors}
-use Rattle.program_check.specs.Full.{Results, beside, view_in, sigs_in, deps_in, IsFull}
-use Rattle.program_check.specs.Law.{OneFull}
-use Rattle.payloads.specs.Entities.{parse_entity}
-use Rattle.payloads.specs.State.{program_of, payload_at, StandsIn}
-use Rattle.payloads.specs.declared.payload.Payload.{Payload}
-use Rattle.payloads.specs.declared.payload.Payload.TheVariants as payload
+use Rattle.place_analyst.specs.check_job.specs.Jobs.{source_in, source_of, HasFaults, IsFronted, AreErrorsOf}
+use Rattle.place_analyst.specs.check_job.specs.declared.job.CheckJob.{CheckJob}
+use Rattle.place_analyst.specs.check_job.proofs.Fronted.{fronted_errors}
+use Rattle.heap_answers.specs.program_check.specs.Full.{Results, beside, view_in, sigs_in, deps_in, IsFull}
+use Rattle.heap_answers.specs.program_check.specs.Law.{OneFull}
+use Rattle.heap_answers.specs.payloads.specs.Entities.{parse_entity}
+use Rattle.heap_answers.specs.payloads.specs.State.{program_of, payload_at, StandsIn}
+use Rattle.heap_answers.specs.payloads.specs.declared.payload.Payload.{Payload}
+use Rattle.heap_answers.specs.payloads.specs.declared.payload.Payload.TheVariants as payload
 use Rattle.shown_types.specs.Shown.{IsTypeIn, IsShown}
 use Rattle.asks.specs.Places.{errors_at}
 use Rattle.asks.specs.declared.answer.Located.{Located}
@@ -39,7 +39,7 @@ use Rattle.asks.specs.declared.answer.Answer.TheVariants.{Faults}
 use Rattle.asks.specs.declared.answer.AskFault.TheVariants.{UnknownPath, NoExpression}
 use Rattle.asks.specs.declared.ask.Ask.{Ask}
 use Rattle.asks.specs.declared.ask.Ask.TheVariants as ask
-use Rattle.answers_law.specs.Answers.{Answered, OfModule, AnswersBy, AreInstead, IsAnswer, shown}
+use Rattle.heap_answers.specs.answers_law.specs.Answers.{Answered, OfModule, AnswersBy, AreInstead, IsAnswer, shown}
 use Rattle.dep_lists.specs.Looking.{IsPlaceOf}
 use Rattle.heap_answers.specs.States.{program_in, HasPlace, sigs_by}
 use Rattle.heap_answers.proofs.Standing.{IsLawful, HasRoot, program_there, placed, AllHold, each_holds}

@@ -4,14 +4,14 @@ use Rattle.std.specs.List.{AllByRecursion}
 use Rattle.check_values.specs.Rows.{Bytes, row_at}
 use Rattle.check_values.specs.declared.root.RootRow.{RootRow}
 use Rattle.check_values.specs.declared.signatures.Deps.{Deps}
-use Rattle.source_front.specs.declared.parse.Parse.{Parse}
-use Rattle.source_front.specs.Front.{IsParse}
+use Rattle.place_analyst.specs.source_front.specs.declared.parse.Parse.{Parse}
+use Rattle.place_analyst.specs.source_front.specs.Front.{IsParse}
 use Rattle.errors_by_reach.specs.Law.{Agree}
-use Rattle.check_job.specs.declared.job.CheckJob.{CheckJob}
-use Rattle.program_check.specs.Full.{deps_in}
+use Rattle.place_analyst.specs.check_job.specs.declared.job.CheckJob.{CheckJob}
+use Rattle.heap_answers.specs.program_check.specs.Full.{deps_in}
 use Rattle.check_values.specs.Roots.{paths_of_rows}
 use Rattle.heap_answers.specs.States.{HasPlace, sigs_by}
-use Rattle.payloads.specs.declared.payload.Payload.{Payload}
+use Rattle.heap_answers.specs.payloads.specs.declared.payload.Payload.{Payload}
 use Rattle.request_core.specs.States.{parse_at, deps_at, IsRead}
 use Rattle.request_core.specs.CheckedBy.{IsJobOf, IsJobInstead}
 

@@ -11,9 +11,9 @@ use Rattle.check_values.specs.Rows.{is_among}
 use Rattle.check_values.specs.Roots.{paths_of_rows}
 use Rattle.check_values.specs.declared.root.RootRow.{RootRow}
 use Rattle.check_values.specs.declared.signatures.Sig.{Sig}
-use Rattle.payloads.specs.declared.payload.Payload.{Payload}
+use Rattle.heap_answers.specs.payloads.specs.declared.payload.Payload.{Payload}
 use Rattle.dep_lists.specs.Looking.{IsPlaceOf}
-use Rattle.payloads.specs.Entities.{signature_entity}
+use Rattle.heap_answers.specs.payloads.specs.Entities.{signature_entity}
 use Rattle.heap_answers.specs.States.{signature_of, signature_at, module_at, sigs_by}
 use Rattle.heap_answers.proofs.Found.{IsFound, found}
 

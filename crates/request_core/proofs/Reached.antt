@@ -16,7 +16,7 @@ use Rattle.merged_signatures.specs.Chains.{found_in}
 use Rattle.merged_signatures.specs.Reach.{by_specifier, by_signature, paths_named}
 use Rattle.errors_by_reach.specs.Law.{Agree}
 use Rattle.errors_by_reach.specs.Seen.{Sigs}
-use Rattle.payloads.specs.declared.payload.Payload.{Payload}
+use Rattle.heap_answers.specs.payloads.specs.declared.payload.Payload.{Payload}
 use Rattle.heap_answers.specs.States.{sigs_by}
 use Rattle.request_core.specs.Along.{IsMet, AreMet, Knows, Grows, IsClosedTo, IsClosed, AreNamedAt}
 

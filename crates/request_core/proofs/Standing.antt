@@ -12,16 +12,16 @@ use Rattle.check_values.specs.Roots.{paths_of_rows}
 use Rattle.check_values.specs.declared.root.RootRow.{RootRow}
 use Rattle.check_values.specs.declared.root.Root.{Root}
 use Rattle.check_values.specs.declared.signatures.Deps.{Deps}
-use Rattle.source_front.specs.declared.parse.Parse.{Parse}
+use Rattle.place_analyst.specs.source_front.specs.declared.parse.Parse.{Parse}
 use Rattle.merged_signatures.specs.Chains.{View}
 use Rattle.errors_by_reach.specs.Seen.{Sigs}
-use Rattle.program_check.specs.Full.{Results, sigs_in, AreResultsOf, AreResults, IsFull}
-use Rattle.program_check.specs.Law.{OneFull}
-use Rattle.payloads.specs.Entities.{parse_entity, deps_entity, errors_entity}
-use Rattle.payloads.specs.State.{program_of, payload_at, payload_in, StandsIn}
-use Rattle.payloads.proofs.Places.{stand_here}
-use Rattle.payloads.specs.declared.payload.Payload.{Payload}
-use Rattle.payloads.specs.declared.payload.Payload.TheVariants as payload
+use Rattle.heap_answers.specs.program_check.specs.Full.{Results, sigs_in, AreResultsOf, AreResults, IsFull}
+use Rattle.heap_answers.specs.program_check.specs.Law.{OneFull}
+use Rattle.heap_answers.specs.payloads.specs.Entities.{parse_entity, deps_entity, errors_entity}
+use Rattle.heap_answers.specs.payloads.specs.State.{program_of, payload_at, payload_in, StandsIn}
+use Rattle.heap_answers.specs.payloads.proofs.Places.{stand_here}
+use Rattle.heap_answers.specs.payloads.specs.declared.payload.Payload.{Payload}
+use Rattle.heap_answers.specs.payloads.specs.declared.payload.Payload.TheVariants as payload
 use Rattle.heap_answers.specs.States.{signature_of, signature_at, module_at, sigs_by, HasPlace}
 use Rattle.heap_answers.proofs.Standing.{IsLawful, HasRoot, placed, all_at, Holds, AllHold, each_holds}
 use Rattle.request_core.specs.States.{parse_of, deps_of, parse_at, deps_at, IsRead}

@@ -4,12 +4,12 @@ use Rattle.check_values.specs.Rows.{Bytes, row_at}
 use Rattle.check_values.specs.Roots.{paths_of_rows}
 use Rattle.check_values.specs.declared.faults.Fault.{Fault}
 use Rattle.check_values.specs.declared.root.RootRow.{RootRow}
-use Rattle.check_job.specs.Jobs.{AreErrorsOf}
-use Rattle.check_job.specs.declared.job.CheckJob.{CheckJob}
+use Rattle.place_analyst.specs.check_job.specs.Jobs.{AreErrorsOf}
+use Rattle.place_analyst.specs.check_job.specs.declared.job.CheckJob.{CheckJob}
 use Rattle.errors_by_reach.specs.Law.{Agree}
-use Rattle.payloads.specs.declared.payload.Payload.{Payload}
-use Rattle.program_check.specs.Full.{deps_in}
-use Rattle.source_front.specs.Front.{IsParse}
+use Rattle.heap_answers.specs.payloads.specs.declared.payload.Payload.{Payload}
+use Rattle.heap_answers.specs.program_check.specs.Full.{deps_in}
+use Rattle.place_analyst.specs.source_front.specs.Front.{IsParse}
 use Rattle.heap_answers.specs.States.{sigs_by}
 use Rattle.request_core.specs.States.{parse_at, deps_at}
 

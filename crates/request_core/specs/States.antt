@@ -3,10 +3,10 @@ use Rattle.std.specs.Prelude.{◌≡◌, true, ℕ, List, Option, Some, None}
 use Rattle.std.specs.Option.{is_some}
 use Rattle.check_values.specs.declared.root.RootRow.{RootRow}
 use Rattle.check_values.specs.declared.signatures.Deps.{Deps}
-use Rattle.source_front.specs.declared.parse.Parse.{Parse}
-use Rattle.payloads.specs.Entities.{parse_entity, deps_entity}
-use Rattle.payloads.specs.declared.payload.Payload.{Payload}
-use Rattle.payloads.specs.declared.payload.Payload.TheVariants as payload
+use Rattle.place_analyst.specs.source_front.specs.declared.parse.Parse.{Parse}
+use Rattle.heap_answers.specs.payloads.specs.Entities.{parse_entity, deps_entity}
+use Rattle.heap_answers.specs.payloads.specs.declared.payload.Payload.{Payload}
+use Rattle.heap_answers.specs.payloads.specs.declared.payload.Payload.TheVariants as payload
 use Rattle.heap_answers.specs.States.{there}
 
 abbrev pub parse_of : Payload → Option Parse

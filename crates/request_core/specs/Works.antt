@@ -4,7 +4,7 @@ use Rattle.analyst.specs.Work.{Work, work_of, done, IsWithin}
 use Rattle.asks.specs.declared.answer.AskFault.TheVariants.{UnknownPath, NoExpression, NoMemory}
 use Rattle.asks.specs.declared.ask.Ask.{Ask}
 use Rattle.asks.specs.declared.ask.Ask.TheVariants.{Status, Errors, CheckContents, TypeAtPos, FindModule, Ls, Importers, Signature}
-use Rattle.answers_law.specs.Answers.{Answered}
+use Rattle.heap_answers.specs.answers_law.specs.Answers.{Answered}
 
 -- a text is read and checked
 abbrev pub checking_text : Work

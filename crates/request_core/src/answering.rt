@@ -7,9 +7,9 @@ use crate::laws::numbered;
 use crate::places::type_at_pos;
 use analyst::Analyst;
 use asks::{Answer, Ask, AskFault};
+use heap_answers::payloads::Payload;
 use heap_answers::{errors, find_module, importers, ls, signature, status};
 use heap_core::HeapReader;
-use payloads::Payload;
 use place_analyst::PlaceAnalyst;
 use std::alloc::Global;
 

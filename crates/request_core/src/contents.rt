@@ -18,9 +18,9 @@ use check_values::{Errs, Root};
 use error_places::locate_errors;
 use flow_base::{Path, Text};
 use flow_values::NoMemory;
+use heap_answers::payloads::Payload;
+use heap_answers::program_check::one_full;
 use heap_core::HeapReader;
-use payloads::Payload;
-use program_check::one_full;
 use reach_law::cut_is_right;
 use std::alloc::Global;
 

@@ -3,22 +3,22 @@ ghost use Rattle.std.specs.Prelude.{◌≡◌, IfOk, Some};
 ghost use Rattle.std.specs.List.{AllByRecursion};
 ghost use Rattle.flow_base.specs.Program.{IsRising};
 ghost use Rattle.check_values.specs.Roots.{paths_of, paths_of_rows};
-ghost use Rattle.program_check.specs.Full.{deps_in};
-ghost use Rattle.source_front.specs.Front.{IsParse};
+ghost use Rattle.heap_answers.specs.program_check.specs.Full.{deps_in};
+ghost use Rattle.place_analyst.specs.source_front.specs.Front.{IsParse};
 ghost use Rattle.heap_answers.specs.States.{HasPlace};
 ghost use Rattle.request_core.specs.States.{IsRead, parse_at, deps_at};
 ghost use Rattle.request_core.specs.CheckedBy.{IsJobOf, IsJobInstead};
 
 use crate::reaching::reached_signatures;
 use crate::rows::{deps_in, parse_in};
-use check_job::CheckJob;
 use check_values::{Deps, Root, RootRow};
 use flow_base::{Path, Text};
 use flow_values::{List, NoMemory, Shared};
+use heap_answers::payloads::{Payload, deps_entity, parse_entity};
 use heap_core::HeapReader;
 use module_deps::deps_of;
-use payloads::{Payload, deps_entity, parse_entity};
-use source_front::{Parse, ParseTree};
+use place_analyst::check_job::CheckJob;
+use place_analyst::source_front::{Parse, ParseTree};
 use std::alloc::Global;
 
 // What a module's source says by itself.

@@ -3,8 +3,8 @@ ghost use Rattle.std.specs.Prelude.{◌<◌, ◌^◌, length};
 ghost use Rattle.analyst.specs.Work.{IsCounted};
 
 use analyst::Analyst;
+use heap_answers::payloads::Payload;
 use heap_core::HeapReader;
-use payloads::Payload;
 
 /// The counts of an analyst stay within their type.
 pub(crate) fn counted<A: Analyst>(analyst: &A)

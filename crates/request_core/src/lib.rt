@@ -10,4 +10,7 @@ mod places;
 mod reaching;
 mod rows;
 
+pub use analyst;
 pub use answering::answer;
+pub use heap_answers::{answers_law, payloads};
+pub use place_analyst;

@@ -9,10 +9,10 @@ use crate::rows::{place_in, root_of};
 use asks::{Answer, AskFault};
 use byte_places::byte_place;
 use flow_base::Path;
+use heap_answers::payloads::Payload;
+use heap_answers::program_check::one_full;
 use heap_core::HeapReader;
-use payloads::Payload;
 use place_analyst::{PlaceAnalyst, types_are_right};
-use program_check::one_full;
 use std::alloc::Global;
 
 /// The type of the innermost expression that is read and covers the character at a line and a column of a module, both from 1.

@@ -12,9 +12,9 @@ use crate::rows::{place_in, signature_in};
 use check_values::{DepRow, Deps, RootRow, Sig};
 use flow_base::Path;
 use flow_values::{List, NoMemory, Shared};
+use heap_answers::payloads::{Payload, signature_entity};
 use heap_core::HeapReader;
 use named_modules::add_named;
-use payloads::{Payload, signature_entity};
 use std::alloc::Global;
 use std::collections::BTreeSet;
 

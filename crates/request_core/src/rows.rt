@@ -5,14 +5,14 @@ ghost use Rattle.flow_base.specs.Program.{IsRising};
 ghost use Rattle.check_values.specs.Roots.{paths_of_rows};
 ghost use Rattle.dep_lists.specs.Looking.{IsPlaceOf};
 ghost use Rattle.heap_answers.specs.States.{is_root, signature_of};
-ghost use Rattle.payloads.specs.declared.payload.Payload.TheVariants as the_payload;
+ghost use Rattle.heap_answers.specs.payloads.specs.declared.payload.Payload.TheVariants as the_payload;
 ghost use Rattle.request_core.specs.States.{parse_of, deps_of};
 
 use check_values::{Deps, Root, RootRow, Sig};
 use flow_base::Path;
 use flow_values::{NoMemory, Shared};
-use payloads::Payload;
-use source_front::Parse;
+use heap_answers::payloads::Payload;
+use place_analyst::source_front::Parse;
 
 /// The root that a payload is.
 pub(crate) fn root_of(payload: &Payload) -> &Root

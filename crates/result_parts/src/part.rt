@@ -6,8 +6,8 @@ ghost use Rattle.result_parts.specs.Kinds.{is_parse, is_deps, is_sig, is_errs, p
 
 use check_values::{Deps, Errs, Sig};
 use flow_values::{NoMemory, Shared};
+use payloads::source_front::Parse;
 use payloads::{Payload, deps_entity, errors_entity, parse_entity, signature_entity};
-use source_front::Parse;
 
 /// One of the four kinds of results that a module has.
 pub trait Part: Drop {

@@ -10,9 +10,9 @@ use Rattle.payloads.specs.declared.payload.Payload.TheVariants as payload
 use Rattle.pending_edits.specs.Pending.{Pending}
 use Rattle.asks.specs.declared.ask.Ask.{Ask}
 use Rattle.asks.specs.declared.answer.AskFault.TheVariants as ask_fault
-use Rattle.answers_law.specs.Answers.{Answered, IsAnswer}
-use Rattle.heap_answers.specs.States.{Answers}
-use Rattle.heap_answers.specs.States as answers_of
+use Rattle.beside.specs.answers_law.specs.Answers.{Answered, IsAnswer}
+use Rattle.beside.specs.heap_answers.specs.States.{Answers}
+use Rattle.beside.specs.heap_answers.specs.States as answers_of
 use Rattle.answer_print.specs.Lines.{answer_lines}
 use Rattle.beside.specs.Uses.{LaneUse, lanes_after}
 use Rattle.beside.specs.Told.{Told}

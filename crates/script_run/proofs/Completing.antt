@@ -5,10 +5,10 @@ use Rattle.std.proofs.lemmas.Bool.{cases_lt}
 use Rattle.std.proofs.lemmas.List.{take-append-le}
 use Rattle.flow_base.specs.Program.{Bytes, Program}
 use Rattle.flow_base.specs.Outside.{WhereTold, appended, HoldsFront}
-use Rattle.full_law.specs.Law.{EachFull}
-use Rattle.affected_sizes.specs.Law.{EachHasSizes}
-use Rattle.answers_law.specs.Answers.{IsAnswer}
-use Rattle.answers_law.specs.Law.{EachHasAnswer}
+use Rattle.beside.specs.full_law.specs.Law.{EachFull}
+use Rattle.beside.specs.affected_sizes.specs.Law.{EachHasSizes}
+use Rattle.beside.specs.answers_law.specs.Answers.{IsAnswer}
+use Rattle.beside.specs.answers_law.specs.Law.{EachHasAnswer}
 use Rattle.asks.specs.declared.ask.Ask.{Ask}
 use Rattle.beside.specs.Uses.{AnsweredUpTo}
 use Rattle.beside.proofs.Uses.{same_falls, new_up_to, up_to_later, still_up_to}

@@ -4,7 +4,7 @@ use Rattle.std.specs.List.{AllByRecursion}
 use Rattle.std.proofs.lemmas.List.{append-nil, length-map, length-replicate}
 use Rattle.flow_base.specs.Program.{Bytes, Program}
 use Rattle.asks.specs.declared.ask.Ask.{Ask}
-use Rattle.answers_law.specs.Answers.{Answered}
+use Rattle.beside.specs.answers_law.specs.Answers.{Answered}
 use Rattle.beside.specs.Uses.{LaneUse, new_lane, lanes_after, AnsweredAtMost}
 use Rattle.beside.proofs.Uses.{lanes_none, lanes_long, none_falls, still_at_most, at_most_more}
 use Rattle.script_line.specs.declared.line.Line.{Line}

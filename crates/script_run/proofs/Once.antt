@@ -7,8 +7,8 @@ use Rattle.std.proofs.lemmas.List.{same_from_push}
 use Rattle.std.proofs.lemmas.Option.{none-some, same_Some, slice_get_past}
 use Rattle.std.proofs.Math.Seq.{take_at, drop_at}
 use Rattle.flow_base.specs.Program.{Bytes, Program, paths_of}
-use Rattle.affected_sizes.specs.Law.{EachHasSizes, HaveOneSize}
-use Rattle.affected_sizes.specs.Sizes.{AreSizes}
+use Rattle.beside.specs.affected_sizes.specs.Law.{EachHasSizes, HaveOneSize}
+use Rattle.beside.specs.affected_sizes.specs.Sizes.{AreSizes}
 use Rattle.check_values.specs.Rows.{Rows}
 use Rattle.pending_edits.specs.Pending.{MayBecome, edited}
 use Rattle.pending_edits.specs.Pending as pending
@@ -17,8 +17,8 @@ use Rattle.pending_edits.specs.declared.edit.Edit.{Edit}
 use Rattle.pending_edits.specs.declared.edit.Edit.TheVariants.{Put, Touch, Delete}
 use Rattle.program_check.specs.Law.{OneFull}
 use Rattle.asks.specs.declared.ask.Ask.{Ask}
-use Rattle.answers_law.specs.Answers.{IsAnswer}
-use Rattle.answers_law.specs.Law.{OneAnswer, EachHasAnswer}
+use Rattle.beside.specs.answers_law.specs.Answers.{IsAnswer}
+use Rattle.beside.specs.answers_law.specs.Law.{OneAnswer, EachHasAnswer}
 use Rattle.beside.specs.Uses.{LaneUse, lanes_after}
 use Rattle.answer_print.specs.Lines.{answer_lines}
 use Rattle.script_line.specs.declared.line.Line.{Line}

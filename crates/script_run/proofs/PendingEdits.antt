@@ -27,7 +27,7 @@ use Rattle.pending_edits.specs.declared.edit.Edit.{Edit}
 use Rattle.pending_edits.specs.declared.edit.Edit.TheVariants.{Touch, Delete}
 use Rattle.pending_edits.specs.declared.edit.EditFault.{EditFault}
 use Rattle.pending_edits.specs.declared.edit.EditFault.TheVariants.{TooManyModules, NoMemory}
-use Rattle.edited_root.proofs.Rooted.{few_modules}
+use Rattle.beside.specs.edited_root.proofs.Rooted.{few_modules}
 use Rattle.flow_base.specs.Seen.{FolderSeen}
 use Rattle.stops.specs.Asked.{stop_seen, yes_answers_by}
 use Rattle.analyst.specs.Work.{Work}

@@ -43,8 +43,8 @@ use Rattle.beside.specs.Recheck.{Commits, RecheckState, Rechecked, CountsReads}
 use Rattle.beside.specs.Recheck as rechecking
 use Rattle.beside.specs.Outcome.{Outcome}
 use Rattle.beside.specs.Outcome.TheVariants as outcome
-use Rattle.affected_sizes.specs.Polls.{AreBatches}
-use Rattle.affected_sizes.specs.Sizes.{AreSizes}
+use Rattle.beside.specs.affected_sizes.specs.Polls.{AreBatches}
+use Rattle.beside.specs.affected_sizes.specs.Sizes.{AreSizes}
 use Rattle.script_print.specs.Printed.{done_line, cancelled_line, fault_line, refused_line}
 use Rattle.script_line.specs.declared.line.Line.{Line}
 use Rattle.script_line.specs.declared.line.Line.TheVariants as line

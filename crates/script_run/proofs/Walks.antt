@@ -8,8 +8,8 @@ use Rattle.flow_base.specs.Outside.{WhereTold, appended, HoldsFront}
 use Rattle.flow_base.specs.Seen.{FolderSeen, SourceSeen, SinkSeen, Outside}
 use Rattle.heap_core.specs.Meaning.{Meaning}
 use Rattle.payloads.specs.declared.payload.Payload.{Payload}
-use Rattle.affected_sizes.specs.Law.{EachHasSizes}
-use Rattle.answers_law.specs.Law.{EachHasAnswer}
+use Rattle.beside.specs.affected_sizes.specs.Law.{EachHasSizes}
+use Rattle.beside.specs.answers_law.specs.Law.{EachHasAnswer}
 use Rattle.beside.specs.Uses.{LaneUse, MayAnswer, AnsweredAtMost}
 use Rattle.beside.proofs.Uses.{new_at_most, at_most_more, may_answer, may_answer_fewer}
 use Rattle.script_line.specs.declared.line.Line.{Line}

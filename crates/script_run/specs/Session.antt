@@ -34,9 +34,9 @@ use Rattle.stops.specs.Asked.{StopSeen, yes_answers_by}
 use Rattle.analyst.specs.Work.{Work}
 use Rattle.asks.specs.declared.ask.Ask.{Ask}
 use Rattle.asks.specs.declared.answer.AskFault.TheVariants as ask_fault
-use Rattle.heap_answers.specs.States.{Answers}
+use Rattle.beside.specs.heap_answers.specs.States.{Answers}
 use Rattle.beside.specs.Told.{Told}
-use Rattle.answers_law.specs.Answers.{Answered, IsAnswer}
+use Rattle.beside.specs.answers_law.specs.Answers.{Answered, IsAnswer}
 use Rattle.answer_print.specs.Lines.{answer_lines}
 
 -- the modules of a root

@@ -6,9 +6,9 @@ use Rattle.flow_base.specs.Path.{IsNormalPath}
 use Rattle.flow_base.specs.Program.{Bytes, Program, paths_of, IsRising}
 use Rattle.flow_base.specs.Outside.{WhereTold}
 use Rattle.check_values.specs.Rows.{Rows}
-use Rattle.affected_sizes.specs.Sizes.{AreSizes}
+use Rattle.beside.specs.affected_sizes.specs.Sizes.{AreSizes}
 use Rattle.asks.specs.declared.ask.Ask.{Ask}
-use Rattle.answers_law.specs.Answers.{Answered, IsAnswer}
+use Rattle.beside.specs.answers_law.specs.Answers.{Answered, IsAnswer}
 use Rattle.answer_print.specs.Lines.{answer_lines}
 use Rattle.beside.specs.Uses.{LaneUse, new_lane, lanes_after, NoneFalls}
 use Rattle.pending_edits.specs.Pending as pending

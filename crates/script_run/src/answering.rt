@@ -5,9 +5,9 @@ ghost use Rattle.flow_base.specs.Program.{Bytes};
 ghost use Rattle.script_run.specs.Session.{IsToldOfSome, PrintsTold, PrintAllTold};
 
 use answer_print::print_answer;
-use answers_law::can_be_printed;
 use asks::{Answer, Ask, AskFault};
 use beside::Told;
+use beside::answers_law::can_be_printed;
 use flow_base::{NoMemory, Text};
 use std::alloc::Global;
 

@@ -11,8 +11,8 @@ pub fn a_front_goes_on()
     ensures { (most lanes : ℕ) (told : Option Program) (listed : List Bytes) (script : Option (List Bytes)) (faults : ℕ) (printed : Bytes) →
         IsRunSoFar most lanes told listed script faults printed → GoesOn most lanes told listed script faults printed }
 {
-    affected_sizes::each_edit_has_sizes();
-    answers_law::each_has_answer();
+    beside::affected_sizes::each_edit_has_sizes();
+    beside::answers_law::each_has_answer();
 }
 
 /// Where the folder and the script tell their content, there is a run without a read fault. Any two
@@ -26,9 +26,9 @@ pub fn one_quiet_run()
     ensures one { (most lanes : ℕ) (folder : Program) (listed script : List Bytes) (p q : Bytes) (h k : WalkEnd) (a b : Program) (v w : ℕ) (x y : List LaneUse) →
         AsksNothingBeside script → IsQuietRun most lanes folder listed script p h a v x → IsQuietRun most lanes folder listed script q k b w y → (p ≡ q) × (x ≡ y) }
 {
-    affected_sizes::each_edit_has_sizes();
-    affected_sizes::one_size_each();
+    beside::affected_sizes::each_edit_has_sizes();
+    beside::affected_sizes::one_size_each();
     program_check::one_full();
-    answers_law::each_has_answer();
-    answers_law::one_answer();
+    beside::answers_law::each_has_answer();
+    beside::answers_law::one_answer();
 }

@@ -13,6 +13,8 @@ mod sinks;
 mod waiting;
 mod walk;
 
+pub use beside;
+pub use beside::affected_sizes;
 pub use ending::{Ended, RunFault, WalkEnd};
 pub use laws::{a_front_goes_on, one_quiet_run};
 pub use opening::open_server;

@@ -18,6 +18,7 @@ ghost use Rattle.script_run.specs.Session.{StandOnCommitted, AreFew, CountsNoMor
 use crate::committed::Committed;
 use analyst::Analyst;
 use asks::Ask;
+use beside::place_analyst::PlaceAnalyst;
 use beside::{Outcome, Server, Told, Writer};
 use check_values::Root;
 use flow_base::{Folder, Turnstile};
@@ -25,7 +26,6 @@ use flow_values::{List, NoMemory, Path, Shared, Text};
 use heap_core::HeapReader;
 use payloads::Payload;
 use pending_edits::{EditFault, Edits};
-use place_analyst::PlaceAnalyst;
 use std::alloc::Global;
 use std::sync::Wait;
 use std::thread::Threads;

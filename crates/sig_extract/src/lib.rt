@@ -8,3 +8,4 @@ mod scope;
 mod telling;
 
 pub use extracting::{broken_signature, extract};
+pub use js_tree;

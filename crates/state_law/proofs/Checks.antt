@@ -10,18 +10,18 @@ use Rattle.check_values.specs.Rows.{row_at}
 use Rattle.check_values.specs.declared.root.RootRow.{RootRow}
 use Rattle.check_values.specs.declared.root.Root.{Root}
 use Rattle.check_values.specs.declared.faults.Fault.{Fault}
-use Rattle.source_front.specs.declared.parse.ParseTree.{ParseTree}
-use Rattle.source_front.specs.declared.parse.ParseTree.TheVariants.{Tree, Broken}
-use Rattle.source_front.specs.declared.parse.Parse.{Parse}
-use Rattle.source_front.specs.Front.{IsParse}
-use Rattle.source_front.specs.Law.{seen, OneParse}
+use Rattle.payloads.specs.source_front.specs.declared.parse.ParseTree.{ParseTree}
+use Rattle.payloads.specs.source_front.specs.declared.parse.ParseTree.TheVariants.{Tree, Broken}
+use Rattle.payloads.specs.source_front.specs.declared.parse.Parse.{Parse}
+use Rattle.payloads.specs.source_front.specs.Front.{IsParse}
+use Rattle.payloads.specs.source_front.specs.Law.{seen, OneParse}
 use Rattle.module_resolution.specs.Dependencies.{dependencies_of}
 use Rattle.merged_signatures.specs.Chains.{Known, View}
 use Rattle.errors_by_reach.specs.Seen.{Sigs}
 use Rattle.errors_by_reach.specs.Law.{Source, HasErrors}
-use Rattle.check_job.specs.Jobs.{source_in}
-use Rattle.program_check.specs.Full.{Results, beside, known_of, view_in, sigs_in, module_in, AreResultsOf, AreResults, IsFull}
-use Rattle.program_check.specs.Law.{AllAlike, OneFull}
+use Rattle.payloads.specs.check_job.specs.Jobs.{source_in}
+use Rattle.payloads.specs.program_check.specs.Full.{Results, beside, known_of, view_in, sigs_in, module_in, AreResultsOf, AreResults, IsFull}
+use Rattle.payloads.specs.program_check.specs.Law.{AllAlike, OneFull}
 use Rattle.payloads.specs.Entities.{parse_entity, deps_entity, signature_entity, errors_entity}
 use Rattle.payloads.specs.State.{program_of, IsRoot, payload_in, payload_at, StandsIn}
 use Rattle.payloads.specs.declared.payload.Payload.{Payload}

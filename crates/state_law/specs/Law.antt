@@ -2,7 +2,7 @@
 use Rattle.std.specs.Prelude.{◌≡◌, ℕ, List, slice_get, Some}
 use Rattle.heap_core.specs.Meaning.{AllFit}
 use Rattle.check_values.specs.declared.root.Root.{Root}
-use Rattle.program_check.specs.Full.{Results, IsFull}
+use Rattle.payloads.specs.program_check.specs.Full.{Results, IsFull}
 use Rattle.payloads.specs.State.{program_of, payload_at, fits}
 use Rattle.payloads.specs.declared.payload.Payload.{Payload}
 use Rattle.payloads.specs.declared.payload.Payload.TheVariants as payload

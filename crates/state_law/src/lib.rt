@@ -5,10 +5,12 @@
 
 ghost use Rattle.state_law.specs.Law.{EachStateHasACheck};
 
+pub use payloads;
+
 /// Where all payloads of a state fit its root, one full check gives all of them.
 pub fn each_state_has_a_check()
     ensures { EachStateHasACheck }
 {
-    source_front::one_parse();
-    program_check::one_full();
+    payloads::source_front::one_parse();
+    payloads::program_check::one_full();
 }

@@ -1,0 +1,2 @@
+pub use Rattle.check_job
+pub use Rattle.check_job.specs.source_front

@@ -4,4 +4,6 @@
 
 mod values;
 
+pub use check_job;
+pub use check_job::source_front;
 pub use values::{job_crosses, parse_crosses, shared_parse_crosses};

@@ -1,7 +1,7 @@
 // What crosses threads.
 use check_job::CheckJob;
+use check_job::source_front::Parse;
 use flow_values::Shared;
-use source_front::Parse;
 
 fn crosses<T: Send + Sync>(_: &T) {}
 

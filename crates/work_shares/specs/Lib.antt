@@ -1,1 +1,2 @@
+pub use Rattle.analyst
 pub mod Shares

@@ -3,4 +3,5 @@
 
 mod laws;
 
+pub use analyst;
 pub use laws::work_adds_up;

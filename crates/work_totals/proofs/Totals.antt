@@ -2,7 +2,7 @@
 use Rattle.std.proofs.Common.{◌≡◌, ℕ, suc, ◌+◌, ◌-◌, ◌^◌, ◌<◌, ◌≤◌, min, List, [], ◌∷◌, length, map, sum_by, refl, sym, ap, ◌∙◌, arith, Result, Ok, Err}
 use Rattle.std.proofs.lemmas.List.Sums.{sum_by-cons}
 use Rattle.std.proofs.lemmas.List.{length-map}
-use Rattle.analyst.specs.Work.{Work, work_of, no_work, risen, done, RisesWithin, IsWithin, Works, IsCounted}
+use Rattle.work_shares.specs.analyst.specs.Work.{Work, work_of, no_work, risen, done, RisesWithin, IsWithin, Works, IsCounted}
 use Rattle.work_shares.specs.Shares.{both, AreDone, AreWithin, AreWorked}
 use Rattle.work_shares.proofs.Rises.{sums}
 use Rattle.work_shares.proofs.Works.{within_same}

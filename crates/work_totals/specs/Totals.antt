@@ -1,6 +1,6 @@
 -- What several did together.
 use Rattle.std.specs.Prelude.{◌≡◌, ℕ, ◌-◌, ◌^◌, List, length, sum_by, min}
-use Rattle.analyst.specs.Work.{Work, work_of, done, IsWithin, IsCounted}
+use Rattle.work_shares.specs.analyst.specs.Work.{Work, work_of, done, IsWithin, IsCounted}
 use Rattle.work_shares.specs.Shares.{AreDone, AreWithin}
 
 -- a sum of counts that stays at its greatest value

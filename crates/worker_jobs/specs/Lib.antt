@@ -1,1 +1,2 @@
+pub use Rattle.tree_crossing
 pub mod Checking

@@ -1,23 +1,23 @@
 ghost use Rattle.std.specs.Prelude.{◌≡◌, ◌<◌, IfOk, length, map, sum_by};
 ghost use Rattle.std.specs.List.{AllZip};
-ghost use Rattle.source_front.specs.Front.{IsParse};
+ghost use Rattle.tree_crossing.specs.source_front.specs.Front.{IsParse};
 ghost use Rattle.merged_signatures.specs.Job.{job_signatures};
 ghost use Rattle.job_ends.specs.Jobs.{job_view};
-ghost use Rattle.analyst.specs.Work.{merging, fronts_of, checks_of};
-ghost use Rattle.work_shares.specs.Shares.{AreWorked};
+ghost use Rattle.job_crew.specs.analyst.specs.Work.{merging, fronts_of, checks_of};
+ghost use Rattle.job_crew.specs.work_shares.specs.Shares.{AreWorked};
 ghost use Rattle.worker_jobs.specs.Checking.{HasErrors};
 
 use crate::kinds::{Checks, Fronts, Merges};
-use analyst::Analyst;
-use check_job::CheckJob;
 use check_values::{Errs, Sig};
 use flow_values::{List, NoMemory, Text};
+use job_crew::analyst::Analyst;
 use job_crew::run_all;
 use job_ends::MergeJob;
-use source_front::Parse;
 use std::alloc::Global;
 use std::sync::Wait;
 use std::thread::Threads;
+use tree_crossing::check_job::CheckJob;
+use tree_crossing::source_front::Parse;
 
 /// What each of some sources says by itself, in order, by at least one analyst. Each analyst works in a thread of its own, where one can
 /// be had, and the result is the same for any number of them.

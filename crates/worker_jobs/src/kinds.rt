@@ -1,18 +1,18 @@
-use analyst::Analyst;
-use check_job::CheckJob;
 use check_values::{Errs, Sig};
 use flow_values::{List, NoMemory, Text};
+use job_crew::analyst::Analyst;
+use job_crew::job_seats::Kind;
 use job_ends::MergeJob;
-use job_seats::Kind;
-use source_front::Parse;
+use tree_crossing::check_job::CheckJob;
+use tree_crossing::source_front::Parse;
 
 /// The jobs of reading sources.
 pub(crate) struct Fronts;
 
 impl<A: Analyst> Kind<A, Text, Parse> for Fronts {
     ghost use Rattle.std.specs.Prelude.{⊤};
-    ghost use Rattle.source_front.specs.Front.{IsParse};
-    ghost use Rattle.analyst.specs.Work.{fronting};
+    ghost use Rattle.tree_crossing.specs.source_front.specs.Front.{IsParse};
+    ghost use Rattle.job_crew.specs.analyst.specs.Work.{fronting};
 
     ghost ready = { λ text. ⊤ };
 
@@ -36,7 +36,7 @@ impl<A: Analyst> Kind<A, MergeJob, List<Sig>> for Merges {
     ghost use Rattle.std.specs.Prelude.{◌≡◌, ⊤, length};
     ghost use Rattle.merged_signatures.specs.Job.{job_signatures};
     ghost use Rattle.job_ends.specs.Jobs.{job_view};
-    ghost use Rattle.analyst.specs.Work.{merging};
+    ghost use Rattle.job_crew.specs.analyst.specs.Work.{merging};
 
     ghost ready = { λ job. ⊤ };
 
@@ -58,7 +58,7 @@ pub(crate) struct Checks;
 
 impl<A: Analyst> Kind<A, CheckJob, Errs> for Checks {
     ghost use Rattle.std.specs.Prelude.{⊤};
-    ghost use Rattle.analyst.specs.Work.{checking};
+    ghost use Rattle.job_crew.specs.analyst.specs.Work.{checking};
     ghost use Rattle.worker_jobs.specs.Checking.{HasErrors};
 
     ghost ready = { λ job. ⊤ };

@@ -1,5 +1,5 @@
 use Rattle.std.proofs.Common.{ap}
-use Rattle.payloads.specs.declared.payload.Payload.{Payload}
+use Rattle.request_core.specs.payloads.specs.declared.payload.Payload.{Payload}
 use Rattle.entity_heap.specs.declared.board.Visit.{Visit}
 use Rattle.entity_heap.specs.Lanes.{visit_in}
 use Rattle.beside.specs.Beside.{AnswersFrom, WorksAs}

@@ -1,6 +1,6 @@
 use Rattle.std.proofs.Common.{sym, ap, ◌∙◌, arith}
 use Rattle.heap_core.specs.Meaning.{Meaning}
-use Rattle.payloads.specs.declared.payload.Payload.{Payload}
+use Rattle.request_core.specs.payloads.specs.declared.payload.Payload.{Payload}
 use Rattle.entity_heap.specs.Writers.{plan_in, meaning_in}
 use Rattle.lane_asks.specs.Telling.{IsSameLane}
 use Rattle.lane_asks.proofs.Whole.{same_lanes, zip_long}

@@ -1,8 +1,8 @@
 use Rattle.std.proofs.Common.{List, ap, ◌∙◌}
 use Rattle.check_values.specs.declared.root.Root.{Root}
-use Rattle.check_phases.specs.declared.phases.Made.{Made}
-use Rattle.payloads.specs.Entities.{parse_entity, deps_entity, signature_entity, errors_entity}
-use Rattle.result_parts.specs.Kinds.{is_parse, is_deps, is_sig, is_errs}
+use Rattle.recheck_staging.specs.check_phases.specs.declared.phases.Made.{Made}
+use Rattle.state_law.specs.payloads.specs.Entities.{parse_entity, deps_entity, signature_entity, errors_entity}
+use Rattle.recheck_staging.specs.result_parts.specs.Kinds.{is_parse, is_deps, is_sig, is_errs}
 use Rattle.committed_results.proofs.RightKinds.{parse_kinds, deps_kinds, sig_kinds, errs_kinds}
 use Rattle.committed_results.proofs.Whole.{rows_within, kinds_in, all_read, are_made, has_state}
 use Rattle.committed_results.proofs.reading.committed_results.Goals as goal

@@ -1,6 +1,6 @@
 use Rattle.std.proofs.Common.{◌<◌, length, arith}
 use Rattle.check_values.specs.declared.root.RootRow.{RootRow}
-use Rattle.payloads.specs.Entities.{errors_entity}
+use Rattle.state_law.specs.payloads.specs.Entities.{errors_entity}
 use Rattle.committed_results.specs.Held.{IsOfKind}
 use Rattle.committed_results.proofs.Taken.{row_there, held_more}
 use Rattle.committed_results.proofs.reading.parts_of.Goals as goal

@@ -2,7 +2,7 @@ use Rattle.std.proofs.Common.{rules, refl, ap, ◌∙◌, arith, length}
 use Rattle.std.proofs.lemmas.Result.{err_from_is_err_and}
 use Rattle.heap_core.specs.Meaning.{Meaning}
 use Rattle.payloads.specs.declared.payload.Payload.{Payload}
-use Rattle.beside.specs.Server.{use_of}
+use Rattle.script_run.specs.beside.specs.Server.{use_of}
 use Rattle.script_run.specs.declared.ending.RunFault.TheVariants.{SinkFault}
 use Rattle.script_run.specs.Session.{standing_in, program_in}
 use Rattle.script_run.proofs.Walks.{on_err, counts_handed}

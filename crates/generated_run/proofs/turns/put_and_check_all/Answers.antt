@@ -1,5 +1,5 @@
 use Rattle.std.proofs.Common.{rules, refl, sym, ◌∙◌, subst, arith}
-use Rattle.beside.specs.Uses.{MayAnswer}
+use Rattle.script_run.specs.beside.specs.Uses.{MayAnswer}
 use Rattle.script_run.specs.Session.{standing_in}
 use Rattle.script_run.proofs.Walks.{on_err}
 use Rattle.generated_run.proofs.Parts.{stops_between, round_goes, round_stops}

@@ -1,6 +1,6 @@
 use Rattle.std.proofs.Common.{◌≡◌, length}
 use Rattle.std.specs.List.{AllByRecursion}
-use Rattle.analyst.specs.Work.{done}
+use Rattle.job_seats.specs.analyst.specs.Work.{done}
 use Rattle.job_seats.specs.Seats.{IsSeat}
 use Rattle.job_seats.specs.Left.{IsWhole, AllTaken}
 use Rattle.job_crew.specs.Tying.{own_view}

@@ -1,4 +1,4 @@
-use Rattle.work_shares.proofs.Shared.{idle_worked}
+use Rattle.job_seats.specs.work_shares.proofs.Shared.{idle_worked}
 use Rattle.job_crew.proofs.run.run_all.Goals as goal
 
 pub returns-clause-work : goal.returns-clause-work

@@ -1,10 +1,10 @@
 use Rattle.std.proofs.Common.{ℕ, length, map, refl, ap, subst, ◌∙◌}
 use Rattle.std.specs.Prelude.{slice_range}
 use Rattle.std.proofs.lemmas.Result.{on_ok_weaker, err_from_is_err_and}
-use Rattle.analyst.specs.Work.{IsWithin, done, checks_of}
-use Rattle.work_totals.specs.Totals.{total}
-use Rattle.work_totals.proofs.Totals.{done_anyhow}
-use Rattle.check_phases.proofs.Lists.{zip_length}
+use Rattle.recheck_merging.specs.analyst.specs.Work.{IsWithin, done, checks_of}
+use Rattle.recheck_merging.specs.work_totals.specs.Totals.{total}
+use Rattle.recheck_merging.specs.work_totals.proofs.Totals.{done_anyhow}
+use Rattle.recheck_merging.specs.check_phases.proofs.Lists.{zip_length}
 use Rattle.recheck_checking.specs.Checking.{IsCheckedBy}
 use Rattle.recheck_checking.proofs.Puts.{many_batch, batch_within, batch_slots, batch_checked}
 use Rattle.recheck_checking.proofs.checking.check_batch.Goals as goal

@@ -1,13 +1,13 @@
 use Rattle.std.proofs.Common.{◌≡◌, ℕ, List, length, map, sym, ap, subst, ◌∙◌}
 use Rattle.std.specs.List.{AllZip}
 use Rattle.std.proofs.lemmas.Result.{IfOk-weaker, err_from_is_err_and}
-use Rattle.analyst.specs.Work.{IsWithin, done, checks_of}
-use Rattle.work_totals.specs.Totals.{total}
-use Rattle.work_totals.proofs.Totals.{law, done_anyhow}
-use Rattle.worker_jobs.specs.Checking.{HasErrors}
-use Rattle.check_job.specs.declared.job.CheckJob.{CheckJob}
-use Rattle.check_phases.specs.Checking.{IsJobOf}
-use Rattle.check_phases.proofs.Lists.{zip_length}
+use Rattle.recheck_merging.specs.analyst.specs.Work.{IsWithin, done, checks_of}
+use Rattle.recheck_merging.specs.work_totals.specs.Totals.{total}
+use Rattle.recheck_merging.specs.work_totals.proofs.Totals.{law, done_anyhow}
+use Rattle.recheck_merging.specs.worker_jobs.specs.Checking.{HasErrors}
+use Rattle.recheck_merging.specs.check_job.specs.declared.job.CheckJob.{CheckJob}
+use Rattle.recheck_merging.specs.check_phases.specs.Checking.{IsJobOf}
+use Rattle.recheck_merging.specs.check_phases.proofs.Lists.{zip_length}
 use Rattle.check_values.specs.declared.faults.Errs.{Errs}
 use Rattle.recheck_checking.specs.Checking.{IsCheckedBy}
 use Rattle.recheck_checking.proofs.Puts.{jobs_checked}

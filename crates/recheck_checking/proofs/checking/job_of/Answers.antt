@@ -2,8 +2,8 @@ use Rattle.std.proofs.Common.{length, ap, subst, arith, rules}
 use Rattle.check_values.specs.Rows.{row_at}
 use Rattle.check_values.specs.declared.signatures.Deps.{Deps}
 use Rattle.errors_by_reach.specs.Law.{Agree}
-use Rattle.check_phases.proofs.Checks.{job_made}
-use Rattle.check_phases.proofs.Merges.{many_parses, many_lists}
+use Rattle.recheck_merging.specs.check_phases.proofs.Checks.{job_made}
+use Rattle.recheck_merging.specs.check_phases.proofs.Merges.{many_parses, many_lists}
 use Rattle.recheck_checking.proofs.checking.job_of.Goals as goal
 
 pub returns : goal.returns

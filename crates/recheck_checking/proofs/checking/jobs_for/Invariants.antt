@@ -1,6 +1,6 @@
 use Rattle.std.proofs.Common.{take}
 use Rattle.std.specs.List.{AllZip}
-use Rattle.check_phases.specs.Checking.{IsJobOf}
+use Rattle.recheck_merging.specs.check_phases.specs.Checking.{IsJobOf}
 use Rattle.recheck_checking.proofs.checking.jobs_for.Given as goal
 
 -- the jobs so far

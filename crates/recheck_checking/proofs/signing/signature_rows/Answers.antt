@@ -1,6 +1,6 @@
 use Rattle.std.proofs.Common.{sym, ap, ◌∙◌, length, arith}
 use Rattle.check_values.specs.declared.root.RootRow.{RootRow}
-use Rattle.check_phases.proofs.Checks.{signed_more, signed_all}
+use Rattle.recheck_merging.specs.check_phases.proofs.Checks.{signed_more, signed_all}
 use Rattle.recheck_checking.proofs.signing.signature_rows.Goals as goal
 
 pub loop-i-preserved : goal.loop-i-preserved

@@ -1,6 +1,6 @@
 use Rattle.std.proofs.Common.{◌≡◌, take}
-use Rattle.program_check.specs.Full.{beside}
-use Rattle.check_phases.specs.Sourced.{program_in}
+use Rattle.edited_root.specs.program_check.specs.Full.{beside}
+use Rattle.recheck_merging.specs.check_phases.specs.Sourced.{program_in}
 use Rattle.recheck_checking.proofs.signing.signature_rows.Given as goal
 
 abbrev pub invariant-loop-i : goal.invariant-loop-i

@@ -1,6 +1,6 @@
 use Rattle.std.proofs.Common.{refl, map}
 use Rattle.recheck_run.proofs.Dones.{begun_bare, begun_open, begun_room, begun_commits, room_done, rolled_back, is_done, cancelled, refused}
-use Rattle.work_totals.specs.Totals.{total}
+use Rattle.recheck_reach.specs.work_totals.specs.Totals.{total}
 use Rattle.recheck_run.proofs.rechecking.recheck.Goals as goal
 
 pub stage_edited-requires-clause-is_open : goal.stage_edited-requires-clause-is_open

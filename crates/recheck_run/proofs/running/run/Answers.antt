@@ -1,10 +1,10 @@
 use Rattle.std.proofs.Common.{◌≡◌, true, false, refl, sym, ◌∙◌, arith, map}
 use Rattle.std.proofs.lemmas.Result.{err_from_is_err_and}
-use Rattle.check_phases.proofs.Works.{worked_none}
-use Rattle.recheck_staging.proofs.Steps.{staging_none, staging_then}
+use Rattle.recheck_reach.specs.check_phases.proofs.Works.{worked_none}
+use Rattle.committed_results.specs.recheck_staging.proofs.Steps.{staging_none, staging_then}
 use Rattle.recheck_run.proofs.Questions.{yes_at}
 use Rattle.recheck_run.proofs.Runs.{holds_stage, holds_ready, still_bare, still_based, still_next, stands_stage, stopped, ended, failed, next_fits}
-use Rattle.work_totals.specs.Totals.{total}
+use Rattle.recheck_reach.specs.work_totals.specs.Totals.{total}
 use Rattle.recheck_run.proofs.running.run.Goals as goal
 
 pub polls-init : goal.polls-init

@@ -2,7 +2,7 @@ use Rattle.std.proofs.Common.{◌≡◌, ◌+◌, ◌-◌, ◌^◌, ◌≤◌, m
 use Rattle.heap_core.specs.Transactions.{IsStaging}
 use Rattle.recheck_run.specs.Extent.{Extent}
 use Rattle.recheck_run.specs.Steps.{AffectsIn, Stands, HoldsNext}
-use Rattle.work_totals.specs.Totals.{total}
+use Rattle.recheck_reach.specs.work_totals.specs.Totals.{total}
 use Rattle.recheck_run.proofs.running.run.Given as goal
 
 -- before a poll: so much is done, and so many polls said no

@@ -1,8 +1,8 @@
 use Rattle.std.proofs.Common.{ℕ, List, length, sum_by, ap, ◌∙◌, arith}
 use Rattle.check_values.specs.declared.faults.Errs.{Errs}
 use Rattle.heap_core.specs.Transactions.{all_staged}
-use Rattle.recheck_staging.specs.Staging.{changes_of}
-use Rattle.edited_root.proofs.Users.{many_fresh}
+use Rattle.committed_results.specs.recheck_staging.specs.Staging.{changes_of}
+use Rattle.recheck_checking.specs.edited_root.proofs.Users.{many_fresh}
 use Rattle.recheck_run.specs.Stages.{old_of}
 use Rattle.recheck_run.proofs.Anews.{few_checked}
 use Rattle.recheck_run.proofs.Rests.{keeps_the_rest, own_root}

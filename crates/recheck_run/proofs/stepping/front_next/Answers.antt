@@ -1,8 +1,8 @@
 use Rattle.std.proofs.Common.{Bool, List, count_by, ap, ◌∙◌, subst, map}
 use Rattle.std.proofs.lemmas.Result.{err_from_is_err_and}
-use Rattle.analyst.specs.Work.{fronts_of, done, IsWithin}
+use Rattle.recheck_reach.specs.analyst.specs.Work.{fronts_of, done, IsWithin}
 use Rattle.recheck_run.proofs.Goes.{fronts_read, fronts_failed}
-use Rattle.work_totals.specs.Totals.{total}
+use Rattle.recheck_reach.specs.work_totals.specs.Totals.{total}
 use Rattle.recheck_run.proofs.stepping.front_next.Goals as goal
 
 pub returns-in_err-parses-clause-steps : goal.returns-in_err-parses-clause-steps

@@ -2,8 +2,8 @@ use Rattle.std.proofs.Common.{◌≡◌, ℕ, length, take, sym, ap, ◌∙◌, 
 use Rattle.std.specs.Prelude.{IfSome}
 use Rattle.check_values.specs.Roots.{paths_of}
 use Rattle.check_values.specs.declared.root.RootRow.{RootRow}
-use Rattle.program_check.specs.Full.{deps_in}
-use Rattle.payloads.specs.State.{program_of}
+use Rattle.check_phases.specs.program_check.specs.Full.{deps_in}
+use Rattle.check_phases.specs.payloads.specs.State.{program_of}
 use Rattle.check_phases.specs.Phases.{lists_in}
 use Rattle.check_phases.proofs.Edges.{lists_step, every_list}
 use Rattle.check_phases.proofs.Merges.{parses_many}

@@ -1,6 +1,6 @@
 use Rattle.std.proofs.Common.{◌≡◌, true, take}
 use Rattle.check_values.specs.Roots.{paths_of}
-use Rattle.payloads.specs.State.{program_of}
+use Rattle.check_phases.specs.payloads.specs.State.{program_of}
 use Rattle.check_phases.specs.Phases.{lists_in}
 use Rattle.recheck_sources.specs.Keeping.{IsInPlace}
 use Rattle.recheck_sources.proofs.Loops.{AreEach, kept_at}

@@ -1,6 +1,6 @@
 use Rattle.std.proofs.Common.{ℕ, ap, map, subst, ◌∙◌}
 use Rattle.std.proofs.lemmas.Result.{IfOk-weaker, err_from_is_err_and}
-use Rattle.analyst.specs.Work.{IsWithin, done, fronts_of}
+use Rattle.check_phases.specs.analyst.specs.Work.{IsWithin, done, fronts_of}
 use Rattle.work_totals.specs.Totals.{total}
 use Rattle.work_totals.proofs.Totals.{law, done_anyhow}
 use Rattle.recheck_sources.proofs.Fresh.{many_texts, said_of}

@@ -1,5 +1,5 @@
 use Rattle.std.proofs.Common.{sym, ◌∙◌, arith}
-use Rattle.source_front.specs.declared.parse.Parse.{Parse}
+use Rattle.export_counts.specs.source_front.specs.declared.parse.Parse.{Parse}
 use Rattle.recheck_sources.specs.Keeping.{signatures_of}
 use Rattle.recheck_sources.proofs.Loops.{mapped_at, many_mapped, seen_at, off_at, Tells, each_more, tells_here, none_other, they_tell, kept_mapped}
 use Rattle.recheck_sources.proofs.telling.resigned_of.Goals as goal

@@ -1,8 +1,8 @@
 use Rattle.std.proofs.Common.{ℕ, ◌<◌, ◌∙◌, ap, sym, subst}
 use Rattle.std.specs.List.{AllByRecursion}
-use Rattle.payloads.specs.Entities.{errors_entity}
-use Rattle.payloads.specs.State.{IsRoot}
-use Rattle.payloads.specs.declared.payload.Payload.TheVariants as payload
+use Rattle.check_phases.specs.payloads.specs.Entities.{errors_entity}
+use Rattle.check_phases.specs.payloads.specs.State.{IsRoot}
+use Rattle.check_phases.specs.payloads.specs.declared.payload.Payload.TheVariants as payload
 use Rattle.recheck_staging.specs.Staging.{parts_of, vacated}
 use Rattle.recheck_staging.proofs.Fit.{has_state, state_fits, have_sizes, freed_room}
 use Rattle.recheck_staging.proofs.Steps.{staging_then, all_three}

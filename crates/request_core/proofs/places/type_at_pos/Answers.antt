@@ -2,7 +2,7 @@ use Rattle.std.proofs.Common.{◌≡◌, true, Option, Some, None, refl, sym, ap
 use Rattle.std.specs.Arc.{arc_value}
 use Rattle.type_values.specs.declared.types.FlowType.{FlowType}
 use Rattle.asks.specs.declared.ask.Ask.TheVariants as the_ask
-use Rattle.answers_law.specs.Answers.{IsAnswer, shown}
+use Rattle.heap_answers.specs.answers_law.specs.Answers.{IsAnswer, shown}
 use Rattle.heap_answers.specs.States.{is_root, program_in}
 use Rattle.heap_answers.proofs.Answered.{root_told}
 use Rattle.request_core.proofs.Answered as told

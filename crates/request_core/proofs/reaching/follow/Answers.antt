@@ -1,7 +1,7 @@
 use Rattle.std.proofs.Common.{List, refl, sym, ◌∙◌, subst, arith}
 use Rattle.std.specs.List.{AllByRecursion}
 use Rattle.heap_answers.specs.States.{HasPlace, sigs_by}
-use Rattle.payloads.specs.declared.payload.Payload.{Payload}
+use Rattle.heap_answers.specs.payloads.specs.declared.payload.Payload.{Payload}
 use Rattle.check_values.specs.Rows.{Rows}
 use Rattle.check_values.specs.declared.signatures.Sig.{Sig}
 use Rattle.request_core.specs.Along.{AreMet, Knows, Grows, AreNamedAt}

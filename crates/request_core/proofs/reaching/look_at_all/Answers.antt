@@ -1,7 +1,7 @@
 use Rattle.std.proofs.Common.{List, refl, sym, ◌∙◌, subst, arith}
 use Rattle.std.specs.List.{AllByRecursion}
 use Rattle.heap_answers.specs.States.{HasPlace, sigs_by}
-use Rattle.payloads.specs.declared.payload.Payload.{Payload}
+use Rattle.heap_answers.specs.payloads.specs.declared.payload.Payload.{Payload}
 use Rattle.request_core.specs.Along.{IsMet, Knows, Grows}
 use Rattle.heap_core.proofs.Lists.{get_index}
 use Rattle.request_core.proofs.Reached.{grows_none, grows_through, one_more_met}

@@ -1,4 +1,4 @@
-use Rattle.work_shares.proofs.Counts.{fronts_counted}
+use Rattle.job_crew.specs.work_shares.proofs.Counts.{fronts_counted}
 use Rattle.tree_crossing.proofs.Jobs.{jobs}
 use Rattle.worker_jobs.proofs.calls.run_fronts.Goals as goal
 

@@ -1,7 +1,7 @@
 use Rattle.std.proofs.Common.{length}
 use Rattle.merged_signatures.specs.Job.{job_signatures}
 use Rattle.job_ends.specs.Jobs.{job_view}
-use Rattle.work_shares.proofs.Counts.{merges_counted}
+use Rattle.job_crew.specs.work_shares.proofs.Counts.{merges_counted}
 use Rattle.tree_crossing.proofs.Formers.{formers}
 use Rattle.worker_jobs.proofs.Answering.{answers_are}
 use Rattle.worker_jobs.proofs.Crossing.{merge_job_sync}
