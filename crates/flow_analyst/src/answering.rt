@@ -8,7 +8,8 @@ use check_values::{Errs, Sig};
 use flow_values::{List, NoMemory, Text};
 use job_ends::MergeJob;
 use sig_merge::merge_component;
-use source_front::{Parse, front};
+use source_front::Parse;
+use source_reading::front;
 use std::alloc::Global;
 
 /// The analyst of the language: its answers are those of the crates that read, merge and check.

@@ -6,8 +6,4 @@ mod imports;
 mod items;
 mod names;
 
-pub use code_state;
-pub use code_steps;
-pub use code_tree;
 pub use items::{after_alias, step};
-pub use js_tree;

@@ -10,15 +10,15 @@ use Rattle.js_grammar.specs.Nesting.{Nest, nest, is_deep}
 use Rattle.js_grammar.specs.Machine.{end_mark}
 use Rattle.js_grammar.specs.Items as g
 use Rattle.js_grammar.specs.Items.{Items, no_item, more_item, item, stop_items, FitsItems}
-use Rattle.item_steps.specs.js_tree.specs.View.{item_view, items_from, items_view, module_view}
-use Rattle.item_steps.specs.js_tree.specs.declared.items.Item.{Item}
-use Rattle.item_steps.specs.js_tree.specs.declared.items.Module.{Module}
-use Rattle.item_steps.specs.code_law.specs.Frames.{Stack, Mode, Step, fault as stuck, go, done, done_items}
-use Rattle.item_steps.specs.code_law.specs.Machine.{step, Outcome, faulty, whole as whole_ex, whole_items, resume}
-use Rattle.item_steps.specs.code_law.specs.Reads.{module_with}
-use Rattle.item_steps.specs.code_law.specs.Within.{run_within, read_within, SaysWithin, IsFaultWithin}
-use Rattle.item_steps.specs.code_law.proofs.Within.{only_within}
-use Rattle.item_steps.specs.code_state.specs.declared.stack.Stack.{Stack as State}
+use Rattle.js_tree.specs.View.{item_view, items_from, items_view, module_view}
+use Rattle.js_tree.specs.declared.items.Item.{Item}
+use Rattle.js_tree.specs.declared.items.Module.{Module}
+use Rattle.code_law.specs.Frames.{Stack, Mode, Step, fault as stuck, go, done, done_items}
+use Rattle.code_law.specs.Machine.{step, Outcome, faulty, whole as whole_ex, whole_items, resume}
+use Rattle.code_law.specs.Reads.{module_with}
+use Rattle.code_law.specs.Within.{run_within, read_within, SaysWithin, IsFaultWithin}
+use Rattle.code_law.proofs.Within.{only_within}
+use Rattle.code_state.specs.declared.stack.Stack.{Stack as State}
 use Rattle.type_parser.specs.declared.state.Frame.{Frame}
 use Rattle.type_parser.specs.declared.read.ParseFault.{ParseFault}
 use Rattle.type_parser.specs.declared.read.ParseFault.TheVariants.{At, NoMemory}

@@ -4,11 +4,11 @@ use Rattle.js_token.specs.declared.token.TokenKind.{TokenKind}
 use Rattle.js_grammar.specs.Types.{Ty}
 use Rattle.js_grammar.specs.Machine as ty
 use Rattle.js_grammar.specs.Items.{Items}
-use Rattle.item_steps.specs.code_law.specs.Frames.{Waiting, Mode, typing, Step, go, done_items}
-use Rattle.item_steps.specs.code_law.specs.Frames as machine
-use Rattle.item_steps.specs.code_law.specs.Expressions.{takes_function, inside, after_type}
-use Rattle.item_steps.specs.code_law.specs.Machine.{step}
-use Rattle.item_steps.specs.code_state.specs.declared.stack.Stack.{Stack}
+use Rattle.code_law.specs.Frames.{Waiting, Mode, typing, Step, go, done_items}
+use Rattle.code_law.specs.Frames as machine
+use Rattle.code_law.specs.Expressions.{takes_function, inside, after_type}
+use Rattle.code_law.specs.Machine.{step}
+use Rattle.code_state.specs.declared.stack.Stack.{Stack}
 use Rattle.type_parser.specs.declared.state.Frame.{Frame}
 use Rattle.type_parser.proofs.Pushes.{stack_view-empty}
 use Rattle.js_parser.specs.Reading.{IsStop, IsEnd, Nexts}

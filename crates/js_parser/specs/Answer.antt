@@ -1,8 +1,8 @@
 -- What the answer of `read_module` says.
 use Rattle.std.specs.Prelude.{Result, Ok, Err}
 use Rattle.js_grammar.specs.TypeSpelling.{Tokens}
-use Rattle.item_steps.specs.js_tree.specs.View.{module_view}
-use Rattle.item_steps.specs.js_tree.specs.declared.items.Module.{Module}
+use Rattle.js_tree.specs.View.{module_view}
+use Rattle.js_tree.specs.declared.items.Module.{Module}
 use Rattle.type_parser.specs.declared.read.ParseFault.{ParseFault}
 use Rattle.type_parser.specs.declared.read.ParseFault.TheVariants.{At, NoMemory}
 use Rattle.module_law.specs.Answer.{whole, fault, Answers}

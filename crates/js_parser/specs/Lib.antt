@@ -1,4 +1,2 @@
-pub use Rattle.module_law
-pub use Rattle.type_parser
 pub mod Reading
 pub mod Answer

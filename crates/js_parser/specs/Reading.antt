@@ -3,18 +3,18 @@ use Rattle.std.specs.Prelude.{◌≡◌, ℕ, false, List, [], Result, Ok, Err}
 use Rattle.js_grammar.specs.Machine.{end_mark}
 use Rattle.js_grammar.specs.Nesting.{Nest, is_deep}
 use Rattle.js_grammar.specs.Items.{Items, no_item, more_item, item}
-use Rattle.item_steps.specs.js_tree.specs.View.{items_view}
-use Rattle.item_steps.specs.js_tree.specs.declared.items.Module.{Module}
-use Rattle.item_steps.specs.code_law.specs.Frames as machine
-use Rattle.item_steps.specs.code_law.specs.Frames.{Step, typing, go, fault, done, done_items}
-use Rattle.item_steps.specs.code_law.specs.Machine.{step}
+use Rattle.js_tree.specs.View.{items_view}
+use Rattle.js_tree.specs.declared.items.Module.{Module}
+use Rattle.code_law.specs.Frames as machine
+use Rattle.code_law.specs.Frames.{Step, typing, go, fault, done, done_items}
+use Rattle.code_law.specs.Machine.{step}
 use Rattle.type_parser.specs.State as ty
 use Rattle.type_parser.specs.declared.read.ParseFault.{ParseFault}
 use Rattle.type_parser.specs.declared.read.ParseFault.TheVariants.{At, NoMemory}
 use Rattle.type_parser.specs.declared.state.Frame.{Frame as TypeFrame}
-use Rattle.item_steps.specs.code_state.specs.Forms.{mode_view, item_mode_view, waiting_view, alias_view}
-use Rattle.item_steps.specs.code_state.specs.Stack.{items_before, stack_view}
-use Rattle.item_steps.specs.code_state.specs.declared.stack.Stack.{Stack}
+use Rattle.code_state.specs.Forms.{mode_view, item_mode_view, waiting_view, alias_view}
+use Rattle.code_state.specs.Stack.{items_before, stack_view}
+use Rattle.code_state.specs.declared.stack.Stack.{Stack}
 use Rattle.js_parser.specs.declared.reading.Reading.{Reading}
 use Rattle.js_parser.specs.declared.reading.Reading.TheVariants as reading
 use Rattle.js_parser.specs.declared.reading.Halt.{Halt}

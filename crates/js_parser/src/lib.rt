@@ -5,6 +5,4 @@ mod read;
 mod reading;
 mod token;
 
-pub use module_law;
 pub use read::read_module;
-pub use type_parser;

@@ -1,18 +1,18 @@
 // A whole module.
 ghost use Rattle.std.specs.Prelude.{◌≡◌, ◌<◌, length};
-ghost use Rattle.item_steps.specs.js_tree.specs.View.{items_view};
+ghost use Rattle.js_tree.specs.View.{items_view};
 ghost use Rattle.type_parser.specs.Reading.{kinds};
 ghost use Rattle.type_parser.specs.Nests.{nest_view};
 ghost use Rattle.js_grammar.specs.Nesting.{nest};
-ghost use Rattle.item_steps.specs.code_law.specs.Machine.{step as machine_step};
+ghost use Rattle.code_law.specs.Machine.{step as machine_step};
 ghost use Rattle.js_parser.specs.Reading.{forms, phase, last_end, Takes, Ends};
 ghost use Rattle.js_parser.specs.Answer.{Reads};
 
 use crate::reading::{Halt, Reading};
 use crate::token::next;
-use item_steps::code_state::{ItemMode, Stack};
-use item_steps::js_tree::{Item, Module};
+use code_state::{ItemMode, Stack};
 use js_token::{Punct, Token, TokenKind};
+use js_tree::{Item, Module};
 use std::alloc::Global;
 use type_parser::{Frame as TypeFrame, Nesting, ParseFault};
 

@@ -2,8 +2,8 @@
 ghost use Rattle.std.specs.Prelude.{◌≡◌};
 ghost use Rattle.js_parser.specs.declared.reading.Halt.TheVariants.{NoMemory as no_memory};
 
+use code_state::{AliasHead, ItemMode, Mode, Waiting};
 use flow_values::{Boxed, NoMemory};
-use item_steps::code_state::{AliasHead, ItemMode, Mode, Waiting};
 use type_parser::Mode as TypeMode;
 
 /// What may come next: in an item's code, in a type there, where an item begins, or in the type of an alias. It is moved at each

@@ -1,21 +1,21 @@
 // One token. Each arm with much in it is a function of its own, since a function makes room for all of its arms at each call.
 ghost use Rattle.std.specs.Prelude.{◌≡◌, ◌<◌, []};
-ghost use Rattle.item_steps.specs.code_law.specs.Frames.{typing};
-ghost use Rattle.item_steps.specs.code_law.specs.Machine.{step as machine_step};
+ghost use Rattle.code_law.specs.Frames.{typing};
+ghost use Rattle.code_law.specs.Machine.{step as machine_step};
 ghost use Rattle.type_parser.specs.State.{stack_view as types_view, mode_view as type_mode_view};
-ghost use Rattle.item_steps.specs.code_state.specs.Forms.{mode_view, item_mode_view, waiting_view, alias_view};
-ghost use Rattle.item_steps.specs.code_state.specs.Stack.{stack_view, items_before};
-ghost use Rattle.item_steps.specs.code_state.specs.Turns.{turn_view};
-ghost use Rattle.item_steps.specs.code_state.specs.declared.modes.Turn.TheVariants.{«Type» as a_type, Alias as an_alias};
+ghost use Rattle.code_state.specs.Forms.{mode_view, item_mode_view, waiting_view, alias_view};
+ghost use Rattle.code_state.specs.Stack.{stack_view, items_before};
+ghost use Rattle.code_state.specs.Turns.{turn_view};
+ghost use Rattle.code_state.specs.declared.modes.Turn.TheVariants.{«Type» as a_type, Alias as an_alias};
 ghost use Rattle.js_parser.specs.Reading.{forms, phase, Nexts};
 ghost use Rattle.js_parser.specs.declared.reading.Halt.TheVariants.{Stop as halt_stop};
 ghost use Rattle.js_parser.specs.declared.reading.Reading.TheVariants.{Code as code_reading, Item as item_reading};
 
 use crate::reading::{Halt, Reading};
+use code_state::{AliasHead, ItemMode, Mode, Stack, Turn, Waiting};
+use code_steps::{after_type, takes_function};
+use code_tree::Expr;
 use flow_values::{Boxed, NoMemory};
-use item_steps::code_state::{AliasHead, ItemMode, Mode, Stack, Turn, Waiting};
-use item_steps::code_steps::{after_type, takes_function};
-use item_steps::code_tree::Expr;
 use js_token::TokenKind;
 use std::alloc::Global;
 use type_parser::{Frame as TypeFrame, Mode as TypeMode, Turn as TypeTurn};
@@ -98,7 +98,7 @@ fn in_code(
     requires { at < usize.MAX }
     ensures { Nexts stack.new types.new.items result (machine_step at (stack_view stack.old) (mode_view mode) token.now) }
 {
-    match item_steps::code_steps::step(alloc, at, stack, mode, token) {
+    match code_steps::step(alloc, at, stack, mode, token) {
         Ok(turn) => next_of(alloc, types, turn),
         Err(NoMemory) => Err(Halt::NoMemory),
     }

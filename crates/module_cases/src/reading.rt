@@ -7,7 +7,8 @@ use check_values::{Deps, Root};
 use flow_values::{List, NoMemory, Path, Shared, are_rising};
 use module_deps::deps_of;
 use sig_merge::MergeMember;
-use source_front::{ParseTree, front};
+use source_front::ParseTree;
+use source_reading::front;
 use std::alloc::Global;
 use std::collections::BTreeMap;
 

@@ -4,7 +4,8 @@
 use crate::printing::chars;
 use check_values::{Fault, LocalSig, Origin};
 use flow_values::{NoMemory, Text};
-use source_front::{Parse, front};
+use source_front::Parse;
+use source_reading::front;
 use std::alloc::Global;
 use std::io;
 use type_terms::show;

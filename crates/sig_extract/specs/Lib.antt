@@ -1,3 +1,1 @@
-pub use Rattle.js_tree
-pub use Rattle.local_signatures
 pub mod Seen

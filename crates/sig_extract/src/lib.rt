@@ -8,4 +8,3 @@ mod scope;
 mod telling;
 
 pub use extracting::{broken_signature, extract};
-pub use js_tree;

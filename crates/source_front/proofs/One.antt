@@ -9,11 +9,11 @@ use Rattle.js_lexer.specs.Answers as lexing
 use Rattle.js_lexer.specs.declared.fault.LexFault.{LexFault}
 use Rattle.js_lexer.specs.declared.fault.LexFault.TheVariants as lexed
 use Rattle.js_grammar.specs.Items.{Module}
-use Rattle.sig_extract.specs.js_tree.specs.View.{module_view}
-use Rattle.js_parser.specs.type_parser.specs.Reading.{kinds}
-use Rattle.js_parser.specs.module_law.specs.Answer.{Answer, whole, fault, Answers, OneAnswer}
-use Rattle.sig_extract.specs.local_signatures.specs.LocalSignature.{local_signature, broken_signature}
-use Rattle.sig_extract.specs.local_signatures.specs.Faults.{signature_faults}
+use Rattle.js_tree.specs.View.{module_view}
+use Rattle.type_parser.specs.Reading.{kinds}
+use Rattle.module_law.specs.Answer.{Answer, whole, fault, Answers, OneAnswer}
+use Rattle.local_signatures.specs.LocalSignature.{local_signature, broken_signature}
+use Rattle.local_signatures.specs.Faults.{signature_faults}
 use Rattle.source_front.specs.declared.parse.SourceFault.{SourceFault}
 use Rattle.source_front.specs.declared.parse.SourceFault.TheVariants.{NotUtf8, BadToken, SourceTooLong, Parse as ParseAt}
 use Rattle.source_front.specs.declared.parse.ParseTree.{ParseTree}

@@ -3,7 +3,7 @@ use Rattle.std.specs.Prelude.{◌≡◌, List}
 use Rattle.flow_values.specs.declared.span.Span.{Span}
 use Rattle.check_values.specs.Rows.{Bytes}
 use Rattle.js_grammar.specs.Items.{Module}
-use Rattle.sig_extract.specs.js_tree.specs.View.{module_view}
+use Rattle.js_tree.specs.View.{module_view}
 use Rattle.source_front.specs.declared.parse.SourceFault.{SourceFault}
 use Rattle.source_front.specs.declared.parse.ParseTree.{ParseTree}
 use Rattle.source_front.specs.declared.parse.ParseTree.TheVariants.{Tree, Broken}

@@ -1,3 +1,3 @@
-pub use Rattle.sig_extract.specs.js_tree
+pub use Rattle.js_tree
 pub mod Front
 pub mod Law

@@ -7,5 +7,5 @@ pub fn one_parse()
     ensures { OneParse }
 {
     js_lexer::one_answer();
-    js_parser::module_law::one_answer();
+    module_law::one_answer();
 }

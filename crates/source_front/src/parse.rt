@@ -1,7 +1,7 @@
 // What is kept of a source.
 use check_values::{Fault, LocalSig};
 use flow_values::{List, Shared, Span};
-use sig_extract::js_tree::Module;
+use js_tree::Module;
 
 /// Why a source has no tree, and the byte at which that stands.
 #[derive(Clone, Copy, Debug, PartialEq, Eq)]

@@ -3,7 +3,7 @@ use Rattle.std.proofs.lemmas.Result.{err_from_is_err_and}
 use Rattle.type_parser.specs.Nests.{nest_view}
 use Rattle.type_parser.specs.Reading.{kinds}
 use Rattle.type_parser.proofs.Turns.{length-kinds, next-kind}
-use Rattle.item_steps.specs.code_law.specs.Within.{run_within, read_within}
+use Rattle.code_law.specs.Within.{run_within, read_within}
 use Rattle.js_parser.specs.Reading.{forms, phase, Ends}
 use Rattle.js_parser.specs.Answer.{Reads}
 use Rattle.js_parser.proofs.Rest.{read_fault, read_more, read_end}

@@ -1,6 +1,6 @@
 -- The rest is read from the state as all is from the beginning.
 use Rattle.std.proofs.Common.{◌≡◌, drop}
-use Rattle.item_steps.specs.code_law.specs.Within.{run_within, read_within}
+use Rattle.code_law.specs.Within.{run_within, read_within}
 use Rattle.type_parser.specs.Nests.{nest_view}
 use Rattle.type_parser.specs.Reading.{kinds}
 use Rattle.js_parser.specs.Reading.{forms, phase}

@@ -1,18 +1,18 @@
 // From a source to what it says by itself.
 ghost use Rattle.std.specs.Prelude.{◌≡◌, ℕ, ◌<◌, ◌^◌, List, length, map, Ok, IfOk};
 ghost use Rattle.js_lexer.specs.Answers.{Answers};
-ghost use Rattle.sig_extract.specs.js_tree.specs.View.{module_view};
+ghost use Rattle.js_tree.specs.View.{module_view};
 ghost use Rattle.source_front.specs.Front.{HasTree, HasFault, IsParse, token_start};
 
-use crate::parse::{Parse, ParseTree, SourceFault};
 use flow_values::{List, NoMemory, Shared, Span};
 use js_lexer::{LexFault, lex};
 use js_parser::read_module;
-use js_parser::type_parser::ParseFault;
 use js_token::Token;
-use sig_extract::js_tree::Module;
+use js_tree::Module;
 use sig_extract::{broken_signature, extract};
+use source_front::{Parse, ParseTree, SourceFault};
 use std::alloc::Global;
+use type_parser::ParseFault;
 
 // The spans of tokens, in order.
 fn spans_of(alloc: Global, tokens: &[Token]) -> Result<List<Span>, NoMemory>
