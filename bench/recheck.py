@@ -7,7 +7,7 @@
 
 The edits: ten of a body, ten of a signature (of the module that has 14 importers, or as near to it as there is one), each with its
 recheck, then one that adds a module and one that removes it. The least, the median and the most milliseconds of each are told.
-More than 1,023 modules are said by the word --modules.
+More than 1,023 modules are said by the word --modules; COUNT is 4,095 at the most, since a module is added.
 FLOWD names another program in the place of crates/flowd/out/flowd, which ./build builds. TypeScript is that of Debian's node-typescript.
 """
 
