@@ -3,11 +3,13 @@
 
     bench/statement.py [FILE ..]      from the file of the statement, crates/flowd_top/specs/Run.antt, or from these
 
-A file of specs/ stands on those that its `use` lines name, and on what they stand on. Each crate has a line with its files;
-behind each stand its lines, and in parentheses those that are neither a remark, a `use` line nor empty. What the files
+A file of specs/ stands on those that its `use` lines name, and on what they stand on. A crate may hand on libraries and files in
+its specs/Lib.antt: with `pub use Rattle.B.specs.C` there, `Rattle.A.specs.C` is what C is in B. Each crate has a line with its
+files; behind each stand its lines, and in parentheses those that are neither a remark, a `use` line nor empty. What the files
 name of the structs and enums of the code stands in src/, and of the library's own definitions in the toolchain.
 """
 
+import functools
 import os
 import re
 import sys
@@ -15,21 +17,37 @@ import sys
 TOP = os.path.dirname(os.path.dirname(os.path.abspath(__file__)))
 START = f"{TOP}/crates/flowd_top/specs/Run.antt"
 USED = re.compile(r"(?m)^(?:pub )?use Rattle\.(\w+)\.specs\.([\w.]+)")
+HANDED_ON = re.compile(r"(?m)^pub use Rattle\.([\w.]+)")
 
 
+@functools.lru_cache(maxsize=None)
 def lines_of(file):
     with open(file, encoding="utf-8") as text:
         return text.read().splitlines()
 
 
-def named(crate, path):
-    """The file of a crate's specs/ that a `use` line names, if it is one of this repository."""
-    parts = path.strip(".").split(".")
+@functools.lru_cache(maxsize=None)
+def handed_on(crate):
+    """What stands for each name that a crate hands on: the parts of `A` where that is the library A, and else of `A.specs.NAME`."""
+    file = f"{TOP}/crates/{crate}/specs/Lib.antt"
+    if not os.path.isfile(file):
+        return {}
+    return {it.rpartition(".")[2]: it.split(".") for it in HANDED_ON.findall("\n".join(lines_of(file)))}
+
+
+def file_of(crate, parts):
+    """The file of a crate's specs/ that the parts of a name behind `Rattle.CRATE.specs.` stand for, if it is one of this repository."""
     for count in range(len(parts), 0, -1):
         file = f"{TOP}/crates/{crate}/specs/{'/'.join(parts[:count])}.antt"
         if os.path.isfile(file):
             return file
-    return None
+    below = [*handed_on(crate).get("".join(parts[:1]), []), *parts[1:]]
+    return file_of(below[0], below[2:]) if below[1:2] == ["specs"] else None
+
+
+def named(crate, path):
+    """The file of a crate's specs/ that a `use` line names, if it is one of this repository."""
+    return file_of(crate, path.strip(".").split("."))
 
 
 def stands_on(starts):

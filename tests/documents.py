@@ -7,8 +7,8 @@ runs no program.
 In docs/RULES.md `CRATE/FILE: NAME, NAME` is a file of the crate's specs/ that defines these names in the second column, and one of
 its src/ in the third one.
 In all documents but docs/PROVING.md a word in backquotes that looks like a path is one, from the top, from crates/, or from a crate
-that stands in the same row or item; and a name is one that some file of the crates has. The last line is
-'N passed, M failed'.
+that stands in the same row or item; and a name is one that some file of the crates has. One case counts the ways down crates.txt.
+The last line is 'N passed, M failed'.
 """
 
 import functools
@@ -148,6 +148,24 @@ def each_crate_of_the_map_stands_on_those_above_it():
 def each_crate_stands_in_what_is_proved():
     named = set(re.findall(r"`(\w+)`", text_of("docs/PROVED.md")))
     yield from (it for it in crates() if it not in named)
+
+
+MOST_WAYS = 800_000
+
+
+@case
+def the_ways_down_the_libraries_are_few():
+    """`rt ci` walks each of them before its first proof, and that of kit 13b sums up files on each, twice a crate: with 13 million it
+    took nine hours for that. docs/MAP.md says how a crate hands on what it stands on, so that the lines above it stay short."""
+    below = uses()
+
+    @functools.lru_cache(maxsize=None)
+    def ways(crate):
+        return 1 + sum(ways(it) for it in below.get(crate, ()))
+
+    count = sum(map(ways, below))
+    if count > MOST_WAYS:
+        yield f"{count:,} ways down crates.txt, of {MOST_WAYS:,} at most"
 
 
 def places(part):

@@ -17,7 +17,7 @@ pub fn what_stays()
 {
     program_check::source_front::one_parse();
     merged_signatures::merging_is_local();
-    reach_law::errors_by_reach::errors_by_reach();
+    program_check::errors_by_reach::errors_by_reach();
     reach_law::key_law();
 }
 
@@ -62,7 +62,7 @@ pub fn what_serves_on()
 pub fn what_jobs_find()
     ensures { JobsFindErrors }
 {
-    reach_law::errors_by_reach::errors_by_reach();
+    program_check::errors_by_reach::errors_by_reach();
     reach_law::key_law();
     reach_law::cut_is_right();
 }

@@ -1,7 +1,7 @@
 //! How the items of a module are read.
 #![tactic(auto, using(crate::proofs::NotesInOrder::sees_types, crate::proofs::Envs::env_made, crate::proofs::Envs::env_read, crate::proofs::Envs::env_noted, check_moves::proofs::Following::follows_nothing, check_moves::proofs::Following::follows_through), unfolding(check_moves::specs::View::around, check_moves::specs::View::now, check_moves::specs::View::told))]
 
-ghost use Rattle.std.specs.Prelude.{◌≡◌, ℕ, None, OnOk, IfOk};
+ghost use Rattle.std.specs.Prelude.{◌≡◌, ◌&&◌, ℕ, None, OnOk, IfOk};
 ghost use Rattle.js_grammar.specs.Items as g;
 ghost use Rattle.alias_table.specs.Table.{is_marked};
 ghost use Rattle.check_world.specs.View.{world_view, notes_view};
@@ -75,6 +75,13 @@ fn is_on_cycle(table: &AliasTable, t: &FlowType) -> bool
     }
 }
 
+// Whether both hold.
+fn both(a: bool, b: bool) -> bool
+    ensures { result ≡ (a && b) }
+{
+    a && b
+}
+
 // Whether an alias counts, which stands at a token, and its name lies on a cycle.
 fn is_recursive(
     around: &Module<'_, '_>,
@@ -88,7 +95,7 @@ fn is_recursive(
     let counts = is_bound_at(scope, name, token)?;
     let t = world.names.type_of_name(world.alloc, name)?;
     let on_cycle = is_on_cycle(world.table, &t);
-    Ok(counts && on_cycle)
+    Ok(both(counts, on_cycle))
 }
 
 // An alias that counts and whose name lies on a cycle is a fault.

@@ -68,7 +68,7 @@ impl<'j> Checker<'j> {
     }
 
     // Forgets the faults so far, before the first item.
-    #[tactic(auto, unfolding(crate::specs::View::checker_env, check_items::specs::check_moves::specs::View::around, check_items::specs::check_moves::specs::View::now))]
+    #[tactic(auto, unfolding(crate::specs::View::checker_env, crate::specs::Handed::around, crate::specs::Handed::now))]
     fn forget_faults(&mut self)
         ensures env { checker_env self.new ≡ record (checker_env self.old) { notes = no_notes } }
         ensures around { self.new.around ≡ self.old.around }
@@ -193,7 +193,7 @@ impl<'j> Checker<'j> {
     }
 
     /// The faults so far, in the order of finding, each once.
-    #[tactic(auto, unfolding(crate::specs::View::checker_env, check_items::specs::check_moves::specs::View::now))]
+    #[tactic(auto, unfolding(crate::specs::View::checker_env, crate::specs::Handed::now))]
     pub fn faults(&self) -> &[Fault]
         ensures { result.now ≡ (checker_env self.now).notes.faults }
     {

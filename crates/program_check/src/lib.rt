@@ -4,7 +4,7 @@
 
 ghost use Rattle.program_check.specs.Law.{OneFull};
 
-pub use check_job::source_front;
+pub use check_job::{errors_by_reach, source_front};
 
 /// A program has one full check: whatever else is one says the same of each module.
 pub fn one_full()

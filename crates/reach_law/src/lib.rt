@@ -5,8 +5,6 @@
 
 ghost use Rattle.reach_law.specs.Law.{CutIsRight, ErrorsByReach, JobsAreRight, KeyLaw, TypeCutIsRight, TypeKeyLaw, TypesByReach};
 
-pub use errors_law::errors_by_reach;
-
 /// What a module sees by signatures and by others that say the same where it reaches gives the same errors, and the same types at its
 /// places.
 pub fn errors_by_reach()

@@ -1,6 +1,7 @@
 pub mod Batches
 pub mod Clears
 pub mod Filled
+pub mod Handed
 pub mod Keeps
 pub mod Old
 pub mod Puts

@@ -25,7 +25,7 @@ use std::thread::Threads;
 const BATCH: usize = 64;
 
 // The job of the module of a number.
-#[tactic(auto, using(recheck_merging::specs::check_phases::proofs::Merges::many_parses, recheck_merging::specs::check_phases::proofs::Merges::many_lists))]
+#[tactic(auto, using(crate::proofs::Handed::many_parses, crate::proofs::Handed::many_lists))]
 fn job_of(alloc: Global, sources: &Sources, signed: &Signed, x: usize) -> Result<CheckJob, NoMemory>
     requires sources { AreSources sources.now }
     requires within { x < length sources.now.root.modules }
@@ -79,7 +79,7 @@ fn shared_all(alloc: Global, errors: List<Errs>) -> Result<Vec<Shared<Errs>>, No
 }
 
 // The errors of the modules of some numbers, by the analysts.
-#[tactic(auto, using(recheck_merging::specs::work_totals::proofs::Totals::none_within))]
+#[tactic(auto, using(crate::proofs::Handed::none_within))]
 fn errors_of<R: Threads + Wait + Sync, A: Analyst + Send>(
     rt: &R,
     alloc: Global,

@@ -68,7 +68,7 @@ pub fn sign(
 }
 
 // Adds the signature of a number, with its path.
-#[tactic(auto, using(recheck_merging::specs::check_phases::proofs::Checks::none_picked))]
+#[tactic(auto, using(crate::proofs::Handed::none_picked))]
 fn add_signature(
     rows: &[(Path, Shared<Sig>)],
     number: u32,
@@ -83,7 +83,7 @@ fn add_signature(
 }
 
 // The signatures of some numbers, with their paths.
-#[tactic(auto, using(recheck_merging::specs::check_phases::proofs::Checks::picked_none, recheck_merging::specs::check_phases::proofs::Checks::picked_more, recheck_merging::specs::check_phases::proofs::Checks::picked_all))]
+#[tactic(auto, using(crate::proofs::Handed::picked_none, crate::proofs::Handed::picked_more, crate::proofs::Handed::picked_all))]
 fn signatures_at(
     alloc: Global,
     rows: &[(Path, Shared<Sig>)],
