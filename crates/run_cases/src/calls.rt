@@ -8,7 +8,8 @@ ghost use Rattle.run_cases.specs.Heaps.{IsEmpty};
 use crate::cases::path_of;
 use crate::meeting::{Known, Meeting, MeetingAnalyst, MeetingAnalysts, PATHS, Rule, SOURCES};
 use crate::outside::TestFolder;
-use check_job::CheckJob;
+use analyst::check_job::CheckJob;
+use analyst::source_front::{Parse, ParseTree};
 use check_values::{Deps, Errs, Root, RootRow, Sig};
 use flow_analyst::FlowAnalysts;
 use flow_base::{Folder, FolderFault, List, MemFolder, NoMemory, Path, Text};
@@ -22,7 +23,6 @@ use place_analyst::AnalystMaker;
 use recheck_plan::{changed, check_set, merge_set};
 use recheck_run::{Outcome, recheck};
 use signature_equality::{same_deps, same_local, same_sig};
-use source_front::{Parse, ParseTree};
 use std::alloc::Global;
 use std::fmt::Write;
 use std::sync::{Arc, Wait};
@@ -101,7 +101,7 @@ fn no_deps(alloc: Global) -> Result<Shared<Deps>, NoMemory> {
 }
 
 fn job_of_merge(alloc: Global, path: &str, source: &str) -> Result<MergeJob, NoMemory> {
-    let parse = source_front::front(alloc, source.as_bytes())?;
+    let parse = source_reading::front(alloc, source.as_bytes())?;
     let mut members = List::new(alloc);
     members.push(MergeMember {
         path: path_of(alloc, path)?,
@@ -113,7 +113,7 @@ fn job_of_merge(alloc: Global, path: &str, source: &str) -> Result<MergeJob, NoM
 }
 
 fn job_of_check(alloc: Global, path: &str, source: &str) -> Result<CheckJob, NoMemory> {
-    let parse = source_front::front(alloc, source.as_bytes())?;
+    let parse = source_reading::front(alloc, source.as_bytes())?;
     Ok(CheckJob {
         path: path_of(alloc, path)?,
         text: Text::from_bytes(alloc, source.as_bytes())?,

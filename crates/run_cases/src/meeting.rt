@@ -2,13 +2,13 @@
 ghost use Rattle.std.specs.Prelude.{◌≡◌};
 
 use analyst::Analyst;
-use check_job::CheckJob;
+use analyst::check_job::CheckJob;
+use analyst::source_front::Parse;
 use check_values::{Errs, Sig};
 use flow_analyst::{FlowAnalyst, FlowAnalysts};
 use flow_base::{List, NoMemory, Path, Point, Text, Turnstile};
 use job_ends::MergeJob;
 use place_analyst::{AnalystMaker, PlaceAnalyst};
-use source_front::Parse;
 use std::hint::spin_loop;
 use std::sync::atomic::{AtomicBool, AtomicU64, Ordering};
 use type_values::FlowType;
