@@ -12,7 +12,7 @@ use Rattle.flow_base.specs.Seen.{FolderSeen, SourceSeen, SinkSeen, Outside, outs
 use Rattle.flow_base.specs.declared.outside.LastFault.{LastFault}
 use Rattle.affected_sizes.specs.Law.{EachHasSizes}
 use Rattle.answers_law.specs.Law.{EachHasAnswer}
-use Rattle.generated_run.specs.Script.{LaneUse, Server, IsIdle, MayList, start, HasRun, HasFront, RoseByAtLeast, walk_state, unsaid_load}
+use Rattle.generated_run.specs.Script.{LaneUse, Server, IsIdle, meaning_in, uses_of, program_in, MayList, start, HasRun, HasFront, RoseByAtLeast, walk_state, unsaid_load}
 use Rattle.command_words.specs.Words.{Says, AreOfCommand, IsForm, usage_line}
 use Rattle.command_words.specs.declared.command.Command.{Command}
 use Rattle.command_words.specs.declared.command.Form.{Form}
@@ -22,7 +22,7 @@ use Rattle.script_reader.specs.Lines.{lines_left}
 use Rattle.generated_run.specs.WalkEnd.{WalkEnd}
 use Rattle.generated_run.specs.WalkEnd.TheVariants as ending
 use Rattle.generated_run.proofs.Script.{front_none, front_of_load, walk_counts}
-use Rattle.generated_run.specs.Run.{IsGeneratedRun}
+use Rattle.generated_run.specs.Run.{IsGeneratedRun, HasGenerated}
 use Rattle.generated_run.proofs.OneRun.{errors_of}
 use Rattle.flowd_top.specs.Run.{NamesFolder, MakesUp, status_after, RunEnd, left_after, end_of, IsLeft, Keeps, IsTranscript, no_command, many_files, runs, generates, HasPrinted, HasPrintedFront, nothing_printed, front_printed, Leaves, BreaksOff, WritesLast, RunsOver, RunLeaves, RunsMadeUp, GeneratedLeaves}
 use Rattle.flowd_top.specs.declared.status.Status.{Status}
@@ -50,6 +50,10 @@ nothing_run each answer most lanes listed before kept none =
 
 pub keeps_end : (server : Server) → IsIdle server → Keeps (Some (end_of server)) (Some server)
 keeps_end server idle = (server, refl, record { idle = idle; ended = refl })
+
+-- a run that was not cut short keeps its server
+pub keeps_finished : (how : WalkEnd) (server : Server) → how ≡ ending.Finished → IsIdle server → Keeps (left_after how (end_of server)) (Some server)
+keeps_finished how server finished idle = subst (λ (h : WalkEnd). Keeps (left_after h (end_of server)) (Some server)) (sym finished) (keeps_end server idle)
 
 -- none has lanes
 pub none_lanes : (n : ℕ) (kept : Option Server) → kept ≡ None → IfSome kept (λ server. length server.lanes ≡ n)
@@ -225,3 +229,16 @@ pub nothing_made : (most lanes n seed : ℕ) (held : Option Bytes) (kept : Optio
     → GeneratedLeaves most lanes n seed held held status.NoMemory kept
 nothing_made most lanes n seed held kept none run =
     inr (none, inr refl, record { printed = run.0; program = run.1; version = run.2; uses = run.3; run = run.4; front = front_none held held run.0 refl })
+
+-- a whole run was made
+pub made_leaves : (most lanes n seed : ℕ) (before now : Option Bytes) (how : WalkEnd) (errors : ℕ) (server : Server) (result : Status) (kept : Option Server) (askers : ℕ) → askers ≡ lanes → how ≡ ending.Finished
+    → HasGenerated most askers n seed errors (program_in (meaning_in server.writer).committed) (meaning_in server.writer).version (uses_of server.lanes) before now → result ≡ status_after how errors
+    → Keeps (left_after how (end_of server)) kept → GeneratedLeaves most lanes n seed before now result kept
+made_leaves most lanes n seed before now how errors server result kept askers same finished generated status keeps =
+    inl (record {
+      errors = errors;
+      end = end_of server;
+      status = subst (λ (h : WalkEnd). result ≡ status_after h errors) finished status;
+      run = subst (λ (l : ℕ). HasGenerated most l n seed errors (program_in (meaning_in server.writer).committed) (meaning_in server.writer).version (uses_of server.lanes) before now) same generated;
+      keeps = subst (λ (h : WalkEnd). Keeps (left_after h (end_of server)) kept) finished keeps;
+    })
