@@ -168,7 +168,7 @@ pub(crate) struct MeetingAnalyst<'a> {
 impl Analyst for MeetingAnalyst<'_> {
     ghost work = { λ a. ⟦<FlowAnalyst as Analyst>⟧.work a.inner };
 
-    ghost bounded = { λ a. ⟦<FlowAnalyst as Analyst>⟧.bounded a.inner };
+    ghost bounded = { λ a. record { fronts = a.inner.few_fronts; merges = a.inner.few_merges; checks = a.inner.few_checks } };
 
     fn front(&mut self, text: &Text) -> Result<Parse, NoMemory> {
         let is_the_one = self.meeting.is_the_one(text.as_bytes());
