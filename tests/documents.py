@@ -119,9 +119,14 @@ def each_code_has_a_rule():
 
 @case
 def the_numbers_of_codes_and_cases_are_told():
+    of_program, of_calls = (len(re.findall(rf"(?m)^{word} ", text_of("crates/run_cases/stdin"))) for word in ("status", "test"))
     told = {
         "README.md": [f"There are {len(codes())} codes"],
-        "docs/PROVED.md": [f"and {len(programs.written())} whole programs, each as a real folder"],
+        "docs/PROVED.md": [
+            f"{of_program} of its {of_program + of_calls} cases call",
+            f"The other {of_calls} are of calls below the program",
+            f"and {len(programs.written())} whole programs, each as a real folder",
+        ],
     }
     yield from (f"{page}: {it}" for page, all_told in told.items() for it in all_told if it not in text_of(page))
 
