@@ -18,6 +18,7 @@ FLOWD names another program in the place of crates/flowd/out/flowd, which ./buil
 
 import json
 import os
+import select
 import statistics
 import sys
 import tempfile
@@ -133,9 +134,11 @@ def longer(count=None):
 
 
 def life_of_lane(session, before):
-    """The milliseconds that the first thread lives which is not one of these, and the looks that were taken meanwhile."""
+    """The milliseconds that the first thread lives which is not one of these, and the looks that were taken meanwhile; none where it
+    came and went between two looks, which is known by the recheck's line."""
     while not (new := session.threads() - before):
-        pass
+        if select.select([session.child.stdout], [], [], 0)[0]:
+            return None
     begin, looks = time.perf_counter(), 0
     while new & session.threads():
         looks += 1
@@ -157,12 +160,13 @@ def waits(count=4096):
             session.send(script)
             begin = time.perf_counter()
             session.send(line(do="recheck", asks=[ask]) + line(do="ask", ask={"what": "errors", "path": "no/such.js"}))
-            waited, looks = life_of_lane(session, before)
+            seen = life_of_lane(session, before)
             told = session.child.stdout.readline().decode().strip()
             spent = (time.perf_counter() - begin) * 1000
             answer = session.answers(1)[0].decode().strip()
             ended(session)
-            print(f"  {workers} workers: answered in {waited:.2f} ms, {looks} looks; the load took {spent:.0f} ms\n    {told}; {answer}", flush=True)
+            waited = "answered in {:.2f} ms, {} looks".format(*seen) if seen else "answered between two looks"
+            print(f"  {workers} workers: {waited}; the load took {spent:.0f} ms\n    {told}; {answer}", flush=True)
 
 
 def main(words):
