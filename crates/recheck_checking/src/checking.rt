@@ -7,7 +7,7 @@ ghost use Rattle.recheck_merging.specs.check_phases.specs.Checking.{IsJobOf, bat
 ghost use Rattle.recheck_merging.specs.check_phases.specs.Sourced.{AreSources};
 ghost use Rattle.recheck_checking.specs.Checking.{IsCheckedBy, AreCheckedTo};
 ghost use Rattle.recheck_checking.specs.Keeping.{put_all};
-ghost use Rattle.recheck_checking.specs.Signing.{IsNumbered};
+ghost use Rattle.recheck_checking.specs.Signing.{HasPaths};
 
 use crate::keeping::ErrorSlots;
 use crate::signing::{Signed, modules_of, signatures_for};
@@ -25,11 +25,11 @@ use std::thread::Threads;
 const BATCH: usize = 64;
 
 // The job of the module of a number.
-#[tactic(auto, using(crate::proofs::Handed::many_parses, crate::proofs::Handed::many_lists))]
+#[tactic(auto, using(crate::proofs::Handed::many_parses, crate::proofs::Handed::many_lists, crate::proofs::Signs::rising_rows))]
 fn job_of(alloc: Global, sources: &Sources, signed: &Signed, x: usize) -> Result<CheckJob, NoMemory>
     requires sources { AreSources sources.now }
     requires within { x < length sources.now.root.modules }
-    requires numbered { IsNumbered signed.now }
+    requires paths { HasPaths sources.now signed.now }
     ensures { IfOk result (IsJobOf sources.now signed.now.rows x) }
 {
     let modules = modules_of(sources);
@@ -55,7 +55,7 @@ fn jobs_for(
 ) -> Result<Vec<CheckJob>, NoMemory>
     requires sources { AreSources sources.now }
     requires within { All (λ x. x < length sources.now.root.modules) numbers.now }
-    requires numbered { IsNumbered signed.now }
+    requires paths { HasPaths sources.now signed.now }
     ensures { IfOk result (λ jobs. AllZip (IsJobOf sources.now signed.now.rows) numbers.now jobs.items) }
 {
     let mut jobs = Vec::new(alloc);
@@ -91,7 +91,7 @@ fn errors_of<R: Threads + Wait + Sync, A: Analyst + Send>(
     requires some { 0 < length analysts.old }
     requires sources { AreSources sources.now }
     requires within { All (λ x. x < length sources.now.root.modules) numbers.now }
-    requires numbered { IsNumbered signed.now }
+    requires paths { HasPaths sources.now signed.now }
     ensures errors { IfOk result (λ errors. AllZip (IsCheckedBy sources.now signed.now) numbers.now errors.items) }
     ensures work { Works result (checks_of (length numbers.now)) (total (map A.work analysts.old)) (total (map A.work analysts.new)) }
     ensures many { length analysts.new ≡ length analysts.old }
@@ -137,7 +137,7 @@ pub fn check_batch<R: Threads + Wait + Sync, A: Analyst + Send>(
 ) -> Result<(), NoMemory>
     requires some { 0 < length analysts.old }
     requires sources { AreSources sources.now }
-    requires numbered { IsNumbered signed.now }
+    requires paths { HasPaths sources.now signed.now }
     requires within { All (λ x. x < length sources.now.root.modules) checked.now }
     requires begun { done ≤ length checked.now }
     requires checked { AreCheckedTo sources.now signed.now checked.now done slots.old.items }

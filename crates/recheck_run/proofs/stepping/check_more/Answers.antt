@@ -3,8 +3,8 @@ use Rattle.std.proofs.lemmas.Result.{err_from_is_err_and}
 use Rattle.recheck_run.proofs.Goes.{batch_goes_on, batch_failed_on, numbers_low, checked_begun, checked_more}
 use Rattle.recheck_run.proofs.stepping.check_more.Goals as goal
 
-pub check_batch-requires-clause-numbered : goal.check_batch-requires-clause-numbered
-check_batch-requires-clause-numbered g c κs within = c.requires.checking.signed.numbered
+pub check_batch-requires-clause-paths : goal.check_batch-requires-clause-paths
+check_batch-requires-clause-paths g c κs within = c.requires.checking.signed.paths
 
 pub check_batch-requires-clause-within : goal.check_batch-requires-clause-within
 check_batch-requires-clause-within g c κs within = numbers_low c.args.checking.sources _ c.args.checking.checked c.as_slice-numbers.ensures c.requires.checking.to_check.within

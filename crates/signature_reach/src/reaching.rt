@@ -1,0 +1,57 @@
+//! The search among the rows of all modules.
+ghost use Rattle.std.specs.Prelude.{◌≡◌, IfOk, OnOk, map};
+ghost use Rattle.flow_values.specs.Path.{IsRising};
+ghost use Rattle.check_values.specs.Rows.{row_at};
+ghost use Rattle.errors_by_reach.specs.Law.{Agree};
+ghost use Rattle.signature_reach.specs.Along.{Knows, Grows, IsClosed};
+
+use crate::looking::look_at_all;
+use crate::starts::{found_paths, named_at};
+use check_values::{Deps, Sig};
+use flow_values::{List, NoMemory, Path, Shared};
+use std::alloc::Global;
+use std::collections::BTreeSet;
+
+// Looks at the modules that signatures name, and at those that theirs do.
+fn follow(
+    alloc: Global,
+    rows: &[(Path, Shared<Sig>)],
+    seen: &mut BTreeSet<Path>,
+    found: &mut List<(Path, Shared<Sig>)>,
+) -> Result<(), NoMemory>
+    requires rising { IsRising (map (λ row. row.0) rows.now) }
+    requires known { Knows (row_at rows.now) seen.old found.old }
+    ensures grows { OnOk result (Grows (row_at rows.now) (map (λ row. row.0) rows.now) seen.old found.old seen.new found.new) }
+    ensures closed { OnOk result (IsClosed (row_at rows.now) found.new) }
+{
+    let mut at = 0;
+    while at < found.len() {
+        let named = named_at(alloc, found.as_slice(), at)?;
+        look_at_all(rows, named.as_slice(), seen, found)?;
+        at += 1;
+    }
+    Ok(())
+}
+
+/// The merged signatures of the modules that a module with a dependency list reaches: those that its specifiers find, and with each of
+/// them those that its signature names. `rows` has the signatures of all modules by their paths, which rise. It looks at no other
+/// signature than those, and finds each by halving.
+///
+/// # Errors
+///
+/// `NoMemory` where memory is refused.
+pub fn reached_signatures(
+    alloc: Global,
+    rows: &[(Path, Shared<Sig>)],
+    deps: &Deps,
+) -> Result<List<(Path, Shared<Sig>)>, NoMemory>
+    requires rising { IsRising (map (λ row. row.0) rows.now) }
+    ensures { IfOk result (λ some. Agree (row_at rows.now) deps.now (row_at some)) }
+{
+    let starts = found_paths(alloc, deps.rows.as_slice())?;
+    let mut seen = BTreeSet::new(alloc);
+    let mut found = List::new(alloc);
+    look_at_all(rows, starts.as_slice(), &mut seen, &mut found)?;
+    follow(alloc, rows, &mut seen, &mut found)?;
+    Ok(found)
+}
