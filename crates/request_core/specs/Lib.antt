@@ -4,5 +4,4 @@ pub use Rattle.heap_answers
 pub use Rattle.heap_answers.specs.payloads
 pub mod Works
 pub mod States
-pub mod Along
 pub mod CheckedBy

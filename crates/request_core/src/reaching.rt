@@ -1,20 +1,20 @@
 //! The merged signatures of the modules that a module reaches, read one by one along names.
-ghost use Rattle.std.specs.Prelude.{◌≡◌, ◌<◌, ◌++◌, IfOk, OnOk, length, option_to_list};
-ghost use Rattle.std.specs.List.{AllByRecursion, flat_map};
+ghost use Rattle.std.specs.Prelude.{◌≡◌, IfOk, OnOk};
+ghost use Rattle.std.specs.List.{AllByRecursion};
 ghost use Rattle.flow_base.specs.Program.{IsRising};
 ghost use Rattle.check_values.specs.Rows.{row_at};
 ghost use Rattle.check_values.specs.Roots.{paths_of_rows};
 ghost use Rattle.errors_by_reach.specs.Law.{Agree};
 ghost use Rattle.heap_answers.specs.States.{HasPlace, sigs_by};
-ghost use Rattle.request_core.specs.Along.{IsMet, AreMet, Knows, Grows, IsClosed, AreNamedAt};
+ghost use Rattle.signature_reach.specs.Along.{IsMet, AreMet, Knows, Grows, IsClosed};
 
 use crate::rows::{place_in, signature_in};
-use check_values::{DepRow, Deps, RootRow, Sig};
+use check_values::{Deps, RootRow, Sig};
 use flow_base::Path;
 use flow_values::{List, NoMemory, Shared};
 use heap_answers::payloads::{Payload, signature_entity};
 use heap_core::HeapReader;
-use named_modules::add_named;
+use signature_reach::{found_paths, named_at};
 use std::alloc::Global;
 use std::collections::BTreeSet;
 
@@ -50,7 +50,7 @@ fn look_at<R: HeapReader<Payload>>(
     requires rising { IsRising (paths_of_rows modules.now) }
     requires placed { AllByRecursion (HasPlace (R.state reader.old)) modules.now }
     requires known { Knows (sigs_by (R.state reader.old) modules.now) seen.old rows.old }
-    ensures grows { OnOk result (Grows (sigs_by (R.state reader.old) modules.now) modules.now seen.old rows.old seen.new rows.new) }
+    ensures grows { OnOk result (Grows (sigs_by (R.state reader.old) modules.now) (paths_of_rows modules.now) seen.old rows.old seen.new rows.new) }
     ensures met { OnOk result (IsMet (sigs_by (R.state reader.old) modules.now) rows.new path.now) }
     ensures same { (R.at reader.new ≡ R.at reader.old) × (R.state reader.new ≡ R.state reader.old) }
     ensures part { R.part reader.new ≡ R.part reader.old }
@@ -75,7 +75,7 @@ fn look_at_all<R: HeapReader<Payload>>(
     requires rising { IsRising (paths_of_rows modules.now) }
     requires placed { AllByRecursion (HasPlace (R.state reader.old)) modules.now }
     requires known { Knows (sigs_by (R.state reader.old) modules.now) seen.old rows.old }
-    ensures grows { OnOk result (Grows (sigs_by (R.state reader.old) modules.now) modules.now seen.old rows.old seen.new rows.new) }
+    ensures grows { OnOk result (Grows (sigs_by (R.state reader.old) modules.now) (paths_of_rows modules.now) seen.old rows.old seen.new rows.new) }
     ensures met { OnOk result (AreMet (sigs_by (R.state reader.old) modules.now) rows.new paths.now) }
     ensures same { (R.at reader.new ≡ R.at reader.old) × (R.state reader.new ≡ R.state reader.old) }
     ensures part { R.part reader.new ≡ R.part reader.old }
@@ -84,17 +84,6 @@ fn look_at_all<R: HeapReader<Payload>>(
         look_at(reader, modules, &paths[i], seen, rows)?;
     }
     Ok(())
-}
-
-// The modules that the signature at a place names.
-fn named_at(alloc: Global, rows: &[(Path, Shared<Sig>)], at: usize) -> Result<List<Path>, NoMemory>
-    requires { at < length rows.now }
-    ensures { IfOk result (AreNamedAt rows.now at) }
-{
-    let row = &rows[at];
-    let mut named = List::new(alloc);
-    add_named(row.1.get(), &mut named)?;
-    Ok(named)
 }
 
 // Looks at the modules that signatures name, and at those that theirs do.
@@ -108,7 +97,7 @@ fn follow<R: HeapReader<Payload>>(
     requires rising { IsRising (paths_of_rows modules.now) }
     requires placed { AllByRecursion (HasPlace (R.state reader.old)) modules.now }
     requires known { Knows (sigs_by (R.state reader.old) modules.now) seen.old rows.old }
-    ensures grows { OnOk result (Grows (sigs_by (R.state reader.old) modules.now) modules.now seen.old rows.old seen.new rows.new) }
+    ensures grows { OnOk result (Grows (sigs_by (R.state reader.old) modules.now) (paths_of_rows modules.now) seen.old rows.old seen.new rows.new) }
     ensures closed { OnOk result (IsClosed (sigs_by (R.state reader.old) modules.now) rows.new) }
     ensures same { (R.at reader.new ≡ R.at reader.old) × (R.state reader.new ≡ R.state reader.old) }
     ensures part { R.part reader.new ≡ R.part reader.old }
@@ -120,28 +109,6 @@ fn follow<R: HeapReader<Payload>>(
         at += 1;
     }
     Ok(())
-}
-
-// Adds the module that a specifier finds, if it finds one.
-fn add_found(row: &DepRow, out: &mut List<Path>) -> Result<(), NoMemory>
-    ensures { OnOk result (out.new ≡ out.old ++ option_to_list row.now.found) }
-{
-    match &row.found {
-        Some(found) => out.push(found.share()?),
-        None => Ok(()),
-    }
-}
-
-// The modules that specifiers find.
-#[tactic(auto, using(named_rows::proofs::Lists::flat_more))]
-fn found_paths(alloc: Global, rows: &[DepRow]) -> Result<List<Path>, NoMemory>
-    ensures { IfOk result (λ paths. paths ≡ flat_map (λ row. option_to_list row.found) rows.now) }
-{
-    let mut paths = List::new(alloc);
-    for i in 0..rows.len() {
-        add_found(&rows[i], &mut paths)?;
-    }
-    Ok(paths)
 }
 
 /// The merged signatures of the modules that a module with a dependency list reaches: those that its specifiers find, and with each of

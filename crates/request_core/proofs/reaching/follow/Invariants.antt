@@ -1,11 +1,12 @@
 use Rattle.std.proofs.Common.{◌≡◌, ◌≤◌, ◌+◌, ◌-◌, length}
+use Rattle.check_values.specs.Roots.{paths_of_rows}
 use Rattle.heap_answers.specs.States.{sigs_by}
-use Rattle.request_core.specs.Along.{Grows, IsClosedTo, unseen}
+use Rattle.signature_reach.specs.Along.{Grows, IsClosedTo, unseen}
 use Rattle.request_core.proofs.reaching.follow.Given as goal
 
 abbrev pub invariant-loop-at : goal.invariant-loop-at
 invariant-loop-at g l = record {
-  grows : Grows (sigs_by (g.R.HeapReader.state l.fn.reader) l.modules) l.modules l.fn.seen l.fn.rows l.seen l.rows;
+  grows : Grows (sigs_by (g.R.HeapReader.state l.fn.reader) l.modules) (paths_of_rows l.modules) l.fn.seen l.fn.rows l.seen l.rows;
   closed : IsClosedTo (sigs_by (g.R.HeapReader.state l.fn.reader) l.modules) l.rows l.at;
   within : l.at ≤ length l.rows;
   at : g.R.HeapReader.at l.reader ≡ g.R.HeapReader.at l.fn.reader;
@@ -14,4 +15,4 @@ invariant-loop-at g l = record {
 }
 
 abbrev pub decreases-loop-at : goal.decreases-loop-at
-decreases-loop-at g l = length l.rows + unseen l.seen l.modules - l.at
+decreases-loop-at g l = length l.rows + unseen l.seen (paths_of_rows l.modules) - l.at

@@ -1,14 +1,15 @@
 use Rattle.std.proofs.Common.{sym, ◌∙◌}
+use Rattle.check_values.specs.Roots.{paths_of_rows}
 use Rattle.heap_answers.specs.States.{sigs_by}
 use Rattle.request_core.proofs.Modules.{signed_among}
-use Rattle.request_core.proofs.Seen.{none_grows, one_grows, one_met, not_there, ok_then}
+use Rattle.signature_reach.proofs.Seen.{none_grows, one_grows, one_met, not_there, ok_then}
 use Rattle.request_core.proofs.reaching.look_at.Goals as goal
 
 pub returns-in_ok-share-in-Some-clause-grows : goal.returns-in_ok-share-in-Some-clause-grows
 returns-in_ok-share-in-Some-clause-grows g c =
     let says = sym c.in-Some.is ∙ c.in_ok-sig.ensures.sig in
     ok_then c.push.result
-    (one_grows (sigs_by (g.R.HeapReader.state c.args.reader.now) c.args.modules.now) c.args.modules.now c.args.path.now c.in_ok-share.field-0 c.args.seen.now c.insert.new.self c.args.rows.now c.in_ok-share.ensures c.requires.known c.in_ok-insert.ensures.updates
+    (one_grows (sigs_by (g.R.HeapReader.state c.args.reader.now) c.args.modules.now) (paths_of_rows c.args.modules.now) c.args.path.now c.in_ok-share.field-0 c.args.seen.now c.insert.new.self c.args.rows.now c.in_ok-share.ensures c.requires.known c.in_ok-insert.ensures.updates
     c.in_ok-share-in-Some.field-0 c.in-Some.sig c.push.new.self c.in_ok-share-in-Some.ensures says (not_there c.in_ok-insert.field-0 _ c.in_ok-insert.ensures.added c.if-not-branch.false)
     (signed_among (g.R.HeapReader.state c.args.reader.now) c.args.modules.now c.args.path.now c.in-Some.sig (sym says)))
     c.push.ensures.ok
@@ -17,11 +18,11 @@ pub returns-in_ok-share-in-Some-clause-met : goal.returns-in_ok-share-in-Some-cl
 returns-in_ok-share-in-Some-clause-met g c =
     let says = sym c.in-Some.is ∙ c.in_ok-sig.ensures.sig in
     ok_then c.push.result
-    (one_met (sigs_by (g.R.HeapReader.state c.args.reader.now) c.args.modules.now) c.args.modules.now c.args.path.now c.in_ok-share.field-0 c.args.seen.now c.insert.new.self c.args.rows.now c.in_ok-share.ensures c.requires.known c.in_ok-insert.ensures.updates
+    (one_met (sigs_by (g.R.HeapReader.state c.args.reader.now) c.args.modules.now) (paths_of_rows c.args.modules.now) c.args.path.now c.in_ok-share.field-0 c.args.seen.now c.insert.new.self c.args.rows.now c.in_ok-share.ensures c.requires.known c.in_ok-insert.ensures.updates
     c.in_ok-share-in-Some.field-0 c.in-Some.sig c.push.new.self c.in_ok-share-in-Some.ensures says)
     c.push.ensures.ok
 
 pub returns-in-None-clause-grows : goal.returns-in-None-clause-grows
 returns-in-None-clause-grows g c =
-    none_grows (sigs_by (g.R.HeapReader.state c.args.reader.now) c.args.modules.now) c.args.modules.now c.args.path.now c.in_ok-share.field-0 c.args.seen.now c.insert.new.self c.args.rows.now c.in_ok-share.ensures c.requires.known c.in_ok-insert.ensures.updates
+    none_grows (sigs_by (g.R.HeapReader.state c.args.reader.now) c.args.modules.now) (paths_of_rows c.args.modules.now) c.args.path.now c.in_ok-share.field-0 c.args.seen.now c.insert.new.self c.args.rows.now c.in_ok-share.ensures c.requires.known c.in_ok-insert.ensures.updates
     (sym c.in-None.is ∙ c.in_ok-sig.ensures.sig)
