@@ -20,6 +20,9 @@ use Rattle.check_phases.proofs.Lists.{one_value, within_there}
 use Rattle.check_phases.proofs.Merges.{path_get, parses_many}
 use Rattle.edited_root.specs.From.{numbers_from, fresh_from}
 use Rattle.edited_root.proofs.Users.{many_from, many_fresh, was_module, kept_text}
+use Rattle.moved_paths.specs.Moved.{AreMoved}
+use Rattle.moved_paths.specs.declared.moving.Moved.{Moved}
+use Rattle.moved_paths.proofs.Stays as moved_paths
 use Rattle.recheck_sources.specs.Keeping.{kept_in, ServesOn, StandStill}
 use Rattle.recheck_sources.specs.Parts.{AreKeptBy}
 use Rattle.recheck_sources.proofs.Here.{IsHere, here}
@@ -104,16 +107,17 @@ module _ (was : Sources) (sources : AreSources was) (root : Root) (from : List (
       let new : k.1 ≡ parse = one_value k.1 parse (sym k.4 ∙ at) in
       h.was_at.is_list ∙ ((λ j. deps_in (paths_in was) (h.path j) (sym old j)) ∙ ap (deps_in (paths_in was) m.path) new)
 
-  pub list_serves : ListsAgain → (stays : Bool) → (stays ≡ true → paths_of root ≡ paths_of was.root) → (parses : List Parse) → AreKeptBy was.parses.items from fresh parses
-      → (x : ℕ) (m : RootRow) (parse : Parse) → slice_get root.modules x ≡ Some m → slice_get parses x ≡ Some parse → IfSome (kept_at was.lists.items from fresh x) (ServesOn (paths_of root) m.path parse stays)
-  list_serves lists_again stays still parses kept x m parse at at_parse = kept_holds was.lists.items (ServesOn (paths_of root) m.path parse stays) x (λ e.
+  pub list_serves : ListsAgain → (moved : Moved) → AreMoved (paths_of was.root) (paths_of root) moved → (stays : Bool) → (stays ≡ true → paths_of root ≡ paths_of was.root) → (parses : List Parse) → AreKeptBy was.parses.items from fresh parses
+      → (x : ℕ) (m : RootRow) (parse : Parse) → slice_get root.modules x ≡ Some m → slice_get parses x ≡ Some parse → IfSome (kept_at was.lists.items from fresh x) (ServesOn (paths_of root) m.path parse moved stays)
+  list_serves lists_again moved are stays still parses kept x m parse at at_parse = kept_holds was.lists.items (ServesOn (paths_of root) m.path parse moved stays) x (λ e.
       let off = off_here x (within_there root.modules x m at) e in
       let h = was_here x m at off in
       let is = old_is parses x m parse kept off at_parse h in
       (h.o, h.was_at.deps, off, h.from_there, h.was_at.at_deps, serves h.was_at.deps is))
     where
-      serves : (deps : Deps) → deps ≡ deps_in (paths_in was) m.path parse → ServesOn (paths_of root) m.path parse stays deps
+      serves : (deps : Deps) → deps ≡ deps_in (paths_in was) m.path parse → ServesOn (paths_of root) m.path parse moved stays deps
       serves deps is = record {
+        unmoved = λ unmoved. moved_paths.stays (paths_of was.root) (paths_of root) moved m.path deps are unmoved (ap (again (paths_of was.root) m.path) is ∙ (lists_again (paths_in was) (paths_of was.root) m.path (module_in parse.tree) ∙ sym is));
         made_again = ap (again (paths_of root) m.path) is ∙ lists_again (paths_in was) (paths_of root) m.path (module_in parse.tree);
         as_it_is = λ on. is ∙ ap (λ (ps : List Bytes). deps_in ps m.path parse) (sym (still on));
       }

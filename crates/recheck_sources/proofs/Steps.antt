@@ -13,6 +13,8 @@ use Rattle.check_phases.specs.Sourced.{AreSources}
 use Rattle.check_phases.specs.declared.merging.Sources.{Sources}
 use Rattle.edited_root.specs.From.{numbers_from, fresh_from}
 use Rattle.edited_root.proofs.Users.{many_from, many_fresh}
+use Rattle.moved_paths.specs.Moved.{AreMoved}
+use Rattle.moved_paths.specs.declared.moving.Moved.{Moved}
 use Rattle.recheck_sources.specs.Keeping.{kept_in, made_for, IsInPlace, ServesOn}
 use Rattle.recheck_sources.specs.Parts.{AreKeptBy}
 use Rattle.recheck_sources.proofs.Counted.{made_where}
@@ -51,9 +53,9 @@ module _ (was : Sources) (sources : AreSources was) (root : Root) (from : List (
       let a = many_from was.root root from from_is in let b = many_fresh was.root root fresh fresh_is in let n = ap length same_rows in
       are_kept was.lists.items from fresh i lists (omega (arith, a, n, all)) (omega (arith, b, n, all)) (old_list was sources root from fresh from_is fresh_is) are
 
-  pub list_next : ListsAgain → (stays : Bool) → (stays ≡ true → paths_of root ≡ paths_of was.root) → (parses : List Parse) → AreKeptBy was.parses.items from fresh parses
+  pub list_next : ListsAgain → (moved : Moved) → AreMoved (paths_of was.root) (paths_of root) moved → (stays : Bool) → (stays ≡ true → paths_of root ≡ paths_of was.root) → (parses : List Parse) → AreKeptBy was.parses.items from fresh parses
       → (olds : List Deps) (kept : Option Deps) → olds ≡ was.lists.items → kept ≡ kept_in olds (get_or from i None) (get_or fresh i false)
-      → i < length rows → (m : RootRow) → m ≡ get_or rows i m → i < length parses → (parse view : Parse) → parse ≡ get_or parses i parse → view ≡ parse → IfSome kept (ServesOn (paths_of root) m.path view stays)
-  list_next again stays still parses are olds kept same is low m at low_parse parse view at_parse seen =
-      subst (λ (k : Option Deps). IfSome k (ServesOn (paths_of root) m.path view stays)) (sym (kept_same olds was.lists.items from fresh i kept same is))
-      (list_serves was sources root from fresh from_is fresh_is again stays still parses are i m view (module_there low m at) (get_index parses i parse low_parse at_parse ∙ ap Some (sym seen)))
+      → i < length rows → (m : RootRow) → m ≡ get_or rows i m → i < length parses → (parse view : Parse) → parse ≡ get_or parses i parse → view ≡ parse → IfSome kept (ServesOn (paths_of root) m.path view moved stays)
+  list_next again moved are_moved stays still parses are olds kept same is low m at low_parse parse view at_parse seen =
+      subst (λ (k : Option Deps). IfSome k (ServesOn (paths_of root) m.path view moved stays)) (sym (kept_same olds was.lists.items from fresh i kept same is))
+      (list_serves was sources root from fresh from_is fresh_is again moved are_moved stays still parses are i m view (module_there low m at) (get_index parses i parse low_parse at_parse ∙ ap Some (sym seen)))

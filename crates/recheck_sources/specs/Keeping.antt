@@ -7,6 +7,8 @@ use Rattle.export_counts.specs.source_front.specs.declared.parse.Parse.{Parse}
 use Rattle.graph_search.specs.Cycles.{IsOn}
 use Rattle.check_phases.specs.program_check.specs.Full.{deps_in}
 use Rattle.path_numbers.specs.recheck_law.specs.Lists.{again}
+use Rattle.moved_paths.specs.Moved.{IsUnmoved}
+use Rattle.moved_paths.specs.declared.moving.Moved.{Moved}
 
 -- the part of the old module of a number, where the module is not fresh
 abbrev pub kept_in : {X : Type 0} → List X → Option ℕ → Bool → Option X
@@ -31,9 +33,11 @@ abbrev pub IsInPlace : {X : Type 0} → Option X → X → Type 0
 IsInPlace None part = Unit {0}
 IsInPlace (Some kept) part = part ≡ kept
 
--- made again by its own specifiers, a list is that of its module, and so it is as it stands where no path came or went
-pub record ServesOn (paths : List Bytes) (path : Bytes) (parse : Parse) (stays : Bool) (old : Deps) : Type 0 where
+-- made again by its own specifiers, a list is that of its module; it stays where no path that they may find came or went, and is that of
+-- its module as it stands where no path did
+pub record ServesOn (paths : List Bytes) (path : Bytes) (parse : Parse) (moved : Moved) (stays : Bool) (old : Deps) : Type 0 where
   pub made_again : again paths path old ≡ deps_in paths path parse
+  pub unmoved : IsUnmoved moved path old → again paths path old ≡ old
   pub as_it_is : stays ≡ true → old ≡ deps_in paths path parse
 
 -- a flag tells whether a part is new, or another one than that of the old module of a number

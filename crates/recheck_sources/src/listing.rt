@@ -8,6 +8,7 @@ ghost use Rattle.check_phases.specs.Phases.{AreParsed, lists_in};
 ghost use Rattle.check_phases.specs.Sourced.{AreSources};
 ghost use Rattle.edited_root.specs.From.{numbers_from, fresh_from};
 ghost use Rattle.path_numbers.specs.recheck_law.specs.Lists.{row_again, again};
+ghost use Rattle.moved_paths.specs.Moved.{AreMoved, IsUnmoved};
 ghost use Rattle.recheck_sources.specs.Keeping.{IsInPlace, ServesOn};
 ghost use Rattle.recheck_sources.specs.Parts.{AreKeptBy};
 
@@ -18,6 +19,7 @@ use dep_lists::resolve;
 use export_counts::source_front::{Parse, ParseTree};
 use flow_values::{List, NoMemory, Path, Shared};
 use module_deps::deps_of;
+use moved_paths::{Moved, is_unmoved};
 use signature_equality::same_deps;
 use std::alloc::Global;
 
@@ -59,18 +61,26 @@ fn list_again(alloc: Global, root: &Root, path: &Path, deps: &Deps) -> Result<De
     Ok(Deps { rows })
 }
 
-// The list of a module of which the text stays, by the old one, which is shared where it is what it was.
+// The list of a module of which the text stays, by the old one, which is shared where it is what it was. Where no specifier may find a
+// path that came or went it is not looked for again.
 fn kept_list(
     alloc: Global,
     root: &Root,
     path: &Path,
     old: Shared<Deps>,
+    moved: &Moved,
     stays: bool,
 ) -> Result<Shared<Deps>, NoMemory>
-    requires { IsRising (paths_of root.now) }
+    requires rising { IsRising (paths_of root.now) }
+    requires came { IsRising (paths_of moved.now.came) }
+    requires went { IsRising (paths_of moved.now.went) }
+    requires unmoved { IsUnmoved moved.now path.now old → again (paths_of root.now) path.now old ≡ old }
     ensures { IfOk result (λ list. list ≡ (if stays then old else again (paths_of root.now) path.now old)) }
 {
     if stays {
+        return Ok(old);
+    }
+    if is_unmoved(alloc, moved, path, old.get())? {
         return Ok(old);
     }
     let list = list_again(alloc, root, path, old.get())?;
@@ -87,21 +97,25 @@ fn next_list(
     path: &Path,
     parse: &Parse,
     kept: Option<Shared<Deps>>,
+    moved: &Moved,
     stays: bool,
 ) -> Result<Shared<Deps>, NoMemory>
     requires rising { IsRising (paths_of root.now) }
-    requires serves { IfSome kept (ServesOn (paths_of root.now) path.now parse.now stays) }
+    requires came { IsRising (paths_of moved.now.came) }
+    requires went { IsRising (paths_of moved.now.went) }
+    requires serves { IfSome kept (ServesOn (paths_of root.now) path.now parse.now moved.now stays) }
     ensures list { IfOk result (λ list. list ≡ deps_in (paths_of root.now) path.now parse.now) }
     ensures kept { stays ≡ true → IfOk result (IsInPlace kept) }
 {
     match kept {
-        Some(old) => kept_list(alloc, root, path, old, stays),
+        Some(old) => kept_list(alloc, root, path, old, moved, stays),
         None => list_of(alloc, root, path, parse),
     }
 }
 
 /// The dependency list of each module, in order: found by its tree where it is fresh, and elsewhere the old one, with what its specifiers
-/// find now. `stays` tells that no path came or went: then the old ones are kept as they are.
+/// find now. `stays` tells that no path came or went: then the old ones are kept as they are. `moved` has the paths that did: a list is
+/// looked for again where one of its specifiers may find one of them.
 ///
 /// # Errors
 ///
@@ -114,6 +128,7 @@ pub(crate) fn edited_lists(
     parses: &[Shared<Parse>],
     from: &[Option<u32>],
     fresh: &[bool],
+    moved: &Moved,
     stays: bool,
 ) -> Result<Vec<Shared<Deps>>, NoMemory>
     requires was { AreSources was.now }
@@ -122,6 +137,7 @@ pub(crate) fn edited_lists(
     requires fresh { fresh.now ≡ fresh_from was.now.root root.now }
     requires parsed { AreParsed (program_of root.now) parses.now }
     requires kept { AreKeptBy was.now.parses.items from.now fresh.now parses.now }
+    requires moved { AreMoved (paths_of was.now.root) (paths_of root.now) moved.now }
     requires stays { stays ≡ true → paths_of root.now ≡ paths_of was.now.root }
     ensures lists { IfOk result (λ lists. lists.items ≡ lists_in (paths_of root.now) (program_of root.now) parses.now) }
     ensures kept { stays ≡ true → IfOk result (λ lists. AreKeptBy was.now.lists.items from.now fresh.now lists.items) }
@@ -133,7 +149,7 @@ pub(crate) fn edited_lists(
     for i in 0..modules.len() {
         let kept = kept_part(old, from[i], fresh[i])?;
         let parse = parses[i].get();
-        let list = next_list(alloc, root, &modules[i].path, parse, kept, stays)?;
+        let list = next_list(alloc, root, &modules[i].path, parse, kept, moved, stays)?;
         lists.push(list)?;
     }
     Ok(lists)

@@ -9,6 +9,7 @@ ghost use Rattle.path_numbers.specs.Sets.{ArePlaces};
 ghost use Rattle.check_phases.specs.Phases.{AreParsed};
 ghost use Rattle.check_phases.specs.Sourced.{paths_in, view_in, AreSources};
 ghost use Rattle.edited_root.specs.From.{numbers_from, fresh_from};
+ghost use Rattle.moved_paths.specs.Moved.{AreMoved};
 ghost use Rattle.recheck_sources.specs.Changed.{IsChanged};
 ghost use Rattle.recheck_sources.specs.Parts.{AreKeptBy, TellsOthers};
 
@@ -19,6 +20,7 @@ use check_phases::Sources;
 use check_values::Root;
 use export_counts::source_front::Parse;
 use flow_values::{List, NoMemory, Shared};
+use moved_paths::{Moved, moved_paths, nothing_moved};
 use std::alloc::Global;
 
 /// The modules of an edited program with what is known of each by itself, and of which modules it differs.
@@ -33,6 +35,26 @@ pub struct Listed {
     pub touched: List<u32>,
     /// The numbers of the modules of which the text or the dependency list is new or differs, rising.
     pub changed: List<u32>,
+}
+
+// The paths that came and went.
+fn moved_between(
+    alloc: Global,
+    was: &Root,
+    root: &Root,
+    from: &[Option<u32>],
+    stays: bool,
+) -> Result<Moved, NoMemory>
+    requires old { IsRising (paths_of was.now) }
+    requires new { IsRising (paths_of root.now) }
+    requires from { from.now ≡ numbers_from was.now root.now }
+    requires stays { stays ≡ true → paths_of root.now ≡ paths_of was.now }
+    ensures { IfOk result (AreMoved (paths_of was.now) (paths_of root.now)) }
+{
+    if stays {
+        return Ok(nothing_moved(alloc, was, root));
+    }
+    moved_paths(alloc, was, root, from)
 }
 
 // The modules with what is known of each by itself.
@@ -62,7 +84,8 @@ fn sources_of(
     export_counts::few_exports();
     let modules = root.get();
     let said = parses.as_slice();
-    let lists = edited_lists(alloc, was, modules, said, from, fresh, stays)?;
+    let moved = moved_between(alloc, was.root.get(), modules, from, stays)?;
+    let lists = edited_lists(alloc, was, modules, said, from, fresh, &moved, stays)?;
     Ok(Sources {
         root,
         parses,
@@ -110,8 +133,8 @@ fn told_sources(
 }
 
 /// The dependency lists of the modules of an edited program, and which modules differ. A list is found by the tree of a module that is
-/// new or has another text. Elsewhere the old one is kept, where no path of the program came or went, and otherwise found again by its
-/// own specifiers. `was` is what was known of the old modules, `parses` what the new ones say by themselves, `from` has for each module
+/// new or has another text. Elsewhere the old one is kept, where no path came or went that a specifier of its may find, and otherwise found
+/// again by its own specifiers. `was` is what was known of the old modules, `parses` what the new ones say by themselves, `from` has for each module
 /// the number that it had, if it was one, and `fresh` whether it is new or has another text.
 ///
 /// # Errors

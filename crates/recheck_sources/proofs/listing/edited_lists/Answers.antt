@@ -16,9 +16,15 @@ pub next_list-requires-clause-serves : goal.next_list-requires-clause-serves
 next_list-requires-clause-serves c =
     let many = parses_many c.args.root.now c.args.parses.now c.requires.parsed in
     let rows = ap length c.as_slice-modules.ensures in
-    subst (λ (m : RootRow). IfSome c.in_ok-kept.kept (ServesOn (paths_of c.args.root.now) m.path c.get-parse.result.now c.args.stays)) c.index-modules-i.is
-    (list_next c.args.was.now c.requires.was c.args.root.now c.args.from.now c.args.fresh.now c.requires.from c.requires.fresh c.as_slice-modules.result.now c.loop-i.i c.as_slice-modules.ensures c.lists_again.ensures.lists c.args.stays c.requires.stays c.args.parses.now
+    subst (λ (m : RootRow). IfSome c.in_ok-kept.kept (ServesOn (paths_of c.args.root.now) m.path c.get-parse.result.now c.args.moved.now c.args.stays)) c.index-modules-i.is
+    (list_next c.args.was.now c.requires.was c.args.root.now c.args.from.now c.args.fresh.now c.requires.from c.requires.fresh c.as_slice-modules.result.now c.loop-i.i c.as_slice-modules.ensures c.lists_again.ensures.lists c.args.moved.now c.requires.moved c.args.stays c.requires.stays c.args.parses.now
     c.requires.kept c.as_slice-old.result.now c.in_ok-kept.kept c.as_slice-old.ensures.value c.in_ok-kept.ensures (omega arith) c.index-modules-i.result c.index-modules-i.is (omega (arith, many, rows)) c.index-parses-i.result c.get-parse.result.now c.index-parses-i.is c.get-parse.ensures)
+
+pub next_list-requires-clause-came : goal.next_list-requires-clause-came
+next_list-requires-clause-came c = let moved = c.requires.moved in moved.came.rising
+
+pub next_list-requires-clause-went : goal.next_list-requires-clause-went
+next_list-requires-clause-went c = let moved = c.requires.moved in moved.went.rising
 
 pub loop-i-preserved : goal.loop-i-preserved
 loop-i-preserved c = record {
