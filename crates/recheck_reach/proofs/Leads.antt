@@ -5,24 +5,33 @@ use Rattle.std.proofs.lemmas.List.Elements.{All-from_get_or}
 use Rattle.flow_base.specs.Program.{Bytes}
 use Rattle.check_values.specs.Rows.{Rows, row_at}
 use Rattle.check_values.specs.declared.signatures.Sig.{Sig}
+use Rattle.heap_core.proofs.Lists.{get_there}
 use Rattle.graph_search.specs.Cycles.{Has, Leads, here, along, Edge, IsOn, AreWithin}
-use Rattle.graph_search.proofs.Searches.{joined}
+use Rattle.merged_signatures.specs.Chains.{View}
+use Rattle.merged_signatures.specs.Imports as imports
+use Rattle.merged_signatures.specs.Imports.{Imports}
+use Rattle.merged_signatures.specs.Merged.{merged}
 use Rattle.recheck_merging.specs.affected_sizes.specs.Polls.{AreImports}
 use Rattle.recheck_plan.specs.Affected.{AreExactly, LeadsToTouched, IsToCheck}
 use Rattle.recheck_merging.specs.recheck_law.specs.Names.{Names, LeadsByNames, itself, further}
-use Rattle.recheck_merging.specs.path_numbers.specs.Ways.{AreSteps}
-use Rattle.recheck_merging.specs.path_numbers.proofs.Ways.{has_start}
+use Rattle.recheck_merging.specs.check_phases.specs.Phases.{AreMerged}
 use Rattle.recheck_merging.specs.check_phases.specs.Sourced.{program_in, paths_in, view_in, AreSources}
 use Rattle.recheck_merging.specs.check_phases.specs.Whole.{sigs_by}
 use Rattle.recheck_merging.specs.check_phases.specs.declared.merging.Sources.{Sources}
 use Rattle.recheck_merging.specs.check_phases.proofs.Edges.{one_place}
-use Rattle.recheck_merging.specs.check_phases.proofs.Jobs.{beside_path}
+use Rattle.recheck_merging.specs.check_phases.proofs.Jobs.{beside_path, zip_at}
 use Rattle.recheck_merging.specs.check_phases.proofs.Lists.{one_value, same_paths, place_at, within_there}
+use Rattle.recheck_merging.specs.check_phases.proofs.Merges.{program_get, path_get}
+use Rattle.recheck_merging.specs.Plans.{IsToMerge}
 use Rattle.recheck_merging.proofs.Among as among
-use Rattle.recheck_merging.proofs.Imported.{as_many}
+use Rattle.recheck_merging.proofs.Imported.{as_many, low_path}
 use Rattle.recheck_merging.proofs.Mapped.{has_all}
-use Rattle.recheck_merging.proofs.Plans.{touched_low}
+use Rattle.recheck_merging.proofs.Plans.{touched_low, merge_low, are_to_merge}
 use Rattle.recheck_reach.specs.Checked.{IsStirred, IsToCheckIn}
+use Rattle.recheck_reach.specs.Law.{NamedIsImported}
+use Rattle.recheck_reach.specs.Named.{AreStepsOf}
+use Rattle.recheck_reach.proofs.Named.{sig_at}
+use Rattle.recheck_reach.proofs.Rests.{many_merged}
 
 row_place : {X : Type 0} (rows : Rows X) (path : Bytes) (x : X) → row_at rows path ≡ Some x → (i : ℕ) × (slice_get rows i ≡ Some (path, x))
 row_place [] path x is = absurd (let z : None ≡ Some x = is in cc)
@@ -38,53 +47,110 @@ signed_place s sigs path sig is =
     let row = row_place _ path sig is in
     (row.0, ap (λ (ps : List Bytes). slice_get ps row.0) (sym (same_paths s.root)) ∙ beside_path (program_in s) sigs row.0 (path, sig) row.1)
 
-module _ (s : Sources) (sigs : List Sig) (named : List (List ℕ)) (sources : AreSources s) (are : AreSteps (Names (sigs_by s sigs)) (paths_in s) named) where
+-- and it is the merged one
+signed_merged : (s : Sources) (sigs : List Sig) (path : Bytes) (sig : Sig) → AreSources s → AreMerged (view_in s) (program_in s) sigs → sigs_by s sigs path ≡ Some sig → merged (view_in s) path ≡ Some sig
+signed_merged s sigs path sig sources are is =
+    let z = signed_place s sigs path sig is in
+    let m = get_there s.root.modules z.0 (low_path s z.0 path z.1) in
+    let same : m.0.path ≡ path = one_value m.0.path path (sym (path_get s.root.modules z.0 m.0 m.1) ∙ z.1) in
+    let mine = zip_at (λ (r : Bytes × Bytes) (g : Sig). merged (view_in s) r.0 ≡ Some g) (program_in s) sigs z.0 (m.0.path, m.0.text) are (program_get s.root.modules z.0 m.0 m.1) in
+    let own : mine.0 ≡ sig = one_value mine.0 sig (sym (sig_at s sigs sources z.0 path mine.0 z.1 mine.1) ∙ is) in
+    ap (merged (view_in s)) (sym same) ∙ (mine.2 ∙ ap Some own)
+
+onward : (view : View) (p q r : Bytes) → Imports view p q → Imports view q r → Imports view p r
+onward view p q _ first imports.itself = first
+onward view p q _ first (imports.further r other leads step) = imports.further r other (onward view p q r first leads) step
+
+-- ---- the names of the modules from which imports lead to some
+
+module _ (s : Sources) (sigs : List Sig) (leading : List ℕ) (named : List (List ℕ)) (sources : AreSources s) (are : AreStepsOf (Names (sigs_by s sigs)) (paths_in s) leading named) where
   before : (p q r : Bytes) → Names (sigs_by s sigs) p q → LeadsByNames (sigs_by s sigs) q r → LeadsByNames (sigs_by s sigs) p r
   before p q _ step itself = further p q itself step
   before p q _ step (further r other leads next) = further r other (before p q r step leads) next
 
+  -- what leads to a path has one
+  starts : {x y : ℕ} → Leads (Edge named) x y → (q : Bytes) → slice_get (paths_in s) y ≡ Some q → (p : Bytes) × (slice_get (paths_in s) x ≡ Some p)
+  starts here q at = (q, at)
+  starts (along {p = x} {q = z} edge rest) q at = let i = (are.sound x z edge).1 in (i.path, i.at_path)
+
   leads_there : {x y : ℕ} → Leads (Edge named) x y → (p q : Bytes) → slice_get (paths_in s) x ≡ Some p → slice_get (paths_in s) y ≡ Some q → LeadsByNames (sigs_by s sigs) p q
   leads_there (here {p = x}) p q at_x at_y = subst (LeadsByNames (sigs_by s sigs) p) (one_value p q (sym at_x ∙ at_y)) itself
   leads_there (along {p = x} {q = z} edge rest) p q at_x at_y =
-      let i = are.sound x z edge in
+      let i = (are.sound x z edge).1 in
       before p i.other q (subst (λ (t : Bytes). Names (sigs_by s sigs) t i.other) (one_value i.path p (sym i.at_path ∙ at_x)) i.step) (leads_there rest i.other q i.at_other at_y)
 
-  leads_back : (p q : Bytes) → LeadsByNames (sigs_by s sigs) p q → (x y : ℕ) → slice_get (paths_in s) x ≡ Some p → slice_get (paths_in s) y ≡ Some q → Leads (Edge named) x y
-  leads_back p _ itself x y at_x at_y = subst (Leads (Edge named) x) (one_place (paths_in s) x y p sources.rising at_x at_y) here
-  leads_back p _ (further r other leads step) x y at_x at_y =
-      let z = signed_place s sigs r step.0 step.1 in
-      joined (Edge named) (leads_back p r leads x z.0 at_x z.1) (along (are.complete z.0 y (record { path = r; other = other; at_path = z.1; at_other = at_y; step = step })) here)
+  module _ (law : NamedIsImported) (signed : AreMerged (view_in s) (program_in s) sigs) (ones : List ℕ) (imported : AreExactly (IsToMerge s ones) leading) where
+    -- from each module on the way imports lead to the last one, so that its names are there
+    leads_back : (p q last : Bytes) (x y number : ℕ) → slice_get (paths_in s) x ≡ Some p → slice_get (paths_in s) y ≡ Some q → slice_get (paths_in s) number ≡ Some last → Has ones number
+        → LeadsByNames (sigs_by s sigs) p q → Imports (view_in s) q last → Leads (Edge named) y number → Leads (Edge named) x number
+    leads_back p _ last x y number at_x at_y at_last has itself led rest = subst (λ (z : ℕ). Leads (Edge named) z number) (one_place (paths_in s) y x p sources.rising at_y at_x) rest
+    leads_back p _ last x y number at_x at_y at_last has (further r other leads step) led rest =
+        let z = signed_place s sigs r step.0 step.1 in
+        let imports = onward (view_in s) r other last (law (view_in s) r other step.0 (signed_merged s sigs r step.0 sources signed step.1) step.2) led in
+        let mine = imported.complete z.0 (record { number = number; path = r; other = last; is_touched = has; at_path = z.1; at_other = at_last; leads = imports }) in
+        leads_back p r last x z.0 number at_x z.1 at_last has leads imports (along (are.complete z.0 y mine (record { path = r; other = other; at_path = z.1; at_other = at_y; step = step })) rest)
 
-  module _ (moved : List Bool) (ones stirred : List ℕ) (many : length moved ≡ length s.root.modules) (on : AreExactly (IsOn moved) ones) (exactly : AreExactly (LeadsToTouched named ones) stirred) where
-    stirred_there : (x : ℕ) → Has stirred x → IsStirred s sigs moved x
-    stirred_there x has =
-        let leads = exactly.sound x has in
-        let flag = on.sound leads.0 leads.1 in
-        let q = (let low = within_there moved leads.0 true flag in let all = as_many s in place_at (paths_in s) leads.0 [] (omega arith)) in
-        let p = has_start (Names (sigs_by s sigs)) (paths_in s) named are leads.2 _ q in
-        record {
-          number = leads.0;
-          path = p.0;
-          other = _;
-          has_moved = flag;
-          at_path = p.1;
-          at_other = q;
-          leads = leads_there leads.2 p.0 _ p.1 q;
-        }
+    module _ (moved : List Bool) (stirred : List ℕ) (many : length moved ≡ length s.root.modules) (on : AreExactly (IsOn moved) ones) (exactly : AreExactly (LeadsToTouched named ones) stirred) where
+      stirred_there : (x : ℕ) → Has stirred x → IsStirred s sigs moved x
+      stirred_there x has =
+          let leads = exactly.sound x has in
+          let flag = on.sound leads.0 leads.1 in
+          let q = (let low = within_there moved leads.0 true flag in let all = as_many s in place_at (paths_in s) leads.0 [] (omega arith)) in
+          let p = starts leads.2 _ q in
+          record {
+            number = leads.0;
+            path = p.0;
+            other = _;
+            has_moved = flag;
+            at_path = p.1;
+            at_other = q;
+            leads = leads_there leads.2 p.0 _ p.1 q;
+          }
 
-    stirred_back : (x : ℕ) → IsStirred s sigs moved x → Has stirred x
-    stirred_back x is = exactly.complete x (is.number, on.complete is.number is.has_moved, leads_back is.path is.other is.leads x is.number is.at_path is.at_other)
+      stirred_back : (x : ℕ) → IsStirred s sigs moved x → Has stirred x
+      stirred_back x is =
+          let has = on.complete is.number is.has_moved in
+          exactly.complete x (is.number, has, leads_back is.path is.other is.other x is.number is.number is.at_path is.at_other is.at_other has is.leads imports.itself here)
 
-    are_stirred : AreExactly (IsStirred s sigs moved) stirred
-    are_stirred = record { rising = exactly.rising; sound = stirred_there; complete = stirred_back }
+      are_stirred : AreExactly (IsStirred s sigs moved) stirred
+      are_stirred = record { rising = exactly.rising; sound = stirred_there; complete = stirred_back }
 
 -- ---- as the code has them
 
-pub stirred_all : (s : Sources) (sigs : List Sig) (named view : List (List ℕ)) (moved : List Bool) (ones ones_view stirred : List ℕ) → AreSources s → AreSteps (Names (sigs_by s sigs)) (paths_in s) named
-    → length moved ≡ length s.root.modules → AreExactly (IsOn moved) ones → view ≡ named → ones_view ≡ ones → AreExactly (LeadsToTouched view ones_view) stirred → AreExactly (IsStirred s sigs moved) stirred
-stirred_all s sigs named view moved ones ones_view stirred sources are many on same_named same_ones exactly =
-    are_stirred s sigs named sources are moved ones stirred many on
-    (subst (λ (es : List (List ℕ)). AreExactly (LeadsToTouched es ones) stirred) same_named (subst (λ (l : List ℕ). AreExactly (LeadsToTouched view l) stirred) same_ones exactly))
+-- so many lists are those of the modules, and the numbers of flags are among them
+flags_low : (s : Sources) (moved : List Bool) (ones view : List ℕ) (n : ℕ) → length moved ≡ length s.root.modules → AreExactly (IsOn moved) ones → view ≡ ones → n ≡ length s.root.modules → All (λ t. t < n) view
+flags_low s moved ones view n many on same is =
+    has_all (λ (t : ℕ). t < n) view (λ t has. (let low = within_there moved t true (on.sound t (subst (λ (l : List ℕ). Has l t) same has)) in omega arith))
+
+pub moved_low : (s : Sources) (moved : List Bool) (edges : List (List ℕ)) (ones view : List ℕ) → length moved ≡ length s.root.modules → AreImports (view_in s) (paths_in s) edges → AreExactly (IsOn moved) ones → view ≡ ones
+    → All (λ t. t < length edges) view
+moved_low s moved edges ones view many are on same = flags_low s moved ones view (length edges) many on same (are.len ∙ as_many s)
+
+-- those from which imports lead to one that moved have signatures
+pub leading_low : (s : Sources) (sigs : List Sig) (moved : List Bool) (edges : List (List ℕ)) (ones ones_view leading view : List ℕ) → AreSources s → AreMerged (view_in s) (program_in s) sigs → length moved ≡ length s.root.modules
+    → AreImports (view_in s) (paths_in s) edges → AreExactly (IsOn moved) ones → ones_view ≡ ones → AreExactly (LeadsToTouched edges ones_view) leading → view ≡ leading → All (λ x. x < length sigs) view
+leading_low s sigs moved edges ones ones_view leading view sources signed many are on same_ones exactly same =
+    subst (λ (n : ℕ). All (λ x. x < n) view) (sym (many_merged s sigs signed))
+    (subst (All (λ (x : ℕ). x < length s.root.modules)) (sym same) (merge_low s edges ones_view leading sources are (flags_low s moved ones ones_view (length s.root.modules) many on same_ones refl) exactly))
+
+-- each name ends at a number that has names
+pub within_steps : (s : Sources) (sigs : List Sig) (leading : List ℕ) (named view : List (List ℕ)) → AreStepsOf (Names (sigs_by s sigs)) (paths_in s) leading named → view ≡ named → AreWithin view
+within_steps s sigs leading named view are same = subst AreWithin (sym same) (All-from_get_or (λ (ys : List ℕ). All (λ y. y < length named) ys) named [] (λ x low.
+    has_all (λ y. y < length named) (get_or named x []) (λ y has. (
+    let st = (are.sound x y (get_or named x [], place_at named x [] low, has)).1 in
+    let small = within_there (paths_in s) y st.other st.at_other in
+    let len = are.len in omega arith))))
+
+pub few_steps : (s : Sources) (sigs : List Sig) (leading : List ℕ) (named view : List (List ℕ)) → AreStepsOf (Names (sigs_by s sigs)) (paths_in s) leading named → view ≡ named → length s.root.modules < 2 ^ 32 → length view < 2 ^ 32
+few_steps s sigs leading named view are same few = let e : length view ≡ length named = ap length same in let len = are.len in let many = as_many s in omega arith
+
+pub stirred_all : NamedIsImported → (s : Sources) (sigs : List Sig) (moved : List Bool) (edges : List (List ℕ)) (ones ones_view leading leading_view : List ℕ) (named view : List (List ℕ)) (stirred : List ℕ) → AreSources s
+    → AreMerged (view_in s) (program_in s) sigs → length moved ≡ length s.root.modules → AreImports (view_in s) (paths_in s) edges → AreExactly (IsOn moved) ones → ones_view ≡ ones → AreExactly (LeadsToTouched edges ones_view) leading
+    → leading_view ≡ leading → AreStepsOf (Names (sigs_by s sigs)) (paths_in s) leading_view named → view ≡ named → AreExactly (LeadsToTouched view ones_view) stirred → AreExactly (IsStirred s sigs moved) stirred
+stirred_all law s sigs moved edges ones ones_view leading leading_view named view stirred sources signed many imports on same_ones leads same_leading are same_named exactly =
+    let low = flags_low s moved ones ones_view (length s.root.modules) many on same_ones refl in
+    are_stirred s sigs leading named sources (subst (λ (l : List ℕ). AreStepsOf (Names (sigs_by s sigs)) (paths_in s) l named) same_leading are) law signed ones_view (are_to_merge s edges ones_view leading sources imports low leads) moved stirred many
+    (subst (AreExactly (IsOn moved)) (sym same_ones) on) (subst (λ (es : List (List ℕ)). AreExactly (LeadsToTouched es ones_view) stirred) same_named exactly)
 
 pub checked_all : (s : Sources) (sigs : List Sig) (moved : List Bool) (edges : List (List ℕ)) (changed stirred view all : List ℕ) → AreImports (view_in s) (paths_in s) edges → AreExactly (IsStirred s sigs moved) stirred → view ≡ stirred
     → AreExactly (IsToCheck edges changed view) all → AreExactly (IsToCheckIn s sigs moved changed) all
@@ -95,30 +161,6 @@ checked_all s sigs moved edges changed stirred view all imports stirs same check
       sound = λ x has. elim (check.sound x has) [ inl own ↦ inl own | inr finds ↦ inr (finds.0, imports.sound x finds.0 finds.1, are.sound finds.0 finds.2) ];
       complete = λ x is. check.complete x (elim is [ inl own ↦ inl own | inr finds ↦ inr (finds.0, imports.complete x finds.0 finds.1, are.complete finds.0 finds.2) ]);
     }
-
--- each name ends at a number that has names
-pub within_steps : (s : Sources) (sigs : List Sig) (named view : List (List ℕ)) → AreSteps (Names (sigs_by s sigs)) (paths_in s) named → view ≡ named → AreWithin view
-within_steps s sigs named view are same = subst AreWithin (sym same) (lists named (λ x ys y at has. (
-    let st = are.sound x y (ys, at, has) in
-    let low = within_there (paths_in s) y st.other st.at_other in
-    let len = are.len in omega arith)))
-  where
-    lists : (all : List (List ℕ)) → ((x : ℕ) (ys : List ℕ) (y : ℕ) → slice_get all x ≡ Some ys → Has ys y → y < length named) → All (λ ys. All (λ y. y < length named) ys) all
-    lists all each = has_lists all (λ x ys at. has_all (λ (y : ℕ). y < length named) ys (λ y has. each x ys y at has))
-      where
-        has_lists : (all : List (List ℕ)) → ((x : ℕ) (ys : List ℕ) → slice_get all x ≡ Some ys → All (λ y. y < length named) ys) → All (λ ys. All (λ y. y < length named) ys) all
-        has_lists all each = All-from_get_or (λ (ys : List ℕ). All (λ y. y < length named) ys) all [] (λ i low. each i (get_or all i []) (place_at all i [] low))
-
-pub few_steps : (s : Sources) (sigs : List Sig) (named view : List (List ℕ)) → AreSteps (Names (sigs_by s sigs)) (paths_in s) named → view ≡ named → length s.root.modules < 2 ^ 32 → length view < 2 ^ 32
-few_steps s sigs named view are same few = let e : length view ≡ length named = ap length same in let len = are.len in let many = as_many s in omega arith
-
--- the numbers of flags are those of names
-pub ones_low : (s : Sources) (sigs : List Sig) (named view : List (List ℕ)) (moved : List Bool) (ones ones_view : List ℕ) → AreSteps (Names (sigs_by s sigs)) (paths_in s) named → view ≡ named → length moved ≡ length s.root.modules
-    → AreExactly (IsOn moved) ones → ones_view ≡ ones → All (λ t. t < length view) ones_view
-ones_low s sigs named view moved ones ones_view are same many on same_ones =
-    has_all (λ (t : ℕ). t < length view) ones_view (λ t has. (
-    let low = within_there moved t true (on.sound t (subst (λ (l : List ℕ). Has l t) same_ones has)) in
-    let e : length view ≡ length named = ap length same in let len = are.len in let all = as_many s in omega arith))
 
 -- those that lead along names are modules
 pub stirred_low : (s : Sources) (sigs : List Sig) (moved : List Bool) (edges : List (List ℕ)) (stirred view : List ℕ) → AreImports (view_in s) (paths_in s) edges → AreExactly (IsStirred s sigs moved) stirred → view ≡ stirred

@@ -1,5 +1,6 @@
 pub mod Checks
 pub mod Fresh
+pub mod Imported
 pub mod Leads
 pub mod Listed
 pub mod Moved

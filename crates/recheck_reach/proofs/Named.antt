@@ -1,11 +1,14 @@
 -- The numbers of the modules that signatures name.
-use Rattle.std.proofs.Common.{◌≡◌, ◌⊎◌, ℕ, suc, ◌+◌, ◌<◌, Bool, true, false, List, [], ◌∷◌, ◌++◌, length, take, get_or, slice_get, Option, Some, None, refl, sym, ap, ◌∙◌, subst, inl, inr, arith, bytes_eq}
+use Rattle.std.proofs.Common.{◌≡◌, ◌≢◌, ◌⊎◌, ℕ, suc, ◌+◌, ◌<◌, ◌≤◌, Bool, true, false, List, [], ◌∷◌, ◌++◌, All, length, take, set, replicate, get_or, slice_get, Option, Some, None, refl, sym, ap, ◌∙◌, subst, inl, inr, arith, bytes_eq, length-set}
 use Rattle.std.specs.Prelude.{◌||◌}
 use Rattle.std.specs.Cmp.Lexicographic.{bytes_decides}
 use Rattle.std.proofs.lemmas.Bool.{cases_lt}
+use Rattle.std.proofs.lemmas.List.{length-replicate}
+use mathlib.Core.Logic.{dite}
+use native.Mathlib.Decide.{ℕ_discrete}
 use Rattle.flow_base.specs.Program.{Bytes}
 use Rattle.flow_values.specs.Path.{IsRising}
-use Rattle.heap_core.proofs.Lists.{get_index, get_there}
+use Rattle.heap_core.proofs.Lists.{get_index, get_there, at_put, put_here, put_else}
 use Rattle.check_values.specs.Rows.{is_among}
 use Rattle.check_values.specs.Roots as roots
 use Rattle.check_values.specs.declared.root.Root.{Root}
@@ -13,21 +16,23 @@ use Rattle.check_values.specs.declared.root.RootRow.{RootRow}
 use Rattle.check_values.specs.declared.signatures.Sig.{Sig}
 use Rattle.dep_lists.specs.Looking.{IsPlaceOf}
 use Rattle.graph_search.specs.Cycles.{Has, Edge}
-use Rattle.graph_search.proofs.Lists.{has_none}
+use Rattle.graph_search.proofs.Lists.{has_none, has_more, earlier, this, take_whole}
+use Rattle.graph_search.proofs.Fills.{get-replicate}
 use Rattle.merged_signatures.specs.Reach.{paths_named}
 use Rattle.recheck_merging.specs.recheck_law.specs.Names.{Names}
-use Rattle.recheck_merging.specs.path_numbers.specs.Ways.{IsStep, AreSteps}
+use Rattle.recheck_merging.specs.path_numbers.specs.Ways.{IsStep}
 use Rattle.recheck_merging.specs.check_phases.specs.Sourced.{program_in, paths_in, AreSources}
 use Rattle.recheck_merging.specs.check_phases.specs.Whole.{sigs_by}
 use Rattle.recheck_merging.specs.check_phases.specs.declared.merging.Sources.{Sources}
 use Rattle.recheck_merging.specs.check_phases.proofs.Edges.{among}
-use Rattle.recheck_merging.specs.check_phases.proofs.Jobs.{beside_at, zip_at}
-use Rattle.recheck_merging.specs.check_phases.proofs.Lists.{one_value, within_there, zip_more, zip_whole, zip_length}
+use Rattle.recheck_merging.specs.check_phases.proofs.Jobs.{beside_at}
+use Rattle.recheck_merging.specs.check_phases.proofs.Lists.{one_value, within_there}
 use Rattle.recheck_merging.specs.check_phases.proofs.Merges.{beside_get, path_get}
 use Rattle.recheck_merging.specs.Rows.{IsFoundAt, AddsFound}
 use Rattle.recheck_merging.proofs.Finds.{finds_missing, finds_one}
 use Rattle.recheck_merging.proofs.Imported.{as_many, low_path, rising_program}
-use Rattle.recheck_reach.specs.Named.{IsNumberOf, FollowPaths, FollowNames, FollowAllNames}
+use Rattle.recheck_reach.specs.Named.{IsNumberOf, FollowPaths, FollowNames, NamesNumber, FollowNamesOf, AreStepsOf}
+use Rattle.recheck_reach.proofs.Moved.{merged_low}
 
 -- ---- the number of a path
 
@@ -72,16 +77,57 @@ paths_done paths some i numbers whole follow = subst (λ (n : ℕ). FollowPaths 
 pub names_done : (paths : List Bytes) (sig : Sig) (named view : List Bytes) (numbers : List ℕ) → named ≡ paths_named sig → view ≡ named → FollowPaths paths view (length view) numbers → FollowNames paths sig numbers
 names_done paths sig named view numbers is same follow = subst (λ (l : List Bytes). FollowPaths paths l (length l) numbers) (same ∙ is) follow
 
--- ---- all signatures
+-- ---- the signatures of some numbers
 
-pub more_names : (paths : List Bytes) (sigs : List Sig) (i : ℕ) (sig mine : Sig) (numbers : List ℕ) (old new : List (List ℕ)) → i < length sigs → sig ≡ get_or sigs i sig → mine ≡ sig → FollowAllNames paths (take i sigs) old → FollowNames paths mine numbers
-    → new ≡ old ++ numbers ∷ [] → FollowAllNames paths (take (i + 1) sigs) new
-more_names paths sigs i sig mine numbers old new low is same so_far follow pushed =
-    subst (λ (l : List (List ℕ)). FollowAllNames paths (take (i + 1) sigs) l) (sym pushed)
-    (zip_more (FollowNames paths) sigs old i sig numbers so_far (get_index sigs i sig low is) (subst (λ (s : Sig). FollowNames paths s numbers) same follow))
+module _ (paths : List Bytes) (sigs : List Sig) where
+  pub none_named : (numbers : List ℕ) (named : List (List ℕ)) → named ≡ replicate (length sigs) [] → FollowNamesOf paths sigs (take 0 numbers) named
+  none_named numbers named is = record {
+    len = ap length is ∙ length-replicate (length sigs) [];
+    sound = λ x y edge. absurd (
+        let none = get-replicate (length sigs) x [] edge.0 (ap (λ (l : List (List ℕ)). slice_get l x) (sym is) ∙ edge.1) in
+        has_none y (subst (λ (l : List ℕ). Has l y) none edge.2));
+    complete = λ x y has. absurd (has_none x has);
+  }
 
-pub whole_names : (paths : List Bytes) (sigs : List Sig) (named : List (List ℕ)) → FollowAllNames paths (take (length sigs) sigs) named → FollowAllNames paths sigs named
-whole_names paths sigs named all = zip_whole (FollowNames paths) sigs named all
+  module _ (numbers : List ℕ) (i : ℕ) (old : List (List ℕ)) (sig : Sig) (ys : List ℕ) (low : i < length numbers) (at_sig : slice_get sigs (get_or numbers i 0) ≡ Some sig) (follow : FollowNames paths sig ys)
+      (told : FollowNamesOf paths sigs (take i numbers) old) where
+    abbrev number : ℕ
+    number = get_or numbers i 0
+
+    abbrev now : List (List ℕ)
+    now = set old number ys
+
+    here : slice_get now number ≡ Some ys
+    here = put_here old number ys (let small = within_there sigs number sig at_sig in let m = told.len in omega arith)
+
+    sound_now : (x y : ℕ) → Edge now x y → Has (take (i + 1) numbers) x × NamesNumber paths sigs x y
+    sound_now x y edge = elim (at_put old number x ys edge.0 edge.1) [
+      | inl own ↦
+          let named : IsNumberOf paths (paths_named sig) (length (paths_named sig)) y = follow.sound y (subst (λ (l : List ℕ). Has l y) (sym own.1) edge.2) in
+          (subst (Has (take (i + 1) numbers)) (sym own.0) (this numbers i low), (sig, ap (slice_get sigs) own.0 ∙ at_sig, named))
+      | inr else ↦ let was = told.sound x y (edge.0, else.1, edge.2) in (earlier numbers i x was.0, was.1)
+    ]
+
+    complete_now : (x y : ℕ) → Has (take (i + 1) numbers) x → NamesNumber paths sigs x y → Edge now x y
+    complete_now x y has names = dite (ℕ_discrete x number)
+        (λ (same : x ≡ number).
+        let is : names.0 ≡ sig = one_value names.0 sig (sym names.1 ∙ (ap (slice_get sigs) same ∙ at_sig)) in
+        (ys, ap (slice_get now) same ∙ here, follow.complete y (subst (λ (g : Sig). IsNumberOf paths (paths_named g) (length (paths_named g)) y) is names.2)))
+        (λ (ne : x ≢ number). elim (has_more numbers i x has) [
+          | inl before ↦ let was = told.complete x y before names in (was.0, put_else old number x ys ne ∙ was.1, was.2)
+          | inr next ↦ absurd (ne (sym next))
+        ])
+
+    named_one : FollowNamesOf paths sigs (take (i + 1) numbers) now
+    named_one = record { len = length-set old number ys ∙ told.len; sound = sound_now; complete = complete_now }
+
+  pub whole_named : (numbers : List ℕ) (i : ℕ) (named : List (List ℕ)) → length numbers ≤ i → FollowNamesOf paths sigs (take i numbers) named → FollowNamesOf paths sigs numbers named
+  whole_named numbers i named all told = subst (λ (l : List ℕ). FollowNamesOf paths sigs l named) (take_whole numbers i all) told
+
+pub more_named : (paths : List Bytes) (sigs : List Sig) (numbers : List ℕ) (i : ℕ) (sig mine : Sig) (ys : List ℕ) (old : List (List ℕ)) → All (λ x. x < length sigs) numbers → i < length numbers → sig ≡ get_or sigs (get_or numbers i 0) sig → mine ≡ sig
+    → FollowNames paths mine ys → FollowNamesOf paths sigs (take i numbers) old → FollowNamesOf paths sigs (take (i + 1) numbers) (set old (get_or numbers i 0) ys)
+more_named paths sigs numbers i sig mine ys old within low is same follow told =
+    named_one paths sigs numbers i old sig ys low (get_index sigs (get_or numbers i 0) sig (merged_low numbers (length sigs) i within low) is) (subst (λ (g : Sig). FollowNames paths g ys) same follow) told
 
 -- ---- they are the names from module to module
 
@@ -101,43 +147,39 @@ module _ (s : Sources) (sigs : List Sig) (sources : AreSources s) where
       let same : m.0.path ≡ path = one_value m.0.path path (sym (path_get s.root.modules x m.0 m.1) ∙ at_path) in
       ap (sigs_by s sigs) (sym same) ∙ beside_at (program_in s) sigs x (m.0.path, sig) (rising_program s sources) (beside_get s.root.modules sigs x m.0 sig m.1 at_sig)
 
-  module _ (many : length sigs ≡ length s.root.modules) (named : List (List ℕ)) (follow : FollowAllNames (paths_in s) sigs named) where
-    many_named : length named ≡ length s.root.modules
-    many_named = zip_length (FollowNames (paths_in s)) sigs named follow ∙ many
+  module _ (many : length sigs ≡ length s.root.modules) (numbers : List ℕ) (named : List (List ℕ)) (follow : FollowNamesOf (paths_in s) sigs numbers named) where
+    abbrev NamesAt : ℕ → ℕ → Type 0
+    NamesAt = IsStep (Names (sigs_by s sigs)) (paths_in s)
 
-    numbers_at : (x : ℕ) (sig : Sig) → slice_get sigs x ≡ Some sig → (ys : List ℕ) × (slice_get named x ≡ Some ys) × FollowNames (paths_in s) sig ys
-    numbers_at x sig at = zip_at (FollowNames (paths_in s)) sigs named x sig follow at
-
-    sound : (x y : ℕ) → Edge named x y → IsStep (Names (sigs_by s sigs)) (paths_in s) x y
+    sound : (x y : ℕ) → Edge named x y → Has numbers x × NamesAt x y
     sound x y edge =
-        let low = within_there named x edge.0 edge.1 in
-        let all = many_named in
-        let paths = as_many s in
-        let sig = get_there sigs x (omega arith) in
-        let path = get_there (paths_in s) x (omega arith) in
-        let here = numbers_at x sig.0 sig.1 in
-        let same : edge.0 ≡ here.0 = one_value edge.0 here.0 (sym edge.1 ∙ here.1) in
-        let by = here.2.sound y (subst (λ (l : List ℕ). Has l y) same edge.2) in
-        record {
-          path = path.0;
-          other = by.1;
-          at_path = path.1;
-          at_other = by.4;
-          step = (sig.0, sig_at x path.0 sig.0 path.1 sig.1, among (paths_named sig.0) by.0 by.1 by.3);
-        }
+        let it = follow.sound x y edge in
+        let sig = it.1.0 in
+        let by = it.1.2 in
+        let low = within_there sigs x sig it.1.1 in
+        let all = as_many s in
+        let path = get_there (paths_in s) x (omega arith) in (
+          it.0,
+          record {
+            path = path.0;
+            other = by.1;
+            at_path = path.1;
+            at_other = by.4;
+            step = (sig, sig_at x path.0 sig path.1 it.1.1, among (paths_named sig) by.0 by.1 by.3);
+          },
+        )
 
-    complete : (x y : ℕ) → IsStep (Names (sigs_by s sigs)) (paths_in s) x y → Edge named x y
-    complete x y st =
+    complete : (x y : ℕ) → Has numbers x → NamesAt x y → Edge named x y
+    complete x y has st =
         let low = low_path s x st.path st.at_path in
         let sig = get_there sigs x (omega arith) in
-        let here = numbers_at x sig.0 sig.1 in
         let same : sig.0 ≡ st.step.0 = one_value sig.0 st.step.0 (sym (sig_at x st.path sig.0 st.at_path sig.1) ∙ st.step.1) in
         let k = place_among (paths_named sig.0) st.other (ap (λ (t : Sig). is_among (paths_named t) st.other) same ∙ st.step.2) in
-        (here.0, here.1, here.2.complete y (k.0, st.other, within_there (paths_named sig.0) k.0 st.other k.1, k.1, st.at_other))
+        follow.complete x y has (sig.0, sig.1, (k.0, st.other, within_there (paths_named sig.0) k.0 st.other k.1, k.1, st.at_other))
 
-    steps : AreSteps (Names (sigs_by s sigs)) (paths_in s) named
-    steps = record { len = many_named ∙ sym (as_many s); sound = sound; complete = complete }
+    steps : AreStepsOf (Names (sigs_by s sigs)) (paths_in s) numbers named
+    steps = record { len = follow.len ∙ (many ∙ sym (as_many s)); sound = sound; complete = complete }
 
-pub are_steps : (s : Sources) (root : Root) (sigs : List Sig) (named : List (List ℕ)) → AreSources s → length sigs ≡ length s.root.modules → root ≡ s.root → FollowAllNames (roots.paths_of root) sigs named
-    → AreSteps (Names (sigs_by s sigs)) (paths_in s) named
-are_steps s root sigs named sources many same follow = steps s sigs sources many named (subst (λ (r : Root). FollowAllNames (roots.paths_of r) sigs named) same follow)
+pub are_steps : (s : Sources) (root : Root) (sigs : List Sig) (numbers : List ℕ) (named : List (List ℕ)) → AreSources s → length sigs ≡ length s.root.modules → root ≡ s.root → FollowNamesOf (roots.paths_of root) sigs numbers named
+    → AreStepsOf (Names (sigs_by s sigs)) (paths_in s) numbers named
+are_steps s root sigs numbers named sources many same follow = steps s sigs sources many numbers named (subst (λ (r : Root). FollowNamesOf (roots.paths_of r) sigs numbers named) same follow)

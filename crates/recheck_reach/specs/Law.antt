@@ -1,12 +1,17 @@
--- That the signatures outside of a plan are the old ones, and which paths are parsed and checked.
-use Rattle.std.specs.Prelude.{◌≡◌, ℕ, Bool, List, length, count_by, Option}
+-- That the signatures outside of a plan are the old ones, what signatures name, and which paths are parsed and checked.
+use Rattle.std.specs.Prelude.{◌≡◌, ℕ, Bool, true, List, length, count_by, Option, Some}
 use Rattle.flow_values.specs.Path.{IsRising}
 use Rattle.flow_base.specs.Program.{Bytes}
 use Rattle.check_values.specs.Roots.{paths_of}
+use Rattle.check_values.specs.Rows.{is_among}
 use Rattle.check_values.specs.declared.root.Root.{Root}
 use Rattle.check_values.specs.declared.signatures.Sig.{Sig}
 use Rattle.graph_search.specs.Cycles.{IsOn}
 use Rattle.graph_search.specs.Reach as reach
+use Rattle.merged_signatures.specs.Chains.{View}
+use Rattle.merged_signatures.specs.Imports.{Imports}
+use Rattle.merged_signatures.specs.Merged.{merged}
+use Rattle.merged_signatures.specs.Reach.{paths_named}
 use Rattle.recheck_merging.specs.program_check.specs.Full as full
 use Rattle.recheck_merging.specs.program_check.specs.Full.{Results, IsFull}
 use Rattle.recheck_sources.specs.affected_law.specs.Affected.{Differs, Parsed, Checked}
@@ -34,6 +39,10 @@ RestIsSame =
     (was : Made) (s : Sources) (from : List (Option ℕ)) (touched : List ℕ) (p : MergePlan) (sigs : List Sig) → AreMade was → AreSources s
     → ComeFrom was.sources s from → AreTouched was.sources s from touched → IsPlanOf s touched p → AreMerged (view_in s) (program_in s) sigs
     → IsSameOutside was.signatures.items from p.merged sigs
+
+-- A merged signature names only modules to which the imports of its module lead.
+abbrev pub NamedIsImported : Type 0
+NamedIsImported = (v : View) (path other : Bytes) (s : Sig) → merged v path ≡ Some s → is_among (paths_named s) other ≡ true → Imports v path other
 
 -- Merging sees the modules as any full check of their program has them,
 abbrev pub SeenAsChecked : Type 0

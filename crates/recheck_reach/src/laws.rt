@@ -1,5 +1,5 @@
 //! The laws of what is kept and what is checked, as the contracts of calls that do nothing.
-ghost use Rattle.recheck_reach.specs.Law.{RestIsSame, CheckedAreOfChecked, UnmovedAreChanged, ParsedAreFresh, DiffersAreTouched, SeenAsChecked, SignedAsChecked};
+ghost use Rattle.recheck_reach.specs.Law.{RestIsSame, NamedIsImported, CheckedAreOfChecked, UnmovedAreChanged, ParsedAreFresh, DiffersAreTouched, SeenAsChecked, SignedAsChecked};
 
 /// Outside of the plan of what is touched, the merged signatures are the old ones.
 pub fn rest_is_same()
@@ -7,6 +7,11 @@ pub fn rest_is_same()
 {
     recheck_merging::kept_are_right();
 }
+
+/// A merged signature names only modules to which the imports of its module lead.
+pub fn names_are_imported()
+    ensures { NamedIsImported }
+{}
 
 /// The modules that are to be checked, by what changed and what moved, are the paths that an edit may give other errors.
 pub fn checked_are_of_checked()

@@ -9,8 +9,8 @@ mod naming;
 mod reaching;
 
 pub use laws::{
-    checked_are_of_checked, checks_are_of_sources, differs_are_touched, parsed_are_fresh,
-    rest_is_same, unmoved_are_changed,
+    checked_are_of_checked, checks_are_of_sources, differs_are_touched, names_are_imported,
+    parsed_are_fresh, rest_is_same, unmoved_are_changed,
 };
 pub use moving::{any_moved, moved_signatures};
 pub use reaching::checked_modules;

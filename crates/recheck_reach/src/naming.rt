@@ -1,13 +1,12 @@
 //! Which modules the merged signatures name, by numbers.
-ghost use Rattle.std.specs.Prelude.{◌≡◌, ◌<◌, ◌^◌, IfOk, OnOk, length, Some};
+ghost use Rattle.std.specs.Prelude.{◌≡◌, ◌<◌, ◌+◌, ◌^◌, [], All, IfOk, OnOk, length, replicate, take, Some};
 ghost use Rattle.flow_values.specs.Path.{IsRising};
 ghost use Rattle.check_values.specs.Roots.{paths_of};
 ghost use Rattle.recheck_merging.specs.recheck_law.specs.Names.{Names};
-ghost use Rattle.recheck_merging.specs.path_numbers.specs.Ways.{AreSteps};
 ghost use Rattle.recheck_merging.specs.check_phases.specs.Sourced.{AreSources, paths_in};
 ghost use Rattle.recheck_merging.specs.check_phases.specs.Whole.{sigs_by};
 ghost use Rattle.recheck_merging.specs.Rows.{AddsFound};
-ghost use Rattle.recheck_reach.specs.Named.{FollowPaths, FollowNames, FollowAllNames};
+ghost use Rattle.recheck_reach.specs.Named.{FollowPaths, FollowNames, FollowNamesOf, AreStepsOf};
 
 use check_values::{Root, Sig};
 use flow_values::{List, NoMemory, Path, Shared};
@@ -56,27 +55,62 @@ fn numbers_named(alloc: Global, root: &Root, signature: &Sig) -> Result<List<u32
     Ok(numbers)
 }
 
-// The numbers of the modules that each signature names.
-#[tactic(auto, using(crate::proofs::Named::more_names, crate::proofs::Named::whole_names))]
-fn named_by(
-    alloc: Global,
-    root: &Root,
-    signatures: &[Shared<Sig>],
-) -> Result<Vec<List<u32>>, NoMemory>
-    requires rising { IsRising (paths_of root.now) }
-    requires few { length root.now.modules < 2 ^ 32 }
-    ensures { IfOk result (λ named. FollowAllNames (paths_of root.now) signatures.now named.items) }
+// So many empty lists.
+fn no_names(alloc: Global, count: usize) -> Result<Vec<List<u32>>, NoMemory>
+    ensures { IfOk result (λ named. named.items ≡ replicate count []) }
 {
     let mut named = Vec::new(alloc);
-    for i in 0..signatures.len() {
-        let signature = &signatures[i];
-        named.push(numbers_named(alloc, root, signature.get())?)?;
+    while named.len() < count {
+        named.push(List::new(alloc))?;
     }
     Ok(named)
 }
 
-/// For each module the numbers of the modules that its merged signature names. It takes time in proportion to the signatures, with a
-/// search by halving for each name.
+// Tells of one more number what its signature names.
+#[tactic(auto, using(crate::proofs::Moved::merged_low, crate::proofs::Named::more_named))]
+fn tell_names(
+    alloc: Global,
+    root: &Root,
+    signatures: &[Shared<Sig>],
+    numbers: &[u32],
+    i: usize,
+    named: &mut Vec<List<u32>>,
+) -> Result<(), NoMemory>
+    requires rising { IsRising (paths_of root.now) }
+    requires few { length root.now.modules < 2 ^ 32 }
+    requires within { All (λ x. x < length signatures.now) numbers.now }
+    requires low { i < length numbers.now }
+    requires told { FollowNamesOf (paths_of root.now) signatures.now (take i numbers.now) named.old.items }
+    ensures { OnOk result (FollowNamesOf (paths_of root.now) signatures.now (take (i + 1) numbers.now) named.new.items) }
+{
+    let x = numbers[i] as usize;
+    let signature = &signatures[x];
+    named[x] = numbers_named(alloc, root, signature.get())?;
+    Ok(())
+}
+
+// The numbers of the modules that the signatures of these numbers name.
+#[tactic(auto, using(crate::proofs::Named::none_named, crate::proofs::Named::whole_named))]
+fn named_by(
+    alloc: Global,
+    root: &Root,
+    signatures: &[Shared<Sig>],
+    numbers: &[u32],
+) -> Result<Vec<List<u32>>, NoMemory>
+    requires rising { IsRising (paths_of root.now) }
+    requires few { length root.now.modules < 2 ^ 32 }
+    requires within { All (λ x. x < length signatures.now) numbers.now }
+    ensures { IfOk result (λ named. FollowNamesOf (paths_of root.now) signatures.now numbers.now named.items) }
+{
+    let mut named = no_names(alloc, signatures.len())?;
+    for i in 0..numbers.len() {
+        tell_names(alloc, root, signatures, numbers, i, &mut named)?;
+    }
+    Ok(named)
+}
+
+/// For each module the numbers of the modules that its merged signature names, where it is among these; for any other none. It takes time
+/// in proportion to the signatures of these, with a search by halving for each name, and to the number of all modules.
 ///
 /// # Errors
 ///
@@ -86,12 +120,14 @@ pub(crate) fn names_of(
     alloc: Global,
     sources: &Sources,
     signatures: &[Shared<Sig>],
+    numbers: &[u32],
 ) -> Result<Vec<List<u32>>, NoMemory>
     requires sources { AreSources sources.now }
     requires few { length sources.now.root.modules < 2 ^ 32 }
     requires many { length signatures.now ≡ length sources.now.root.modules }
-    ensures { IfOk result (λ named. AreSteps (Names (sigs_by sources.now signatures.now)) (paths_in sources.now) named.items) }
+    requires within { All (λ x. x < length signatures.now) numbers.now }
+    ensures { IfOk result (λ named. AreStepsOf (Names (sigs_by sources.now signatures.now)) (paths_in sources.now) numbers.now named.items) }
 {
-    let named = named_by(alloc, sources.root.get(), signatures)?;
+    let named = named_by(alloc, sources.root.get(), signatures, numbers)?;
     Ok(named)
 }

@@ -33,6 +33,9 @@ module _ (b : Base) (m : Merging) (base : IsBase b) (is : IsMerging b m) (past :
   pub few_modules : length m.listed.sources.root.modules < 2 ^ 32
   few_modules = (let few = base.new_few in let many = ap (λ (r : Root). length r.modules) is.listed.root in omega (arith, few, many))
 
+  pub merged_all : AreMerged (view_in m.listed.sources) (program_in m.listed.sources) all
+  merged_all = signatures_merged b m base is past law make all mine
+
   pub many_all : length all ≡ length m.listed.sources.root.modules
   many_all = many_signatures b m base is past law make all mine
 
@@ -91,7 +94,7 @@ module _ (b : Base) (m : Merging) (base : IsBase b) (is : IsMerging b m) (past :
                 parses = is.listed.parses;
                 lists = subst (λ (v : Vec Bool). TellsOthers b.was.sources.lists.items b.from.items m.listed.sources.lists.items v.items) (sym is_relisted) is.listed.lists;
               };
-              merged = subst (AreMerged (view_in m.listed.sources) (program_in m.listed.sources)) own (signatures_merged b m base is past law make all mine);
+              merged = subst (AreMerged (view_in m.listed.sources) (program_in m.listed.sources)) own merged_all;
               moved = subst (λ (l : List Bool). TellsOthers b.was.signatures.items b.from.items signatures.items l) (sym is_moved) (subst (λ (l : List Sig). TellsOthers b.was.signatures.items b.from.items l moved) own tells_here);
               to_check = are_affected;
               signed = subst (λ (l : List Sig). AreSigned m.listed.sources l signed) own are_signed;

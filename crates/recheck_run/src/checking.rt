@@ -5,7 +5,8 @@ ghost use Rattle.recheck_plan.specs.Affected.{AreExactly};
 ghost use Rattle.recheck_reach.specs.Checked.{IsToCheckIn};
 ghost use Rattle.graph_search.specs.Reach.{IsRising};
 ghost use Rattle.recheck_reach.specs.affected_sizes.specs.Polls.{AreImports};
-ghost use Rattle.recheck_reach.specs.check_phases.specs.Sourced.{AreSources, paths_in, view_in};
+ghost use Rattle.recheck_reach.specs.check_phases.specs.Phases.{AreMerged};
+ghost use Rattle.recheck_reach.specs.check_phases.specs.Sourced.{AreSources, program_in, paths_in, view_in};
 ghost use Rattle.recheck_run.specs.Stages.{IsBase, IsMerging, IsChecking};
 ghost use Rattle.recheck_run.specs.Steps.{IsAlso};
 ghost use Rattle.recheck_run.specs.declared.stages.Stage.TheVariants as stage;
@@ -30,7 +31,7 @@ fn to_check(
 ) -> Result<List<u32>, NoMemory>
     requires sources { AreSources listed.now.sources }
     requires few { length listed.now.sources.root.modules < 2 ^ 32 }
-    requires signatures { length signatures.now ≡ length listed.now.sources.root.modules }
+    requires merged { AreMerged (view_in listed.now.sources) (program_in listed.now.sources) signatures.now }
     requires moved { length moved.now ≡ length listed.now.sources.root.modules }
     requires edges { (x : ℕ) → IsOn moved.now x → AreImports (view_in listed.now.sources) (paths_in listed.now.sources) edges.now }
     requires rising { IsRising listed.now.changed }

@@ -1,7 +1,7 @@
 use Rattle.std.proofs.Common.{refl}
 use Rattle.recheck_run.proofs.Goes.{checks_begin}
 use Rattle.recheck_run.proofs.Planned.{filled}
-use Rattle.recheck_run.proofs.Begun.{few_modules, many_all, changed_low, from_all, plan_low, rest_here, many_moved, edges_here, affected_here, numbers_low, checking_is}
+use Rattle.recheck_run.proofs.Begun.{few_modules, merged_all, many_all, changed_low, from_all, plan_low, rest_here, many_moved, edges_here, affected_here, numbers_low, checking_is}
 use Rattle.recheck_run.proofs.checking.begin_checks.Goals as goal
 
 pub whole_signatures-requires : goal.whole_signatures-requires
@@ -26,9 +26,9 @@ pub to_check-requires-clause-few : goal.to_check-requires-clause-few
 to_check-requires-clause-few c =
     few_modules c.args.base.now c.args.merging c.requires.base c.requires.merging c.requires.all c.reach_laws.ensures.touched c.waves_make_all.ensures c.in_ok-signatures.signatures.items c.in_ok-signatures.ensures c.as_slice-all.result.now c.as_slice-all.ensures.value
 
-pub to_check-requires-clause-signatures : goal.to_check-requires-clause-signatures
-to_check-requires-clause-signatures c =
-    many_all c.args.base.now c.args.merging c.requires.base c.requires.merging c.requires.all c.reach_laws.ensures.touched c.waves_make_all.ensures c.in_ok-signatures.signatures.items c.in_ok-signatures.ensures c.as_slice-all.result.now c.as_slice-all.ensures.value
+pub to_check-requires-clause-merged : goal.to_check-requires-clause-merged
+to_check-requires-clause-merged c =
+    merged_all c.args.base.now c.args.merging c.requires.base c.requires.merging c.requires.all c.reach_laws.ensures.touched c.waves_make_all.ensures c.in_ok-signatures.signatures.items c.in_ok-signatures.ensures c.as_slice-all.result.now c.as_slice-all.ensures.value
 
 pub to_check-requires-clause-moved : goal.to_check-requires-clause-moved
 to_check-requires-clause-moved c =
