@@ -3,7 +3,6 @@ use Rattle.std.proofs.Common.{◌≡◌, ℕ, suc, Bool, true, false, List, [], 
 use Rattle.std.proofs.lemmas.List.{length-map}
 use Rattle.flow_base.specs.Program.{Bytes, Program}
 use Rattle.heap_core.specs.Meaning.{names}
-use Rattle.check_values.specs.Rows.{Rows, row_at}
 use Rattle.check_values.specs.declared.faults.Errs.{Errs}
 use Rattle.check_values.specs.declared.signatures.Deps.{Deps}
 use Rattle.check_values.specs.declared.signatures.Sig.{Sig}
@@ -13,16 +12,16 @@ use Rattle.errors_by_reach.specs.Law.{HasErrors}
 use Rattle.recheck_merging.specs.check_job.specs.Jobs.{source_in}
 use Rattle.recheck_merging.specs.check_phases.specs.Phases.{AreChecked, IsCheckedAt}
 use Rattle.recheck_merging.specs.check_phases.specs.Sourced.{program_in}
+use Rattle.recheck_merging.specs.check_phases.specs.Whole.{sigs_by}
 use Rattle.recheck_merging.specs.check_phases.specs.declared.merging.Sources.{Sources}
 use Rattle.recheck_merging.specs.check_phases.proofs.Lists.{one_value, within_there}
 use Rattle.recheck_merging.specs.check_phases.proofs.Waves.{named_has, has_named}
 use Rattle.recheck_merging.proofs.Mapped.{get_mapped}
 use Rattle.recheck_checking.specs.Keeping.{IsFilled, AreFilled}
 use Rattle.recheck_checking.specs.Checking.{AreCheckedTo, AllAreChecked}
-use Rattle.recheck_checking.specs.declared.signing.Signed.{Signed}
 
-all_filled : (s : Sources) (signed : Signed) (checked : List ℕ) (slots : List (Option Errs)) → AreCheckedTo s signed checked (length checked) slots → AreFilled slots
-all_filled s signed checked slots to x low = go (names checked x) refl
+all_filled : (s : Sources) (sigs : List Sig) (checked : List ℕ) (slots : List (Option Errs)) → AreCheckedTo s sigs checked (length checked) slots → AreFilled slots
+all_filled s sigs checked slots to x low = go (names checked x) refl
   where
     go : (b : Bool) → names checked x ≡ b → IsFilled slots x
     go false outside = to.kept x (let many = to.many in omega arith) (λ has. let z : false ≡ true = sym outside ∙ has_named checked x has in cc)
@@ -54,12 +53,10 @@ each_checked sigs (m ∷ program) (p ∷ parses) (d ∷ lists) (e ∷ errors) ea
     )
 
 pub all_are_checked : AllAreChecked
-all_are_checked s sigs signed checked slots sources are to = (
-  all_filled s signed checked slots to,
+all_are_checked s sigs checked slots sources to = (
+  all_filled s sigs checked slots to,
   λ errors is. record {
-    checked = subst (λ (rows : Rows Sig). AreChecked (row_at rows) (program_in s) s.parses.items s.lists.items errors) are.rows
-        (each_checked (row_at signed.rows) (program_in s) s.parses.items s.lists.items errors
-        (λ x e at. to.right x e (ap (λ (l : List (Option Errs)). slice_get l x) (sym is) ∙ get_mapped Some errors x e at)));
+    checked = each_checked (sigs_by s sigs) (program_in s) s.parses.items s.lists.items errors (λ x e at. to.right x e (ap (λ (l : List (Option Errs)). slice_get l x) (sym is) ∙ get_mapped Some errors x e at));
     many = sym (length-map errors Some) ∙ (ap length is ∙ to.many);
   },
 )

@@ -7,4 +7,4 @@ pub mod Old
 pub mod Puts
 pub mod Rightly
 pub mod Sees
-pub mod Signs
+pub mod Signed

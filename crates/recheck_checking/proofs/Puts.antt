@@ -7,6 +7,7 @@ use Rattle.heap_core.proofs.Lists.{get_index}
 use Rattle.recheck_merging.specs.check_job.proofs.Fronted.{fronted_errors}
 use Rattle.recheck_merging.specs.check_job.specs.declared.job.CheckJob.{CheckJob}
 use Rattle.check_values.specs.declared.faults.Errs.{Errs}
+use Rattle.check_values.specs.declared.signatures.Sig.{Sig}
 use Rattle.recheck_merging.specs.check_phases.specs.Checking.{IsJobOf, batch_after}
 use Rattle.recheck_merging.specs.check_phases.specs.Sourced.{AreSources}
 use Rattle.recheck_merging.specs.check_phases.specs.declared.merging.Sources.{Sources}
@@ -14,25 +15,24 @@ use Rattle.recheck_merging.specs.check_phases.proofs.Checks.{job_errors, job_fro
 use Rattle.recheck_merging.specs.check_phases.proofs.Lists.{one_value, value_at, place_at, take_whole, within_there, zip_more}
 use Rattle.recheck_merging.proofs.Mapped.{all_has, has_all}
 use Rattle.reach_law.specs.Law.{JobsAreRight}
-use Rattle.recheck_checking.specs.Checking.{IsCheckedBy, AreCheckedTo}
+use Rattle.recheck_checking.specs.Checking.{rows_by, IsCheckedBy, AreCheckedTo}
 use Rattle.recheck_checking.specs.Keeping.{put_all}
-use Rattle.recheck_checking.specs.declared.signing.Signed.{Signed}
 use Rattle.recheck_checking.proofs.Batches.{number_low, more_checked}
 use Rattle.recheck_merging.specs.worker_jobs.specs.Checking.{HasErrors}
 
 -- ---- jobs
 
-pub jobs_more : (s : Sources) (signed : Signed) (numbers : List ℕ) (i : ℕ) (job : CheckJob) (old new : List CheckJob) → i < length numbers → AllZip (IsJobOf s signed.rows) (take i numbers) old → IsJobOf s signed.rows (get_or numbers i 0) job → new ≡ old ++ job ∷ []
-    → AllZip (IsJobOf s signed.rows) (take (i + 1) numbers) new
-jobs_more s signed numbers i job old new low so_far is pushed =
-    subst (λ (l : List CheckJob). AllZip (IsJobOf s signed.rows) (take (i + 1) numbers) l) (sym pushed) (zip_more (IsJobOf s signed.rows) numbers old i (get_or numbers i 0) job so_far (place_at numbers i 0 low) is)
+pub jobs_more : (s : Sources) (sigs : List Sig) (numbers : List ℕ) (i : ℕ) (job : CheckJob) (old new : List CheckJob) → i < length numbers → AllZip (IsJobOf s (rows_by s sigs)) (take i numbers) old → IsJobOf s (rows_by s sigs) (get_or numbers i 0) job → new ≡ old ++ job ∷ []
+    → AllZip (IsJobOf s (rows_by s sigs)) (take (i + 1) numbers) new
+jobs_more s sigs numbers i job old new low so_far is pushed =
+    subst (λ (l : List CheckJob). AllZip (IsJobOf s (rows_by s sigs)) (take (i + 1) numbers) l) (sym pushed) (zip_more (IsJobOf s (rows_by s sigs)) numbers old i (get_or numbers i 0) job so_far (place_at numbers i 0 low) is)
 
-module _ (right : JobsAreRight) (s : Sources) (signed : Signed) (sources : AreSources s) where
+module _ (right : JobsAreRight) (s : Sources) (sigs : List Sig) (sources : AreSources s) where
   -- the errors of a job are those of its number
-  job_checked : (x : ℕ) (job : CheckJob) (errs : Errs) → IsJobOf s signed.rows x job → HasErrors job errs → IsCheckedBy s signed x errs
-  job_checked x job errs is has = job_errors right s signed.rows x job errs errs is (fronted_errors job errs.faults (job_fronted s signed.rows x job sources is) has) refl
+  job_checked : (x : ℕ) (job : CheckJob) (errs : Errs) → IsJobOf s (rows_by s sigs) x job → HasErrors job errs → IsCheckedBy s sigs x errs
+  job_checked x job errs is has = job_errors right s (rows_by s sigs) x job errs errs is (fronted_errors job errs.faults (job_fronted s (rows_by s sigs) x job sources is) has) refl
 
-  pub jobs_checked : (numbers : List ℕ) (jobs : List CheckJob) (errors : List Errs) → AllZip (IsJobOf s signed.rows) numbers jobs → AllZip HasErrors jobs errors → AllZip (IsCheckedBy s signed) numbers errors
+  pub jobs_checked : (numbers : List ℕ) (jobs : List CheckJob) (errors : List Errs) → AllZip (IsJobOf s (rows_by s sigs)) numbers jobs → AllZip HasErrors jobs errors → AllZip (IsCheckedBy s sigs) numbers errors
   jobs_checked [] [] [] are have = tt
   jobs_checked [] [] (e ∷ errors) are have = absurd have
   jobs_checked [] (j ∷ jobs) errors are have = absurd are
@@ -60,14 +60,14 @@ puts_all numbers errors i slots now all many so_far =
 
 -- ---- a batch
 
-module _ (s : Sources) (signed : Signed) (checked : List ℕ) where
+module _ (s : Sources) (sigs : List Sig) (checked : List ℕ) where
   -- numbers that stand in `checked` from a place on
   abbrev StandFrom : ℕ → List ℕ → Type 0
   StandFrom d numbers = (k x : ℕ) → slice_get numbers k ≡ Some x → slice_get checked (d + k) ≡ Some x
 
-  put_checked : (numbers : List ℕ) (errors : List Errs) (d : ℕ) (slots : List (Option Errs)) → StandFrom d numbers → All (λ x. x < length s.root.modules) checked → AllZip (IsCheckedBy s signed) numbers errors → AreCheckedTo s signed checked d slots
-      → AreCheckedTo s signed checked (d + length numbers) (put_all numbers errors slots)
-  put_checked [] [] d slots stand within are to = subst (λ (n : ℕ). AreCheckedTo s signed checked n slots) (omega arith) to
+  put_checked : (numbers : List ℕ) (errors : List Errs) (d : ℕ) (slots : List (Option Errs)) → StandFrom d numbers → All (λ x. x < length s.root.modules) checked → AllZip (IsCheckedBy s sigs) numbers errors → AreCheckedTo s sigs checked d slots
+      → AreCheckedTo s sigs checked (d + length numbers) (put_all numbers errors slots)
+  put_checked [] [] d slots stand within are to = subst (λ (n : ℕ). AreCheckedTo s sigs checked n slots) (omega arith) to
   put_checked [] (e ∷ errors) d slots stand within are to = absurd are
   put_checked (x ∷ numbers) [] d slots stand within are to = absurd are
   put_checked (x ∷ numbers) (e ∷ errors) d slots stand within are to =
@@ -76,11 +76,11 @@ module _ (s : Sources) (signed : Signed) (checked : List ℕ) where
       let here : slice_get checked d ≡ Some x = ap (slice_get checked) (sym first) ∙ at in
       let low : d < length checked = within_there checked d x here in
       let mine : x ≡ get_or checked d 0 = value_at checked d x 0 here in
-      let one = more_checked s signed checked d e slots (number_low s checked d within low) (subst (λ (y : ℕ). IsCheckedBy s signed y e) mine are.0) to in
-      let next : AreCheckedTo s signed checked (d + 1) (set slots x (Some e)) = subst (λ (y : ℕ). AreCheckedTo s signed checked (d + 1) (set slots y (Some e))) (sym mine) one in
+      let one = more_checked s sigs checked d e slots (number_low s checked d within low) (subst (λ (y : ℕ). IsCheckedBy s sigs y e) mine are.0) to in
+      let next : AreCheckedTo s sigs checked (d + 1) (set slots x (Some e)) = subst (λ (y : ℕ). AreCheckedTo s sigs checked (d + 1) (set slots y (Some e))) (sym mine) one in
       let rest = put_checked numbers errors (d + 1) (set slots x (Some e)) (λ k y there. (let n : d + 1 + k ≡ d + suc k = omega arith in ap (slice_get checked) n ∙ stand (suc k) y there)) within are.1 next in
       let n : d + 1 + length numbers ≡ d + suc (length numbers) = omega arith in
-      subst (λ (m : ℕ). AreCheckedTo s signed checked m (put_all numbers errors (set slots x (Some e)))) n rest
+      subst (λ (m : ℕ). AreCheckedTo s sigs checked m (put_all numbers errors (set slots x (Some e)))) n rest
 
   module _ (d end : ℕ) (numbers : List ℕ) (is_end : end ≡ min (length checked) (d + 64)) (are : numbers ≡ slice_range checked d end) (begun : d ≤ length checked) where
     pub many_batch : length numbers ≡ batch_after d (length checked) - d
@@ -109,12 +109,12 @@ module _ (s : Sources) (signed : Signed) (checked : List ℕ) where
     pub batch_within : All (λ x. x < length s.root.modules) checked → All (λ x. x < length s.root.modules) numbers
     batch_within within = has_all (λ (x : ℕ). x < length s.root.modules) numbers (λ x has. all_has (λ (y : ℕ). y < length s.root.modules) checked within x (d + has.0, stand has.0 x has.1))
 
-    pub batch_slots : (slots : List (Option Errs)) → All (λ x. x < length s.root.modules) checked → AreCheckedTo s signed checked d slots → All (λ x. x < length slots) numbers
+    pub batch_slots : (slots : List (Option Errs)) → All (λ x. x < length s.root.modules) checked → AreCheckedTo s sigs checked d slots → All (λ x. x < length slots) numbers
     batch_slots slots within to = subst (λ (n : ℕ). All (λ x. x < n) numbers) (sym to.many) (batch_within within)
 
-    pub batch_checked : (found errors : List Errs) (old new : List (Option Errs)) → All (λ x. x < length s.root.modules) checked → AllZip (IsCheckedBy s signed) numbers found → errors ≡ found → AreCheckedTo s signed checked d old → new ≡ put_all numbers errors old
-        → AreCheckedTo s signed checked (batch_after d (length checked)) new
+    pub batch_checked : (found errors : List Errs) (old new : List (Option Errs)) → All (λ x. x < length s.root.modules) checked → AllZip (IsCheckedBy s sigs) numbers found → errors ≡ found → AreCheckedTo s sigs checked d old → new ≡ put_all numbers errors old
+        → AreCheckedTo s sigs checked (batch_after d (length checked)) new
     batch_checked found errors old new within each same to put =
-        let all = put_checked numbers errors d old stand within (subst (λ (l : List Errs). AllZip (IsCheckedBy s signed) numbers l) (sym same) each) to in
+        let all = put_checked numbers errors d old stand within (subst (λ (l : List Errs). AllZip (IsCheckedBy s sigs) numbers l) (sym same) each) to in
         let n : d + length numbers ≡ batch_after d (length checked) = (let many = many_batch in omega (arith, many, begun)) in
-        subst (λ (p : ℕ × List (Option Errs)). AreCheckedTo s signed checked p.0 p.1) (λ j. (n j, sym put j)) all
+        subst (λ (p : ℕ × List (Option Errs)). AreCheckedTo s sigs checked p.0 p.1) (λ j. (n j, sym put j)) all

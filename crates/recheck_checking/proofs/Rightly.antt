@@ -2,7 +2,6 @@
 use Rattle.std.proofs.Common.{◌≡◌, ℕ, zero, suc, ◌<◌, true, false, List, [], ◌∷◌, length, get_or, slice_get, Option, Some, None, is_some, refl, sym, ap, ◌∙◌, subst, arith}
 use Rattle.flow_base.specs.Program.{Bytes, Program, paths_of, text_at}
 use Rattle.heap_core.proofs.Lists.{get_there}
-use Rattle.check_values.specs.Rows.{Rows, row_at}
 use Rattle.check_values.specs.declared.root.RootRow.{RootRow}
 use Rattle.check_values.specs.declared.faults.Errs.{Errs}
 use Rattle.check_values.specs.declared.faults.Fault.{Fault}
@@ -24,7 +23,7 @@ use Rattle.edited_root.specs.affected_law.specs.Law.{ErrorsStay}
 use Rattle.recheck_merging.specs.path_numbers.proofs.Ways.{one_place, is_path_of}
 use Rattle.recheck_merging.specs.check_phases.specs.Phases.{AreMerged}
 use Rattle.recheck_merging.specs.check_phases.specs.Sourced.{program_in, paths_in, view_in, AreSources}
-use Rattle.recheck_merging.specs.check_phases.specs.Whole.{AreMade}
+use Rattle.recheck_merging.specs.check_phases.specs.Whole.{sigs_by, AreMade}
 use Rattle.recheck_merging.specs.check_phases.specs.declared.merging.Sources.{Sources}
 use Rattle.recheck_merging.specs.check_phases.specs.declared.phases.Made.{Made}
 use Rattle.recheck_merging.specs.check_phases.proofs.Jobs.{beside_at, zip_at}
@@ -34,11 +33,9 @@ use Rattle.edited_root.specs.From.{number_in, numbers_from}
 use Rattle.recheck_merging.proofs.Imported.{IsHere, here, low_path, rising_program}
 use Rattle.recheck_merging.proofs.Mapped.{get_mapped, mapped_from, length_mapped, all_has}
 use Rattle.recheck_checking.specs.Keeping.{AreKept}
-use Rattle.recheck_checking.specs.Signing.{AreSigned}
 use Rattle.recheck_checking.specs.Checking.{IsCheckedBy, AreCheckedTo}
 use Rattle.recheck_checking.specs.Full.{results_of}
 use Rattle.recheck_checking.specs.Right.{AreToCheck, KeptErrorsAreRight}
-use Rattle.recheck_checking.specs.declared.signing.Signed.{Signed}
 use Rattle.recheck_checking.proofs.Old.{number_stands, no_number, results_get}
 use Rattle.recheck_checking.proofs.Sees.{same_module, same_source, signatures, made_is_full}
 
@@ -51,8 +48,8 @@ module _ (paths : List Bytes) (view : View) (sigs : Sigs) where
   result_of (n ∷ program) (r ∷ results) zero m are at = (r, refl, subst (λ (k : Bytes × Bytes). AreResultsOf paths view sigs k.0 k.1 r) (one_value n m at) are.0)
   result_of (n ∷ program) (r ∷ results) (suc x) m are at = result_of program results x m are.1 at
 
-module _ (one_parse : OneParse) (stay : ErrorsStay) (was : Made) (s : Sources) (sigs : List Sig) (signed : Signed) (from : List (Option ℕ)) (checked : List ℕ) (slots : List (Option Errs)) (made : AreMade was) (sources : AreSources s)
-    (merged : AreMerged (view_in s) (program_in s) sigs) (are_signed : AreSigned s sigs signed) (is_from : from ≡ numbers_from was.sources.root s.root) (to_check : AreToCheck was s checked) (kept : AreKept was.errors.items from checked slots) where
+module _ (one_parse : OneParse) (stay : ErrorsStay) (was : Made) (s : Sources) (sigs : List Sig) (from : List (Option ℕ)) (checked : List ℕ) (slots : List (Option Errs)) (made : AreMade was) (sources : AreSources s)
+    (merged : AreMerged (view_in s) (program_in s) sigs) (is_from : from ≡ numbers_from was.sources.root s.root) (to_check : AreToCheck was s checked) (kept : AreKept was.errors.items from checked slots) where
   abbrev old : Program
   old = program_in was.sources
 
@@ -105,7 +102,7 @@ module _ (one_parse : OneParse) (stay : ErrorsStay) (was : Made) (s : Sources) (
     errs : Errs
     was_number : slice_get from x ≡ Some (Some number)
     stood : slice_get was.errors.items number ≡ Some errs
-    right : IsCheckedBy s signed x errs
+    right : IsCheckedBy s sigs x errs
 
   old_errors : (x : ℕ) (h : IsHere s x) → ¬ (Has checked x) → WasChecked x h
   old_errors x h outside =
@@ -129,7 +126,7 @@ module _ (one_parse : OneParse) (stay : ErrorsStay) (was : Made) (s : Sources) (
       let alike = one_parse h.row.text t.0.parse h.parse t.2.parse parsed in
       let deps : t.0.deps ≡ h.deps =
       t.2.deps ∙ (ap (dependencies_of (paths_of new) h.row.path) (same_module t.0.parse.tree h.parse.tree alike.0) ∙ (ap (λ (ps : List Bytes). deps_in ps h.row.path h.parse) (same_paths s.root) ∙ sym h.is_list)) in
-      let seen : full.sigs_in new after ≡ row_at signed.rows = signatures one_parse s after sources to_check.full sigs merged ∙ ap (λ (rows : Rows Sig). row_at rows) (sym are_signed.rows) in
+      let seen : full.sigs_in new after ≡ sigs_by s sigs = signatures one_parse s after sources to_check.full sigs merged in
       record {
         number = o.0;
         errs = errs.0;
@@ -162,16 +159,16 @@ module _ (one_parse : OneParse) (stay : ErrorsStay) (was : Made) (s : Sources) (
       let z : None ≡ Some errs = one_value None (Some errs) (sym none ∙ there) in
       let f : ⊥ = cc in f
 
-  right_each : (x : ℕ) (errs : Errs) → slice_get slots x ≡ Some (Some errs) → IsCheckedBy s signed x errs
+  right_each : (x : ℕ) (errs : Errs) → slice_get slots x ≡ Some (Some errs) → IsCheckedBy s sigs x errs
   right_each x errs there =
       let outside = unchecked x errs there in
       let low = within_there slots x (Some errs) there in
       let h = here s sources x (let many = kept.many in let modules = many_from in omega arith) in
       let slot = slot_of x h outside in
       let same : slot.0.errs ≡ errs = one_value slot.0.errs errs (one_value (Some slot.0.errs) (Some errs) (sym slot.1 ∙ there)) in
-      subst (IsCheckedBy s signed x) same slot.0.right
+      subst (IsCheckedBy s sigs x) same slot.0.right
 
-  all_kept : AreCheckedTo s signed checked 0 slots
+  all_kept : AreCheckedTo s sigs checked 0 slots
   all_kept = record {
     many = kept.many ∙ many_from;
     right = right_each;
@@ -180,5 +177,5 @@ module _ (one_parse : OneParse) (stay : ErrorsStay) (was : Made) (s : Sources) (
   }
 
 pub kept_errors_are_right : OneParse → ErrorsStay → KeptErrorsAreRight
-kept_errors_are_right one_parse stay was s sigs signed from checked slots made sources merged are_signed is_from to_check kept =
-    all_kept one_parse stay was s sigs signed from checked slots made sources merged are_signed is_from to_check kept
+kept_errors_are_right one_parse stay was s sigs from checked slots made sources merged is_from to_check kept =
+    all_kept one_parse stay was s sigs from checked slots made sources merged is_from to_check kept

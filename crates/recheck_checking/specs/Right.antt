@@ -15,8 +15,6 @@ use Rattle.edited_root.specs.From.{numbers_from}
 use Rattle.recheck_checking.specs.Checking.{AreCheckedTo}
 use Rattle.recheck_checking.specs.Full.{results_of}
 use Rattle.recheck_checking.specs.Keeping.{AreKept}
-use Rattle.recheck_checking.specs.Signing.{AreSigned}
-use Rattle.recheck_checking.specs.declared.signing.Signed.{Signed}
 
 -- the modules of these numbers are those that are to be checked, by some full check of the new program
 pub record AreToCheck (was : Made) (s : Sources) (checked : List ℕ) : Type 0 where
@@ -28,6 +26,6 @@ pub record AreToCheck (was : Made) (s : Sources) (checked : List ℕ) : Type 0 w
 -- What is kept is right, where all is checked that the edit affects: nothing is checked yet.
 abbrev pub KeptErrorsAreRight : Type 0
 KeptErrorsAreRight =
-    (was : Made) (s : Sources) (sigs : List Sig) (signed : Signed) (from : List (Option ℕ)) (checked : List ℕ) (slots : List (Option Errs)) → AreMade was → AreSources s
-    → AreMerged (view_in s) (program_in s) sigs → AreSigned s sigs signed → from ≡ numbers_from was.sources.root s.root → AreToCheck was s checked → AreKept was.errors.items from checked slots
-    → AreCheckedTo s signed checked 0 slots
+    (was : Made) (s : Sources) (sigs : List Sig) (from : List (Option ℕ)) (checked : List ℕ) (slots : List (Option Errs)) → AreMade was → AreSources s
+    → AreMerged (view_in s) (program_in s) sigs → from ≡ numbers_from was.sources.root s.root → AreToCheck was s checked → AreKept was.errors.items from checked slots
+    → AreCheckedTo s sigs checked 0 slots

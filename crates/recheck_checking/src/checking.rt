@@ -5,13 +5,12 @@ ghost use Rattle.recheck_merging.specs.analyst.specs.Work.{Works, checks_of};
 ghost use Rattle.recheck_merging.specs.work_totals.specs.Totals.{total};
 ghost use Rattle.recheck_merging.specs.check_phases.specs.Checking.{IsJobOf, batch_after};
 ghost use Rattle.recheck_merging.specs.check_phases.specs.Sourced.{AreSources};
-ghost use Rattle.recheck_checking.specs.Checking.{IsCheckedBy, AreCheckedTo};
+ghost use Rattle.recheck_checking.specs.Checking.{rows_by, IsCheckedBy, AreCheckedTo};
 ghost use Rattle.recheck_checking.specs.Keeping.{put_all};
-ghost use Rattle.recheck_checking.specs.Signing.{HasPaths};
 
 use crate::keeping::ErrorSlots;
-use crate::signing::{Signed, modules_of, signatures_for};
-use check_values::Errs;
+use crate::reading::{modules_of, signatures_for};
+use check_values::{Errs, Sig};
 use flow_values::{List, NoMemory, Shared};
 use recheck_merging::analyst::Analyst;
 use recheck_merging::check_job::CheckJob;
@@ -25,18 +24,23 @@ use std::thread::Threads;
 const BATCH: usize = 64;
 
 // The job of the module of a number.
-#[tactic(auto, using(crate::proofs::Handed::many_parses, crate::proofs::Handed::many_lists, crate::proofs::Signs::rising_rows))]
-fn job_of(alloc: Global, sources: &Sources, signed: &Signed, x: usize) -> Result<CheckJob, NoMemory>
+#[tactic(auto, using(crate::proofs::Handed::many_parses, crate::proofs::Handed::many_lists))]
+fn job_of(
+    alloc: Global,
+    sources: &Sources,
+    signatures: &[Shared<Sig>],
+    x: usize,
+) -> Result<CheckJob, NoMemory>
     requires sources { AreSources sources.now }
     requires within { x < length sources.now.root.modules }
-    requires paths { HasPaths sources.now signed.now }
-    ensures { IfOk result (IsJobOf sources.now signed.now.rows x) }
+    requires many { length signatures.now ≡ length sources.now.root.modules }
+    ensures { IfOk result (IsJobOf sources.now (rows_by sources.now signatures.now) x) }
 {
     let modules = modules_of(sources);
     let module = &modules[x];
     let parse = &sources.parses[x];
     let deps = &sources.lists[x];
-    let sigs = signatures_for(alloc, signed, deps.get())?;
+    let sigs = signatures_for(alloc, sources, signatures, deps.get())?;
     Ok(CheckJob {
         path: module.path.share()?,
         text: module.text.share()?,
@@ -50,17 +54,17 @@ fn job_of(alloc: Global, sources: &Sources, signed: &Signed, x: usize) -> Result
 fn jobs_for(
     alloc: Global,
     sources: &Sources,
-    signed: &Signed,
+    signatures: &[Shared<Sig>],
     numbers: &[u32],
 ) -> Result<Vec<CheckJob>, NoMemory>
     requires sources { AreSources sources.now }
     requires within { All (λ x. x < length sources.now.root.modules) numbers.now }
-    requires paths { HasPaths sources.now signed.now }
-    ensures { IfOk result (λ jobs. AllZip (IsJobOf sources.now signed.now.rows) numbers.now jobs.items) }
+    requires many { length signatures.now ≡ length sources.now.root.modules }
+    ensures { IfOk result (λ jobs. AllZip (IsJobOf sources.now (rows_by sources.now signatures.now)) numbers.now jobs.items) }
 {
     let mut jobs = Vec::new(alloc);
     for i in 0..numbers.len() {
-        let job = job_of(alloc, sources, signed, numbers[i] as usize)?;
+        let job = job_of(alloc, sources, signatures, numbers[i] as usize)?;
         jobs.push(job)?;
     }
     Ok(jobs)
@@ -85,19 +89,19 @@ fn errors_of<R: Threads + Wait + Sync, A: Analyst + Send>(
     alloc: Global,
     analysts: &mut [A],
     sources: &Sources,
-    signed: &Signed,
+    signatures: &[Shared<Sig>],
     numbers: &[u32],
 ) -> Result<Vec<Shared<Errs>>, NoMemory>
     requires some { 0 < length analysts.old }
     requires sources { AreSources sources.now }
     requires within { All (λ x. x < length sources.now.root.modules) numbers.now }
-    requires paths { HasPaths sources.now signed.now }
-    ensures errors { IfOk result (λ errors. AllZip (IsCheckedBy sources.now signed.now) numbers.now errors.items) }
+    requires many { length signatures.now ≡ length sources.now.root.modules }
+    ensures errors { IfOk result (λ errors. AllZip (IsCheckedBy sources.now signatures.now) numbers.now errors.items) }
     ensures work { Works result (checks_of (length numbers.now)) (total (map A.work analysts.old)) (total (map A.work analysts.new)) }
     ensures many { length analysts.new ≡ length analysts.old }
 {
     reach_law::cut_is_right();
-    let jobs = jobs_for(alloc, sources, signed, numbers)?;
+    let jobs = jobs_for(alloc, sources, signatures, numbers)?;
     let errors = run_checks(rt, alloc, analysts, jobs.as_slice())?;
     shared_all(alloc, errors)
 }
@@ -120,7 +124,7 @@ fn keep_all(
 }
 
 /// Checks the next modules of `checked`, at most 64 of them, by the analysts, and puts their errors into their slots: `done` of them are
-/// checked, and behind the call those of one more batch. `signed` are the merged signatures of the modules of `sources`.
+/// checked, and behind the call those of one more batch. `signatures` are the merged signatures of the modules of `sources`, in order.
 ///
 /// # Errors
 ///
@@ -130,24 +134,24 @@ pub fn check_batch<R: Threads + Wait + Sync, A: Analyst + Send>(
     alloc: Global,
     analysts: &mut [A],
     sources: &Sources,
-    signed: &Signed,
+    signatures: &[Shared<Sig>],
     checked: &[u32],
     done: usize,
     slots: &mut ErrorSlots,
 ) -> Result<(), NoMemory>
     requires some { 0 < length analysts.old }
     requires sources { AreSources sources.now }
-    requires paths { HasPaths sources.now signed.now }
+    requires many { length signatures.now ≡ length sources.now.root.modules }
     requires within { All (λ x. x < length sources.now.root.modules) checked.now }
     requires begun { done ≤ length checked.now }
-    requires checked { AreCheckedTo sources.now signed.now checked.now done slots.old.items }
-    ensures checked { OnOk result (AreCheckedTo sources.now signed.now checked.now (batch_after done (length checked.now)) slots.new.items) }
+    requires checked { AreCheckedTo sources.now signatures.now checked.now done slots.old.items }
+    ensures checked { OnOk result (AreCheckedTo sources.now signatures.now checked.now (batch_after done (length checked.now)) slots.new.items) }
     ensures work { Works result (checks_of (batch_after done (length checked.now) - done)) (total (map A.work analysts.old)) (total (map A.work analysts.new)) }
     ensures many { length analysts.new ≡ length analysts.old }
 {
     let end = usize::min(checked.len(), done + BATCH);
     let numbers = &checked[done..end];
-    let found = errors_of(rt, alloc, analysts, sources, signed, numbers)?;
+    let found = errors_of(rt, alloc, analysts, sources, signatures, numbers)?;
     let errors = found.as_slice();
     keep_all(numbers, errors, slots)
 }

@@ -41,15 +41,15 @@ one_errors one sigs program parses lists x a b p q =
     λ j. record { faults = same j }
 
 module _ (b : Base) (c : Checking) (base : IsBase b) (is : IsChecking b c) (past : length c.checked ≤ c.done) where
-  all_checked : AreCheckedTo c.sources c.signed c.checked (length c.checked) c.errors.items
-  all_checked = (let low = is.low in let e : c.done ≡ length c.checked = omega (arith, low, past) in subst (λ (d : ℕ). AreCheckedTo c.sources c.signed c.checked d c.errors.items) e is.errors)
+  all_checked : AreCheckedTo c.sources c.signatures.items c.checked (length c.checked) c.errors.items
+  all_checked = (let low = is.low in let e : c.done ≡ length c.checked = omega (arith, low, past) in subst (λ (d : ℕ). AreCheckedTo c.sources c.signatures.items c.checked d c.errors.items) e is.errors)
 
   pub errors_filled : AllAreChecked → AreFilled c.errors.items
-  errors_filled all = (all c.sources c.signatures.items c.signed c.checked c.errors.items is.listed.sources is.signed all_checked).0
+  errors_filled all = (all c.sources c.signatures.items c.checked c.errors.items is.listed.sources all_checked).0
 
   module _ (all : AllAreChecked) (errors : List Errs) (same : map Some errors ≡ c.errors.items) where
     whole : AreAllErrors c.sources c.signatures.items errors
-    whole = (all c.sources c.signatures.items c.signed c.checked c.errors.items is.listed.sources is.signed all_checked).1 errors same
+    whole = (all c.sources c.signatures.items c.checked c.errors.items is.listed.sources all_checked).1 errors same
 
     pub errors_right : AreAllErrors c.sources c.signatures.items errors
     errors_right = whole

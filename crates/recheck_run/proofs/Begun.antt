@@ -17,13 +17,12 @@ use Rattle.recheck_reach.specs.Moved.{IsSameOutside}
 use Rattle.recheck_reach.specs.Checked.{IsToCheckIn}
 use Rattle.recheck_reach.specs.Law.{RestIsSame, CheckedAreOfChecked, DiffersAreTouched}
 use Rattle.recheck_checking.specs.Keeping as errors
-use Rattle.recheck_checking.specs.Signing.{AreSigned}
 use Rattle.recheck_checking.specs.Full.{MadeIsFull}
 use Rattle.recheck_checking.specs.Right.{KeptErrorsAreRight}
-use Rattle.recheck_checking.specs.declared.signing.Signed.{Signed}
-use Rattle.recheck_run.specs.Stages.{IsBase, IsMerging, AreAffected, IsChecking}
+use Rattle.recheck_run.specs.Stages.{IsBase, IsMerging, AreAffected, KeepsErrors, IsChecking}
 use Rattle.recheck_run.specs.declared.stages.Base.{Base}
 use Rattle.recheck_run.specs.declared.stages.Merging.{Merging}
+use Rattle.recheck_checking.specs.Checking.{AreCheckedTo}
 use Rattle.recheck_run.proofs.Planned.{places_low, signatures_merged, many_signatures, many_from, outside_same, plan_within, moved_edges, affected, errors_right, errors_kept}
 
 module _ (b : Base) (m : Merging) (base : IsBase b) (is : IsMerging b m) (past : length m.plan.waves ≤ m.wave) (law : DiffersAreTouched) (make : WavesMakeAll) (sigs : List Sig) (same : map Some sigs ≡ m.slots.items) (all : List Sig) (is_all : all ≡ sigs) where
@@ -78,15 +77,15 @@ module _ (b : Base) (m : Merging) (base : IsBase b) (is : IsMerging b m) (past :
             let many : length from ≡ length m.listed.sources.root.modules = from_all ∙ many_all in
             subst (All (λ (x : ℕ). x < length from)) (sym is_numbers) (subst (λ (n : ℕ). All (λ x. x < n) checked) (sym many) are_affected.within)
 
-        pub checking_is : EachFull → MadeIsFull → KeptErrorsAreRight → (relisted moved_vec : Vec Bool) (signatures : Vec Sig) (numbers : List ℕ) (old : List Errs) (signed : Signed) (slots : Vec (Option Errs)) → relisted ≡ m.listed.relisted → moved_vec.items ≡ moved → signatures.items ≡ sigs
-            → AreSigned m.listed.sources all signed → numbers ≡ checked → old ≡ b.was.errors.items → errors.AreKept old from numbers slots.items
-            → IsChecking b (record { sources = m.listed.sources; relisted = relisted; signatures = signatures; moved = moved_vec; checked = checked; signed = signed; done = 0; errors = slots })
-        checking_is each full right relisted moved_vec signatures numbers old signed slots is_relisted is_moved is_signatures are_signed is_numbers is_old kept =
+        pub checking_is : EachFull → MadeIsFull → KeptErrorsAreRight → (relisted moved_vec : Vec Bool) (signatures : Vec Sig) (numbers : List ℕ) (old : List Errs) (slots : Vec (Option Errs)) → relisted ≡ m.listed.relisted → moved_vec.items ≡ moved → signatures.items ≡ sigs
+            → numbers ≡ checked → old ≡ b.was.errors.items → errors.AreKept old from numbers slots.items
+            → IsChecking b (record { sources = m.listed.sources; relisted = relisted; signatures = signatures; moved = moved_vec; checked = checked; done = 0; errors = slots })
+        checking_is each full right relisted moved_vec signatures numbers old slots is_relisted is_moved is_signatures is_numbers is_old kept =
             let kept_own : errors.AreKept b.was.errors.items b.from.items checked slots.items =
             subst (λ (o : List Errs). errors.AreKept o b.from.items checked slots.items) is_old
             (subst (λ (f : List (Option ℕ)). errors.AreKept old f checked slots.items) is_from (subst (λ (l : List ℕ). errors.AreKept old from l slots.items) is_numbers kept)) in
             let own : all ≡ signatures.items = is_all ∙ sym is_signatures in
-            let right_errors = errors_right b m base is past law make all mine signed are_signed checked are_affected slots.items kept_own each full right in
+            let right_errors = errors_right b m base is past law make all mine checked are_affected slots.items kept_own each full right in
             record {
               listed = record {
                 root = is.listed.root;
@@ -97,8 +96,7 @@ module _ (b : Base) (m : Merging) (base : IsBase b) (is : IsMerging b m) (past :
               merged = subst (AreMerged (view_in m.listed.sources) (program_in m.listed.sources)) own merged_all;
               moved = subst (λ (l : List Bool). TellsOthers b.was.signatures.items b.from.items signatures.items l) (sym is_moved) (subst (λ (l : List Sig). TellsOthers b.was.signatures.items b.from.items l moved) own tells_here);
               to_check = are_affected;
-              signed = subst (λ (l : List Sig). AreSigned m.listed.sources l signed) own are_signed;
-              kept = errors_kept b m base is past law make all mine signed are_signed checked are_affected slots.items kept_own right_errors;
-              errors = right_errors;
+              kept = subst (λ (l : List Sig). (x : ℕ) → x < length m.listed.sources.root.modules → ¬ (Has checked x) → KeepsErrors b m.listed.sources l x) own (errors_kept b m base is past law make all mine checked are_affected slots.items kept_own right_errors);
+              errors = subst (λ (l : List Sig). AreCheckedTo m.listed.sources l checked 0 slots.items) own right_errors;
               low = omega arith;
             }

@@ -13,6 +13,7 @@ use Rattle.recheck_reach.specs.analyst.specs.Work.{Work, work_of, fronts_of, mer
 use Rattle.recheck_checking.specs.payloads.specs.State.{program_of}
 use Rattle.recheck_reach.specs.path_numbers.specs.Sets.{paths_at, ArePlaces}
 use Rattle.check_values.specs.declared.faults.Errs.{Errs}
+use Rattle.check_values.specs.declared.signatures.Sig.{Sig}
 use Rattle.check_values.specs.declared.root.Root.{Root}
 use Rattle.recheck_reach.specs.check_phases.specs.Sourced.{program_in, paths_in, view_in, AreSources}
 use Rattle.recheck_reach.specs.check_phases.specs.Checking.{batch_after}
@@ -23,7 +24,6 @@ use Rattle.recheck_reach.specs.recheck_merging.specs.Plans.{members_of, members_
 use Rattle.recheck_reach.specs.recheck_merging.specs.declared.planning.MergePlan.{MergePlan}
 use Rattle.recheck_reach.specs.Law.{ParsedAreFresh, SeenAsChecked}
 use Rattle.recheck_checking.specs.Checking.{AreCheckedTo}
-use Rattle.recheck_checking.specs.declared.signing.Signed.{Signed}
 use Rattle.recheck_run.specs.Extent.{Extent, Affects}
 use Rattle.recheck_run.specs.Recheck.{whole_work}
 use Rattle.recheck_run.specs.Stages.{old_of, IsBase, IsMerging, AreAffected}
@@ -227,12 +227,13 @@ module _ (b : Base) (c : Checking) where
 pub numbers_low : (s : Sources) (numbers checked : List ℕ) → numbers ≡ checked → All (λ x. x < length s.root.modules) checked → All (λ x. x < length s.root.modules) numbers
 numbers_low s numbers checked same low = subst (All (λ (x : ℕ). x < length s.root.modules)) (sym same) low
 
-pub checked_begun : (s : Sources) (signed : Signed) (numbers checked : List ℕ) (begun : ℕ) (slots : List (Option Errs)) → numbers ≡ checked → AreCheckedTo s signed checked begun slots → AreCheckedTo s signed numbers begun slots
-checked_begun s signed numbers checked begun slots same are = subst (λ (l : List ℕ). AreCheckedTo s signed l begun slots) (sym same) are
+pub checked_begun : (s : Sources) (sigs view : List Sig) (numbers checked : List ℕ) (begun : ℕ) (slots : List (Option Errs)) → view ≡ sigs → numbers ≡ checked → AreCheckedTo s sigs checked begun slots → AreCheckedTo s view numbers begun slots
+checked_begun s sigs view numbers checked begun slots seen same are = subst (λ (l : List Sig). AreCheckedTo s l numbers begun slots) (sym seen) (subst (λ (l : List ℕ). AreCheckedTo s sigs l begun slots) (sym same) are)
 
-pub checked_more : (s : Sources) (signed : Signed) (numbers checked : List ℕ) (begun end : ℕ) (slots : List (Option Errs)) → numbers ≡ checked → end ≡ batch_after begun (length numbers) → AreCheckedTo s signed numbers (batch_after begun (length numbers)) slots
-    → AreCheckedTo s signed checked end slots
-checked_more s signed numbers checked begun end slots same is are = subst (λ (l : List ℕ). AreCheckedTo s signed l end slots) same (subst (λ (k : ℕ). AreCheckedTo s signed numbers k slots) (sym is) are)
+pub checked_more : (s : Sources) (sigs view : List Sig) (numbers checked : List ℕ) (begun end : ℕ) (slots : List (Option Errs)) → view ≡ sigs → numbers ≡ checked → end ≡ batch_after begun (length numbers)
+    → AreCheckedTo s view numbers (batch_after begun (length numbers)) slots → AreCheckedTo s sigs checked end slots
+checked_more s sigs view numbers checked begun end slots seen same is are =
+    subst (λ (l : List ℕ). AreCheckedTo s sigs l end slots) same (subst (λ (k : ℕ). AreCheckedTo s sigs numbers k slots) (sym is) (subst (λ (l : List Sig). AreCheckedTo s l numbers (batch_after begun (length numbers)) slots) seen are))
 
 -- ---- of whatever stage it is
 

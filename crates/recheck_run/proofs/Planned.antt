@@ -33,11 +33,9 @@ use Rattle.recheck_reach.specs.Moved.{IsSameOutside}
 use Rattle.recheck_reach.specs.Checked.{IsToCheckIn}
 use Rattle.recheck_reach.specs.Law.{RestIsSame, CheckedAreOfChecked, UnmovedAreChanged, DiffersAreTouched}
 use Rattle.recheck_checking.specs.Keeping as errors
-use Rattle.recheck_checking.specs.Signing.{AreSigned}
 use Rattle.recheck_checking.specs.Checking.{IsCheckedBy, AreCheckedTo}
 use Rattle.recheck_checking.specs.Full.{results_of, MadeIsFull}
 use Rattle.recheck_checking.specs.Right.{AreToCheck, KeptErrorsAreRight}
-use Rattle.recheck_checking.specs.declared.signing.Signed.{Signed}
 use Rattle.recheck_run.specs.Stages.{old_of, IsBase, IsMerging, AreAffected, KeepsErrors}
 use Rattle.recheck_run.specs.declared.stages.Base.{Base}
 use Rattle.recheck_run.specs.declared.stages.Merging.{Merging}
@@ -128,20 +126,20 @@ module _ (b : Base) (m : Merging) (base : IsBase b) (is : IsMerging b m) (past :
     }
 
     -- the errors that are kept
-    module _ (signed : Signed) (are_signed : AreSigned s sigs signed) (checked : List ℕ) (are : AreAffected b s checked) (slots : List (Option Errs)) (kept : errors.AreKept b.was.errors.items b.from.items checked slots) where
-      pub errors_right : EachFull → MadeIsFull → KeptErrorsAreRight → AreCheckedTo s signed checked 0 slots
+    module _ (checked : List ℕ) (are : AreAffected b s checked) (slots : List (Option Errs)) (kept : errors.AreKept b.was.errors.items b.from.items checked slots) where
+      pub errors_right : EachFull → MadeIsFull → KeptErrorsAreRight → AreCheckedTo s sigs checked 0 slots
       errors_right each full right =
           let after = each (program_in s) in
           let to : AreToCheck b.was s checked = record { after = after.0; full = after.1; within = are.within; paths = are.paths (results_of b.was) after.0 (full b.was base.made) after.1 } in
-          right b.was s sigs signed b.from.items checked slots base.made is.listed.sources merged are_signed (numbers_here b s.root base is.listed.root) to kept
+          right b.was s sigs b.from.items checked slots base.made is.listed.sources merged (numbers_here b s.root base is.listed.root) to kept
 
-      pub errors_kept : AreCheckedTo s signed checked 0 slots → (x : ℕ) → x < length s.root.modules → ¬ (Has checked x) → KeepsErrors b s signed x
+      pub errors_kept : AreCheckedTo s sigs checked 0 slots → (x : ℕ) → x < length s.root.modules → ¬ (Has checked x) → KeepsErrors b s sigs x
       errors_kept right x low out =
           let e = right.kept x low out in
           let o = get_there b.from.items x (let many = many_from in let all = many_signatures in omega (arith, many, all, low)) in
           go o.0 o.1 e.0 (one_value (errors.kept_in b.was.errors.items o.0) (Some e.0) (sym (kept.kept x o.0 o.1 out) ∙ e.1)) (right.right x e.0 e.1)
         where
-          go : (o : Option ℕ) → slice_get b.from.items x ≡ Some o → (errs : Errs) → errors.kept_in b.was.errors.items o ≡ Some errs → IsCheckedBy s signed x errs → KeepsErrors b s signed x
+          go : (o : Option ℕ) → slice_get b.from.items x ≡ Some o → (errs : Errs) → errors.kept_in b.was.errors.items o ≡ Some errs → IsCheckedBy s sigs x errs → KeepsErrors b s sigs x
           go None at errs none is = absurd (let z : None ≡ Some errs = none in cc)
           go (Some o) at errs there is = (o, errs, at, there, is)
 

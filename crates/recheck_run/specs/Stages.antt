@@ -25,9 +25,7 @@ use Rattle.recheck_reach.specs.recheck_merging.specs.Merging.{AreMergedTo}
 use Rattle.committed_results.specs.recheck_staging.specs.Staging.{state_of, HasState}
 use Rattle.recheck_reach.specs.recheck_sources.specs.Parts.{AreKeptBy, TellsOthers}
 use Rattle.recheck_reach.specs.recheck_sources.specs.Changed.{IsChanged}
-use Rattle.recheck_checking.specs.Signing.{AreSigned}
 use Rattle.recheck_checking.specs.Checking.{IsCheckedBy, AreCheckedTo}
-use Rattle.recheck_checking.specs.declared.signing.Signed.{Signed}
 use Rattle.recheck_run.specs.declared.stages.Base.{Base}
 use Rattle.recheck_run.specs.declared.stages.Merging.{Merging}
 use Rattle.recheck_run.specs.declared.stages.Checking.{Checking}
@@ -84,8 +82,8 @@ pub record AreAffected (b : Base) (s : Sources) (checked : List ℕ) : Type 0 wh
       → ArePaths (Checked (program_in b.was.sources) (program_in s) before after) (paths_at (paths_in s) checked)
 
 -- the module of a number was one, of which the errors serve on
-abbrev pub KeepsErrors : Base → Sources → Signed → ℕ → Type 0
-KeepsErrors b s signed x = (o : ℕ) × (errs : Errs) × (slice_get b.from.items x ≡ Some (Some o)) × (slice_get b.was.errors.items o ≡ Some errs) × IsCheckedBy s signed x errs
+abbrev pub KeepsErrors : Base → Sources → List Sig → ℕ → Type 0
+KeepsErrors b s sigs x = (o : ℕ) × (errs : Errs) × (slice_get b.from.items x ≡ Some (Some o)) × (slice_get b.was.errors.items o ≡ Some errs) × IsCheckedBy s sigs x errs
 
 -- so many of the modules that are to be checked are checked
 pub record IsChecking (b : Base) (c : Checking) : Type 0 where
@@ -93,9 +91,8 @@ pub record IsChecking (b : Base) (c : Checking) : Type 0 where
   pub merged : AreMerged (view_in c.sources) (program_in c.sources) c.signatures.items
   pub moved : TellsOthers b.was.signatures.items b.from.items c.signatures.items c.moved.items
   pub to_check : AreAffected b c.sources c.checked
-  pub signed : AreSigned c.sources c.signatures.items c.signed
-  pub kept : (x : ℕ) → x < length c.sources.root.modules → ¬ (Has c.checked x) → KeepsErrors b c.sources c.signed x
-  pub errors : AreCheckedTo c.sources c.signed c.checked c.done c.errors.items
+  pub kept : (x : ℕ) → x < length c.sources.root.modules → ¬ (Has c.checked x) → KeepsErrors b c.sources c.signatures.items x
+  pub errors : AreCheckedTo c.sources c.signatures.items c.checked c.done c.errors.items
   pub low : c.done ≤ length c.checked
 
 -- what a stage knows

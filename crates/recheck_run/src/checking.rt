@@ -15,7 +15,7 @@ use crate::laws::{error_laws, reach_laws};
 use crate::stages::{Base, Checking, Merging};
 use check_values::Sig;
 use flow_values::{List, NoMemory, Shared};
-use recheck_checking::{kept_errors, sign};
+use recheck_checking::kept_errors;
 use recheck_reach::recheck_merging::whole_signatures;
 use recheck_reach::recheck_sources::Listed;
 use recheck_reach::{any_moved, checked_modules, moved_signatures};
@@ -84,7 +84,6 @@ pub(crate) fn begin_checks(
     let flags = moved.as_slice();
     let imports = edges.as_slice();
     let checked = to_check(alloc, &listed, all, flags, imports)?;
-    let signed = sign(alloc, &listed.sources, all)?;
     let old = base.was.errors.as_slice();
     let numbers = checked.as_slice();
     let errors = kept_errors(alloc, old, from, numbers)?;
@@ -100,7 +99,6 @@ pub(crate) fn begin_checks(
         signatures,
         moved,
         checked,
-        signed,
         done: 0,
         errors,
     })

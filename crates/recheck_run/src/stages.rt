@@ -2,7 +2,7 @@
 use check_values::{Root, Sig};
 use committed_results::source_front::Parse;
 use flow_values::{List, Shared};
-use recheck_checking::{ErrorSlots, Signed};
+use recheck_checking::ErrorSlots;
 use recheck_reach::check_phases::{Made, Sources};
 use recheck_reach::recheck_merging::{MergePlan, Slots};
 use recheck_reach::recheck_sources::Listed;
@@ -50,8 +50,6 @@ pub(crate) struct Checking {
     pub moved: Vec<bool>,
     /// The numbers of the modules that are to be checked, rising.
     pub checked: List<u32>,
-    /// The merged signatures by paths.
-    pub signed: Signed,
     /// How many are checked.
     pub done: usize,
     /// The errors that are kept, and those of the modules that are checked.

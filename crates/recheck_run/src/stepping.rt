@@ -111,12 +111,13 @@ fn check_more<R: Threads + Wait + Sync, A: Analyst + Send>(
     let done = checking.done;
     let numbers = checking.checked.as_slice();
     let end = usize::min(numbers.len(), done + 64);
+    let signatures = checking.signatures.as_slice();
     check_batch(
         rt,
         alloc,
         analysts,
         &checking.sources,
-        &checking.signed,
+        signatures,
         numbers,
         done,
         &mut checking.errors,

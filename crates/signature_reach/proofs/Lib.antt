@@ -1,3 +1,3 @@
-pub mod Search
+pub mod Signed
 pub mod Seen
 pub mod Reached

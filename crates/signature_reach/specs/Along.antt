@@ -5,9 +5,16 @@ use Rattle.std.specs.BTreeSet.{BTreeSet, contains}
 use Rattle.std.specs.Cmp.Lexicographic.{slice_cmp}
 use Rattle.std.specs.Ordering.{nat_cmp}
 use Rattle.check_values.specs.Rows.{Bytes, Rows, row_at}
+use Rattle.check_values.specs.declared.root.RootRow.{RootRow}
 use Rattle.check_values.specs.declared.signatures.Sig.{Sig}
 use Rattle.merged_signatures.specs.Reach.{paths_named}
 use Rattle.errors_by_reach.specs.Seen.{Sigs}
+
+-- the signatures of modules by their paths
+abbrev pub signed : List RootRow → List Sig → Rows Sig
+signed [] sigs = []
+signed (m ∷ ms) [] = []
+signed (m ∷ ms) (s ∷ sigs) = (m.path, s) ∷ signed ms sigs
 
 -- some rows say of a path what all signatures do
 abbrev pub IsMet : Sigs → Rows Sig → Bytes → Type 0

@@ -1,50 +1,50 @@
-//! Looking at paths among the rows of all modules.
-ghost use Rattle.std.specs.Prelude.{◌≡◌, ◌<◌, IfOk, IfSome, OnOk, length, map, slice_get};
-ghost use Rattle.std.specs.Option.{option_map, option_and_then};
+//! Looking at paths among all modules.
+ghost use Rattle.std.specs.Prelude.{◌≡◌, IfOk, OnOk, length};
 ghost use Rattle.flow_values.specs.Path.{IsRising};
 ghost use Rattle.check_values.specs.Rows.{row_at};
-ghost use Rattle.signature_reach.specs.Along.{IsMet, AreMet, Knows, Grows};
+ghost use Rattle.check_values.specs.Roots.{paths_of_rows};
+ghost use Rattle.signature_reach.specs.Along.{signed, IsMet, AreMet, Knows, Grows};
 
-use check_values::Sig;
+use check_values::{RootRow, Sig};
 use flow_values::{List, NoMemory, Path, Shared};
+use pending_edits::place_of;
 use std::collections::BTreeSet;
 
-// Where a path stands among rows whose paths rise.
-fn place_of(rows: &[(Path, Shared<Sig>)], path: &Path) -> Option<usize>
-    requires { IsRising (map (λ row. row.0) rows.now) }
-    ensures sig { row_at rows.now path.now ≡ option_and_then (λ at. option_map (λ row. row.1) (slice_get rows.now at)) result }
-    ensures within { IfSome result (λ at. at < length rows.now) }
-{
-    rows.binary_search_by(|row| row.0.cmp(path)).ok()
-}
-
 // The merged signature of the module at a path, if there is one.
-fn signature_at(rows: &[(Path, Shared<Sig>)], path: &Path) -> Result<Option<Shared<Sig>>, NoMemory>
-    requires { IsRising (map (λ row. row.0) rows.now) }
-    ensures { IfOk result (λ sig. sig ≡ row_at rows.now path.now) }
+#[tactic(auto, using(crate::proofs::Signed::none_signed, crate::proofs::Signed::one_signed))]
+fn signature_at(
+    modules: &[RootRow],
+    signatures: &[Shared<Sig>],
+    path: &Path,
+) -> Result<Option<Shared<Sig>>, NoMemory>
+    requires rising { IsRising (paths_of_rows modules.now) }
+    requires many { length signatures.now ≡ length modules.now }
+    ensures { IfOk result (λ sig. sig ≡ row_at (signed modules.now signatures.now) path.now) }
 {
-    match place_of(rows, path) {
-        Some(at) => Ok(Some(rows[at].1.share()?)),
+    match place_of(modules, path) {
+        Some(at) => Ok(Some(signatures[at].share()?)),
         None => Ok(None),
     }
 }
 
 // Looks at a path: adds the signature of its module, where it is one that was not looked at yet.
 fn look_at(
-    rows: &[(Path, Shared<Sig>)],
+    modules: &[RootRow],
+    signatures: &[Shared<Sig>],
     path: &Path,
     seen: &mut BTreeSet<Path>,
     found: &mut List<(Path, Shared<Sig>)>,
 ) -> Result<(), NoMemory>
-    requires rising { IsRising (map (λ row. row.0) rows.now) }
-    requires known { Knows (row_at rows.now) seen.old found.old }
-    ensures grows { OnOk result (Grows (row_at rows.now) (map (λ row. row.0) rows.now) seen.old found.old seen.new found.new) }
-    ensures met { OnOk result (IsMet (row_at rows.now) found.new path.now) }
+    requires rising { IsRising (paths_of_rows modules.now) }
+    requires many { length signatures.now ≡ length modules.now }
+    requires known { Knows (row_at (signed modules.now signatures.now)) seen.old found.old }
+    ensures grows { OnOk result (Grows (row_at (signed modules.now signatures.now)) (paths_of_rows modules.now) seen.old found.old seen.new found.new) }
+    ensures met { OnOk result (IsMet (row_at (signed modules.now signatures.now)) found.new path.now) }
 {
     if !seen.insert(path.share()?)? {
         return Ok(());
     }
-    match signature_at(rows, path)? {
+    match signature_at(modules, signatures, path)? {
         Some(sig) => found.push((path.share()?, sig)),
         None => Ok(()),
     }
@@ -56,18 +56,20 @@ fn look_at(
 ///
 /// `NoMemory` where memory is refused. Some of them may have been looked at then.
 pub(crate) fn look_at_all(
-    rows: &[(Path, Shared<Sig>)],
+    modules: &[RootRow],
+    signatures: &[Shared<Sig>],
     paths: &[Path],
     seen: &mut BTreeSet<Path>,
     found: &mut List<(Path, Shared<Sig>)>,
 ) -> Result<(), NoMemory>
-    requires rising { IsRising (map (λ row. row.0) rows.now) }
-    requires known { Knows (row_at rows.now) seen.old found.old }
-    ensures grows { OnOk result (Grows (row_at rows.now) (map (λ row. row.0) rows.now) seen.old found.old seen.new found.new) }
-    ensures met { OnOk result (AreMet (row_at rows.now) found.new paths.now) }
+    requires rising { IsRising (paths_of_rows modules.now) }
+    requires many { length signatures.now ≡ length modules.now }
+    requires known { Knows (row_at (signed modules.now signatures.now)) seen.old found.old }
+    ensures grows { OnOk result (Grows (row_at (signed modules.now signatures.now)) (paths_of_rows modules.now) seen.old found.old seen.new found.new) }
+    ensures met { OnOk result (AreMet (row_at (signed modules.now signatures.now)) found.new paths.now) }
 {
     for i in 0..paths.len() {
-        look_at(rows, &paths[i], seen, found)?;
+        look_at(modules, signatures, &paths[i], seen, found)?;
     }
     Ok(())
 }

@@ -1,13 +1,14 @@
-//! The search among the rows of all modules.
-ghost use Rattle.std.specs.Prelude.{◌≡◌, IfOk, OnOk, map};
+//! The search among all modules.
+ghost use Rattle.std.specs.Prelude.{◌≡◌, IfOk, OnOk, length};
 ghost use Rattle.flow_values.specs.Path.{IsRising};
+ghost use Rattle.check_values.specs.Roots.{paths_of_rows};
 ghost use Rattle.check_values.specs.Rows.{row_at};
 ghost use Rattle.errors_by_reach.specs.Law.{Agree};
-ghost use Rattle.signature_reach.specs.Along.{Knows, Grows, IsClosed};
+ghost use Rattle.signature_reach.specs.Along.{signed, Knows, Grows, IsClosed};
 
 use crate::looking::look_at_all;
 use crate::starts::{found_paths, named_at};
-use check_values::{Deps, Sig};
+use check_values::{Deps, RootRow, Sig};
 use flow_values::{List, NoMemory, Path, Shared};
 use std::alloc::Global;
 use std::collections::BTreeSet;
@@ -15,43 +16,48 @@ use std::collections::BTreeSet;
 // Looks at the modules that signatures name, and at those that theirs do.
 fn follow(
     alloc: Global,
-    rows: &[(Path, Shared<Sig>)],
+    modules: &[RootRow],
+    signatures: &[Shared<Sig>],
     seen: &mut BTreeSet<Path>,
     found: &mut List<(Path, Shared<Sig>)>,
 ) -> Result<(), NoMemory>
-    requires rising { IsRising (map (λ row. row.0) rows.now) }
-    requires known { Knows (row_at rows.now) seen.old found.old }
-    ensures grows { OnOk result (Grows (row_at rows.now) (map (λ row. row.0) rows.now) seen.old found.old seen.new found.new) }
-    ensures closed { OnOk result (IsClosed (row_at rows.now) found.new) }
+    requires rising { IsRising (paths_of_rows modules.now) }
+    requires many { length signatures.now ≡ length modules.now }
+    requires known { Knows (row_at (signed modules.now signatures.now)) seen.old found.old }
+    ensures grows { OnOk result (Grows (row_at (signed modules.now signatures.now)) (paths_of_rows modules.now) seen.old found.old seen.new found.new) }
+    ensures closed { OnOk result (IsClosed (row_at (signed modules.now signatures.now)) found.new) }
 {
     let mut at = 0;
     while at < found.len() {
         let named = named_at(alloc, found.as_slice(), at)?;
-        look_at_all(rows, named.as_slice(), seen, found)?;
+        look_at_all(modules, signatures, named.as_slice(), seen, found)?;
         at += 1;
     }
     Ok(())
 }
 
 /// The merged signatures of the modules that a module with a dependency list reaches: those that its specifiers find, and with each of
-/// them those that its signature names. `rows` has the signatures of all modules by their paths, which rise. It looks at no other
-/// signature than those, and finds each by halving.
+/// them those that its signature names. `signatures` has one for each of all modules, whose paths rise. It looks at no other signature
+/// than those, and finds each by halving.
 ///
 /// # Errors
 ///
 /// `NoMemory` where memory is refused.
 pub fn reached_signatures(
     alloc: Global,
-    rows: &[(Path, Shared<Sig>)],
+    modules: &[RootRow],
+    signatures: &[Shared<Sig>],
     deps: &Deps,
 ) -> Result<List<(Path, Shared<Sig>)>, NoMemory>
-    requires rising { IsRising (map (λ row. row.0) rows.now) }
-    ensures { IfOk result (λ some. Agree (row_at rows.now) deps.now (row_at some)) }
+    requires rising { IsRising (paths_of_rows modules.now) }
+    requires many { length signatures.now ≡ length modules.now }
+    ensures { IfOk result (λ some. Agree (row_at (signed modules.now signatures.now)) deps.now (row_at some)) }
 {
     let starts = found_paths(alloc, deps.rows.as_slice())?;
     let mut seen = BTreeSet::new(alloc);
     let mut found = List::new(alloc);
-    look_at_all(rows, starts.as_slice(), &mut seen, &mut found)?;
-    follow(alloc, rows, &mut seen, &mut found)?;
+    let paths = starts.as_slice();
+    look_at_all(modules, signatures, paths, &mut seen, &mut found)?;
+    follow(alloc, modules, signatures, &mut seen, &mut found)?;
     Ok(found)
 }

@@ -4,6 +4,7 @@ use Rattle.check_values.specs.declared.signatures.Deps.{Deps}
 use Rattle.errors_by_reach.specs.Law.{Agree}
 use Rattle.recheck_merging.specs.check_phases.proofs.Checks.{job_made}
 use Rattle.recheck_merging.specs.check_phases.proofs.Merges.{many_parses, many_lists}
+use Rattle.recheck_checking.specs.Checking.{rows_by}
 use Rattle.recheck_checking.proofs.checking.job_of.Goals as goal
 
 pub returns : goal.returns
@@ -11,5 +12,5 @@ returns c =
     let many = ap length c.modules_of-modules.ensures in
     let parses = many_parses c.args.sources.now c.requires.sources in
     let lists = many_lists c.args.sources.now c.requires.sources in
-    job_made c.args.sources.now c.args.signed.now.rows c.modules_of-modules.result.now c.args.x c.index-modules-x.result c.index-parse.result.now c.index-deps.result.now _ c.modules_of-modules.ensures (omega arith) c.index-modules-x.is (omega arith)
-    (search rules) (omega arith) (search rules) (search rules) (search rules) c.in_ok-share-3.ensures c.in_ok-share-4.ensures (subst (λ (ds : Deps). Agree (row_at c.args.signed.now.rows) ds (row_at c.in_ok-sigs.sigs)) (search rules) c.in_ok-sigs.ensures)
+    job_made c.args.sources.now (rows_by c.args.sources.now c.args.signatures.now) c.modules_of-modules.result.now c.args.x c.index-modules-x.result c.index-parse.result.now c.index-deps.result.now _ c.modules_of-modules.ensures (omega arith) c.index-modules-x.is (omega arith)
+    (search rules) (omega arith) (search rules) (search rules) (search rules) c.in_ok-share-3.ensures c.in_ok-share-4.ensures (subst (λ (ds : Deps). Agree (row_at (rows_by c.args.sources.now c.args.signatures.now)) ds (row_at c.in_ok-sigs.sigs)) (search rules) c.in_ok-sigs.ensures)

@@ -3,4 +3,4 @@ use Rattle.recheck_checking.proofs.Puts.{jobs_more}
 use Rattle.recheck_checking.proofs.checking.jobs_for.Goals as goal
 
 pub loop-i-preserved : goal.loop-i-preserved
-loop-i-preserved c = jobs_more c.args.sources.now c.args.signed.now c.args.numbers.now c.loop-i.i c.in_ok-job.job c.loop-i.jobs.items _ (omega arith) c.loop-i.invariant c.in_ok-job.ensures c.in_ok-push.ensures.items
+loop-i-preserved c = jobs_more c.args.sources.now c.args.signatures.now c.args.numbers.now c.loop-i.i c.in_ok-job.job c.loop-i.jobs.items _ (omega arith) c.loop-i.invariant c.in_ok-job.ensures c.in_ok-push.ensures.items

@@ -44,12 +44,6 @@ pub to_check-requires-clause-within : goal.to_check-requires-clause-within
 to_check-requires-clause-within c =
     changed_low c.args.base.now c.args.merging c.requires.base c.requires.merging c.requires.all c.reach_laws.ensures.touched c.waves_make_all.ensures c.in_ok-signatures.signatures.items c.in_ok-signatures.ensures c.as_slice-all.result.now c.as_slice-all.ensures.value
 
-pub sign-requires : goal.sign-requires
-sign-requires c = record {
-  many =
-      many_all c.args.base.now c.args.merging c.requires.base c.requires.merging c.requires.all c.reach_laws.ensures.touched c.waves_make_all.ensures c.in_ok-signatures.signatures.items c.in_ok-signatures.ensures c.as_slice-all.result.now c.as_slice-all.ensures.value;
-}
-
 pub kept_errors-requires : goal.kept_errors-requires
 kept_errors-requires c = record {
   within =
@@ -62,7 +56,7 @@ pub returns-clause-checking : goal.returns-clause-checking
 returns-clause-checking c =
     checking_is c.args.base.now c.args.merging c.requires.base c.requires.merging c.requires.all c.reach_laws.ensures.touched c.waves_make_all.ensures c.in_ok-signatures.signatures.items c.in_ok-signatures.ensures c.as_slice-all.result.now c.as_slice-all.ensures.value
     c.as_slice-from.result.now c.as_slice-from.ensures.value c.as_slice-was.result.now c.as_slice-was.ensures.value c.in_ok-moved.moved.items c.in_ok-moved.ensures c.reach_laws.ensures.checked c.as_slice-flags.result.now c.as_slice-flags.ensures.value
-    c.in_ok-checked.checked c.in_ok-checked.ensures c.each_full.ensures c.error_laws.ensures.full c.error_laws.ensures.kept _ _ _ c.as_slice-numbers.result.now c.as_slice-old.result.now c.in_ok-signed.signed _ refl refl refl c.in_ok-signed.ensures
+    c.in_ok-checked.checked c.in_ok-checked.ensures c.each_full.ensures c.error_laws.ensures.full c.error_laws.ensures.kept _ _ _ c.as_slice-numbers.result.now c.as_slice-old.result.now _ refl refl refl
     c.as_slice-numbers.ensures c.as_slice-old.ensures.value c.in_ok-errors.ensures
 
 pub returns-clause-also : goal.returns-clause-also
@@ -74,7 +68,6 @@ returns-clause-also c =
       signatures = c.in_ok-signatures.signatures;
       moved = c.in_ok-moved.moved;
       checked = c.in_ok-checked.checked;
-      signed = c.in_ok-signed.signed;
       done = 0;
       errors = c.in_ok-errors.errors;
     }) c.requires.all c.requires.merging.listed.root

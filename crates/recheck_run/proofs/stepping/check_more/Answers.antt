@@ -1,16 +1,17 @@
-use Rattle.std.proofs.Common.{length, ap, refl, arith}
+use Rattle.std.proofs.Common.{length, ap, refl, ◌∙◌, arith}
 use Rattle.std.proofs.lemmas.Result.{err_from_is_err_and}
+use Rattle.recheck_reach.specs.check_phases.proofs.Waves.{many_merged}
 use Rattle.recheck_run.proofs.Goes.{batch_goes_on, batch_failed_on, numbers_low, checked_begun, checked_more}
 use Rattle.recheck_run.proofs.stepping.check_more.Goals as goal
 
-pub check_batch-requires-clause-paths : goal.check_batch-requires-clause-paths
-check_batch-requires-clause-paths g c κs within = c.requires.checking.signed.paths
+pub check_batch-requires-clause-many : goal.check_batch-requires-clause-many
+check_batch-requires-clause-many g c κs within = ap length c.as_slice-signatures.ensures.value ∙ many_merged c.args.checking.sources c.args.checking.signatures.items c.requires.checking.merged
 
 pub check_batch-requires-clause-within : goal.check_batch-requires-clause-within
 check_batch-requires-clause-within g c κs within = numbers_low c.args.checking.sources _ c.args.checking.checked c.as_slice-numbers.ensures c.requires.checking.to_check.within
 
 pub check_batch-requires-clause-checked : goal.check_batch-requires-clause-checked
-check_batch-requires-clause-checked g c κs within = checked_begun c.args.checking.sources c.args.checking.signed _ c.args.checking.checked c.args.checking.done c.args.checking.errors.items c.as_slice-numbers.ensures c.requires.checking.errors
+check_batch-requires-clause-checked g c κs within = checked_begun c.args.checking.sources c.args.checking.signatures.items _ _ c.args.checking.checked c.args.checking.done c.args.checking.errors.items c.as_slice-signatures.ensures.value c.as_slice-numbers.ensures c.requires.checking.errors
 
 pub returns-in_err-check_batch-clause-steps : goal.returns-in_err-check_batch-clause-steps
 returns-in_err-check_batch-clause-steps g c =
@@ -28,9 +29,8 @@ returns-clause-holds g c =
       merged = is.merged;
       moved = is.moved;
       to_check = is.to_check;
-      signed = is.signed;
       kept = is.kept;
-      errors = checked_more c.args.checking.sources c.args.checking.signed c.as_slice-numbers.result.now c.args.checking.checked c.args.checking.done c.min-end.result _ c.as_slice-numbers.ensures (omega (arith, a)) c.in_ok-check_batch.ensures.checked;
+      errors = checked_more c.args.checking.sources c.args.checking.signatures.items c.as_slice-signatures.result.now c.as_slice-numbers.result.now c.args.checking.checked c.args.checking.done c.min-end.result _ c.as_slice-signatures.ensures.value c.as_slice-numbers.ensures (omega (arith, a)) c.in_ok-check_batch.ensures.checked;
       low = omega (arith, low, a, v);
     }
 
@@ -44,7 +44,6 @@ returns-clause-steps g c =
       signatures = c.args.checking.signatures;
       moved = c.args.checking.moved;
       checked = c.args.checking.checked;
-      signed = c.args.checking.signed;
       done = c.min-end.result;
       errors = c.check_batch.new.slots;
     }) _ _ c.as_slice-numbers.ensures c.requires.low refl (omega (arith, a)) c.in_ok-check_batch.ensures.work

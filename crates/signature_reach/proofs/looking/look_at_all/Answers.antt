@@ -1,7 +1,8 @@
 use Rattle.std.proofs.Common.{refl, arith}
+use Rattle.check_values.specs.Roots.{paths_of_rows}
 use Rattle.check_values.specs.Rows.{row_at}
 use Rattle.std.proofs.lemmas.Option.{slice_get_read}
-use Rattle.signature_reach.proofs.Search.{names_of}
+use Rattle.signature_reach.specs.Along.{signed}
 use Rattle.signature_reach.proofs.Reached.{grows_none, grows_through, one_more_met}
 use Rattle.signature_reach.proofs.looking.look_at_all.Goals as goal
 
@@ -10,8 +11,8 @@ loop-i-init c = record { grows = grows_none _ _ _ _ c.requires.known; met = tt }
 
 pub loop-i-preserved : goal.loop-i-preserved
 loop-i-preserved c =
-    let sigs = row_at c.args.rows.now in
-    let names = names_of c.args.rows.now in
+    let sigs = row_at (signed c.args.modules.now c.args.signatures.now) in
+    let names = paths_of_rows c.args.modules.now in
     let step = c.in_ok-look_at.ensures.grows in
     let low = c.loop-i-test.true in
     record {

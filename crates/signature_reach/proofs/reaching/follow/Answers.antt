@@ -1,8 +1,8 @@
 use Rattle.std.proofs.Common.{subst, arith}
+use Rattle.check_values.specs.Roots.{paths_of_rows}
 use Rattle.check_values.specs.Rows.{Rows, row_at}
 use Rattle.check_values.specs.declared.signatures.Sig.{Sig}
-use Rattle.signature_reach.specs.Along.{AreMet, AreNamedAt}
-use Rattle.signature_reach.proofs.Search.{names_of}
+use Rattle.signature_reach.specs.Along.{signed, AreMet, AreNamedAt}
 use Rattle.signature_reach.proofs.Reached.{grows_none, grows_through, grows_longer, none_closed, one_closed}
 use Rattle.signature_reach.proofs.reaching.follow.Goals as goal
 
@@ -11,8 +11,8 @@ loop-at-init c = record { grows = grows_none _ _ _ _ c.requires.known; closed = 
 
 pub loop-at-preserved : goal.loop-at-preserved
 loop-at-preserved c =
-    let sigs = row_at c.args.rows.now in
-    let names = names_of c.args.rows.now in
+    let sigs = row_at (signed c.args.modules.now c.args.signatures.now) in
+    let names = paths_of_rows c.args.modules.now in
     let step = c.in_ok-look_at_all.ensures.grows in
     let met : AreMet sigs c.look_at_all.new.found c.in_ok-named.named = subst (AreMet sigs c.look_at_all.new.found) c.as_slice-in-loop-at.ensures c.in_ok-look_at_all.ensures.met in
     let named : AreNamedAt c.loop-at.found c.loop-at.at c.in_ok-named.named = subst (λ (rows : Rows Sig). AreNamedAt rows c.loop-at.at c.in_ok-named.named) c.as_slice.ensures c.in_ok-named.ensures in
