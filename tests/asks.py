@@ -239,7 +239,8 @@ def spots(source):
     return "\n".join(text), told
 
 
-# Each line of a module, and the types at its columns: from each named one on, `-` where no expression is.
+# Each line of a module, and the types at its columns: from each named one on, `-` where no expression is. They were found by hand: the
+# stored run of run_cases asks for the types in these modules and in others, and there the definition's readings tell what is wanted.
 TYPED = {
     "what is known narrows": """
 export function f(x: ?string, n: number): string { ## 1 -
@@ -263,12 +264,54 @@ const s: 'on' | 'off' = 'on'; ## 1 - ## 25 "on" ## 29 -
 const o: {a: number} = {a: 7}; ## 1 - ## 24 {a: number} ## 28 7 ## 29 {a: number} ## 30 -
 null; ## 1 null ## 5 -
 """,
+    "ways of a test": """
+function f(a: ?string, b: boolean): void { ## 1 -
+  a && a.length || ## 1 - ## 3 null | void | string ## 4 null | void | string | number ## 8 string ## 9 number ## 16 string | number | false | boolean
+    b && !b; ## 1 string | number | false | boolean ## 5 boolean ## 6 false | boolean ## 10 boolean ## 11 true ## 12 -
+  const c = a ?? "none"; ## 1 - ## 13 string | null | void ## 14 string | "none" ## 18 "none" ## 24 -
+  (a || null) != null ## 1 - ## 3 string | null ## 4 string | null | void ## 5 string | null ## 9 null ## 13 string | null ## 14 boolean ## 18 null
+    ? c : b; ## 1 string | "none" | boolean ## 7 string | "none" ## 8 string | "none" | boolean ## 11 boolean ## 12 -
+} ## 1 -
+""",
+    "a loop that assigns": """
+function f(x: ?number, o: {p: ?string}): void { ## 1 -
+  let n = x; ## 1 - ## 11 null | void | number ## 12 -
+  while (n != null) { ## 1 - ## 10 null | void | number ## 11 boolean ## 15 null ## 19 -
+    if (n > 3) { break; } ## 1 - ## 9 number ## 10 boolean ## 13 3 ## 14 -
+    n = o.p != null ## 1 - ## 9 {p: null | void | string} ## 10 null | void | string ## 12 boolean ## 16 null
+      ? n + 1 : null; ## 1 number | null ## 9 number ## 13 1 ## 14 number | null ## 17 null ## 21 -
+    o.p = "a"; ## 1 - ## 5 {p: null | void | string} ## 6 - ## 11 "a" ## 14 -
+    o.p; ## 1 - ## 5 {p: null | void | string} ## 6 string ## 8 -
+  } ## 1 -
+  n; ## 1 - ## 3 null | void | number ## 4 -
+} ## 1 -
+""",
+    "a property tells members apart": """
+type S = {k: "a", r: ?number} | {k: "b"}; ## 1 -
+const g = (): void => { return; }; ## 1 - ## 11 () => void ## 34 -
+function f(s: S): mixed { ## 1 -
+  if (s.k === "b" || ## 1 - ## 7 S ## 8 "a" | "b" ## 10 boolean ## 15 "b" ## 18 true | boolean
+      s.r == null) { ## 1 true | boolean ## 7 {k: "a", r: null | void | number} ## 8 null | void | number ## 10 boolean ## 14 null ## 18 -
+    return s; ## 1 - ## 12 {k: "b"} | {k: "a", r: null | void | number} ## 13 -
+  } ## 1 -
+  s.r; ## 1 - ## 3 {k: "a", r: null | void | number} ## 4 number ## 6 -
+  g(); ## 1 - ## 3 () => void ## 4 void ## 6 -
+  s.k; ## 1 - ## 3 {k: "a", r: null | void | number} ## 4 "a" ## 6 -
+  return [s.r]; ## 1 - ## 10 Array<null | void | number> ## 11 {k: "a", r: null | void | number} ## 12 null | void | number ## 14 Array<null | void | number> ## 15 -
+} ## 1 -
+""",
 }
+
+
+def shown_at(line, column, shown):
+    """What is printed of a place in `a.js`."""
+    place = f"a.js:{line}:{column}"
+    return f"1 type-at-pos {place}: {shown}\n" if shown else f"1 no expression {place}\n"
 
 
 @case
 def the_type_at_each_place(root):
-    """Of the innermost expression that covers the character, for each one of three modules; nothing before the first line, behind the
+    """Of the innermost expression that covers the character, for each one of six modules; nothing before the first line, behind the
     last one, and behind the end of a line."""
     for name, source in TYPED.items():
         text, told = spots(source)
@@ -277,13 +320,28 @@ def the_type_at_each_place(root):
         outside = [(0, 1), (1, 0), (last + 1, 1), (1, len(text.split("\n")[0]) + 2), (2**64 - 1, 1), (1, 2**64 - 1)]
         for number, column, shown in told + [(*it, None) for it in outside]:
             script.append(ask("type-at-pos", path="a.js", line=number, col=column))
-            place = f"a.js:{number}:{column}"
-            printed.append((f"1 type-at-pos {place}: {shown}\n" if shown else f"1 no expression {place}\n").encode())
+            printed.append(shown_at(number, column, shown).encode())
         write(f"{root}/{name}/a.js", text.encode())
         status, out, err = run(f"{root}/{name}", stdin=None, input=b"".join(script))
         wrong = [f"{it} and not {wanted}" for it, wanted in zip(out.splitlines(True), printed) if it != wanted]
         if wrong or (status, err, len(out.splitlines())) != (CLEAN, b"", len(printed)):
             raise AssertionError(f"{name}: {len(wrong)} are wrong, and it ended with {status}: {'; '.join(wrong[:12])}")
+
+
+@case
+def the_types_by_hand_are_those_of_the_definition(root):
+    """The stored run of run_cases wants the same of the same modules, where it was computed by a search through the readings."""
+    with open(f"{real_folders.TOP}/crates/run_cases/stdin", encoding="utf-8", newline="\n") as file:
+        folders = [it.split("\n") for it in file.read().split("\nfolder\n")]
+    for name, source in TYPED.items():
+        text, told = spots(source)
+        stored = [it for it in folders if f"case the type at each place: {name}" in it]
+        if len(stored) != 1 or "\n".join(it[1:] for it in stored[0] if it.startswith("|")) != text:
+            raise AssertionError(f"{name}: the stored run has {len(stored)} of this name, or another text")
+        wanted = {f"{it[1:]}\n" for it in stored[0] if it.startswith("<")}
+        wrong = [it for it in (shown_at(*spot) for spot in told) if it not in wanted]
+        if wrong:
+            raise AssertionError(f"{name}: the stored run wants something else than {''.join(wrong[:12])}")
 
 
 @case
