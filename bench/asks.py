@@ -6,8 +6,9 @@
 
 All are asked of the module that has 14 importers, or as near to it as there is one. The least, the median and the most milliseconds
 of twenty times are told, behind one that isn't counted. Behind each question stands one of a path that no module has, whose line ends
-the answer: its own time is told first. TypeScript's service has the type at a place (getQuickInfoAtPosition), the errors of a file and
-of a changed text (getSemanticDiagnostics), who refers to a file (getFileReferences).
+the answer: its own time is told first. A question by itself waits twice for the pipe, which TypeScript's service does not use: so what
+each one takes of a hundred that are sent at once is told too. TypeScript's service has the type at a place (getQuickInfoAtPosition),
+the errors of a file and of a changed text (getSemanticDiagnostics), who refers to a file (getFileReferences).
 
 FLOWD names another program in the place of crates/flowd/out/flowd, which ./build builds. TypeScript is that of Debian's node-typescript.
 """
@@ -24,7 +25,7 @@ sys.path.insert(0, os.path.dirname(os.path.abspath(__file__)))
 from modules import SHAPES, TOP, words_of, write
 from recheck import Session, chosen
 
-TIMES = 20
+TIMES, MANY = 20, 100
 LAST = {"what": "importers", "path": "no/such.js"}
 MORE = "export const more{n}: number = {n};\n"
 
@@ -39,16 +40,16 @@ def place_of(text, words):
 class Asking(Session):
     """flowd, asked questions."""
 
-    def ask(self, question):
-        """Sends a question, and returns the lines of its answer and the milliseconds until they were there."""
-        script = b"".join(json.dumps({"do": "ask", "ask": it}).encode() + b"\n" for it in (question, LAST))
+    def ask(self, *questions):
+        """Sends questions, and returns the lines of their answers and the milliseconds until they were there."""
+        script = b"".join(json.dumps({"do": "ask", "ask": it}).encode() + b"\n" for it in (*questions, LAST))
         begin = time.perf_counter()
         self.child.stdin.write(script)
         self.child.stdin.flush()
         lines = []
         while not (line := self.child.stdout.readline()).endswith(b" unknown path no/such.js\n"):
             if not line:
-                sys.exit(f"flowd ended at {question}, behind {b''.join(lines)[-200:]}")
+                sys.exit(f"flowd ended at {questions[0]}, behind {b''.join(lines)[-200:]}")
             lines.append(line)
         return lines, (time.perf_counter() - begin) * 1000
 
@@ -80,10 +81,11 @@ def said(who, kind, times):
 def of_flowd(folder, asked, words):
     session = Asking(folder, words)
     taken = {kind: [session.ask(it)[1] for it in rows][1:] for kind, rows in asked.items()}
+    at_once = {kind: [session.ask(*[it] * MANY)[1] / MANY for it in rows][1:] for kind, rows in asked.items()}
     status, peak = session.end()
     if status or not session.load.endswith(b" 0 errors\n"):
         sys.exit(f"flowd ended with status {status}, and the load said {session.load}")
-    return session.load_seconds, taken, peak
+    return session.load_seconds, taken, at_once, peak
 
 
 def of_typescript(folder, asked):
@@ -103,15 +105,17 @@ def compare(shape, count):
         write(f"{room}/js", shape, count, False)
         write(f"{room}/ts", shape, count, True)
         js, ts = (dict(SHAPES[shape](count, is_ts)) for is_ts in (False, True))
-        load, taken, peak = of_flowd(f"{room}/js", questions(js, "js"), words_of(count))
+        load, taken, at_once, peak = of_flowd(f"{room}/js", questions(js, "js"), words_of(count))
         print(f"{shape}: {count} modules\n  flowd's load {load:.2f} s, {peak:.0f} MB at the most")
         theirs_load, theirs = of_typescript(f"{room}/ts", questions(ts, "ts"))
         print(f"  tsc's load {theirs_load:.2f} s                        least    median      most")
         for kind, times in taken.items():
             said("flowd", kind, times)
+            said("flowd", f"  each of {MANY} at once", at_once[kind])
             if kind in theirs:
                 said("tsc", kind, theirs[kind])
-                print(f"         flowd takes {statistics.median(times) / statistics.median(theirs[kind]):.4f} of the time", flush=True)
+                shares = [statistics.median(it) / statistics.median(theirs[kind]) for it in (times, at_once[kind])]
+                print(f"         flowd takes {shares[0]:.4f} of the time, each of {MANY} at once {shares[1]:.4f}", flush=True)
 
 
 def main(words):
