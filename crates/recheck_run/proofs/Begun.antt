@@ -5,7 +5,7 @@ use Rattle.committed_results.specs.full_law.specs.Law.{EachFull}
 use Rattle.check_values.specs.declared.faults.Errs.{Errs}
 use Rattle.check_values.specs.declared.root.Root.{Root}
 use Rattle.check_values.specs.declared.signatures.Sig.{Sig}
-use Rattle.graph_search.specs.Cycles.{IsOn}
+use Rattle.graph_search.specs.Cycles.{Has, IsOn}
 use Rattle.recheck_reach.specs.affected_sizes.specs.Polls.{AreImports}
 use Rattle.recheck_plan.specs.Affected.{AreExactly}
 use Rattle.recheck_reach.specs.check_phases.specs.Phases.{AreMerged}

@@ -3,6 +3,7 @@ use Rattle.std.specs.Prelude.{◌≡◌, ◌⊎◌, ℕ, ◌^◌, ◌<◌, ◌�
 use Rattle.flow_values.specs.Path as paths
 use Rattle.check_values.specs.Roots.{paths_of}
 use Rattle.check_values.specs.declared.faults.Errs.{Errs}
+use Rattle.check_values.specs.declared.signatures.Sig.{Sig}
 use Rattle.check_values.specs.declared.root.Root.{Root}
 use Rattle.graph_search.specs.Cycles.{Has}
 use Rattle.graph_search.specs.Reach.{IsRising}
