@@ -22,7 +22,7 @@ use Rattle.program_check.specs.check_job.specs.errors_by_reach.specs.Seen.{Sigs,
 use Rattle.program_check.specs.Full.{Results, beside, known_of, view_in, sigs_in, module_in, AreResultsOf, AreResults, IsFull}
 use Rattle.own_alias_law.specs.Own.{IsTreeAt, plain_type, SignatureSaysTheSame, OwnAliasesAreTheTrees, SoByReach}
 use Rattle.own_alias_law.proofs.Rows.{some_same}
-use Rattle.own_alias_law.proofs.Signed.{known, InTree, signed}
+use Rattle.own_alias_law.proofs.Signed.{known_by, InTree, signed}
 
 -- ---- what a full check says of a path
 
@@ -77,7 +77,7 @@ module _ (program : Program) (results : List Results) (full : IsFull program res
 
 module _ (program : Program) (results : List Results) (path : Bytes) (r : Results) (m : Module) (is : IsTreeAt program results path r m) where
   -- the merged signature of the module is made of its tree's local one
-  is_signed : r.sig ≡ merged_known (view_in program results) path (known (view_in program results) (sigs_in program results) (are_merged program results is.full) path r.deps m)
+  is_signed : r.sig ≡ merged_known (view_in program results) path (known_by r.deps m)
   is_signed =
       let v = view_in program results in
       let own = of_path program results is.full path r is.has_results in

@@ -32,6 +32,7 @@ use Rattle.own_alias_law.proofs.Trees.{type_same, any_still}
 -- ---- the local signature
 
 module _ (m : Module) where
+  -- the exports reach the name
   abbrev is_reached : Bytes → Bool
   is_reached = is_among (reached_names m)
 
@@ -47,19 +48,19 @@ module _ (m : Module) where
 -- ---- what names denote
 
 module _ (v : View) where
-  alias_of : Bool → End → Option Name
-  alias_of is_type e = as_alias (of_kind is_type e)
-
+  -- a chain that ends at once, nowhere
   ended : (n : ℕ) (path name : Bytes) → step_in path (v path) name ≡ ends unknown → as_alias (of_kind true (end_within v n path name)) ≡ None
   ended zero path name e = refl
   ended (suc n) path name e = ap (λ s. as_alias (of_kind true (end_of (end_within v n) s))) e
 
+  -- what is asked for as a value is no alias
   no_value : (e : End) → as_alias (of_kind false e) ≡ None
   no_value (at_value path t) = refl
   no_value (at_alias path name) = refl
   no_value unknown = refl
   no_value cyclic = refl
 
+  -- what an export says as a type is the alias at which its chain ends
   said_end : (e : End) → type_said (said_by_rows (Some (export_of v e))) ≡ name_type (as_alias (of_kind true e))
   said_end (at_value path t) = refl
   said_end (at_alias path name) = refl
@@ -108,17 +109,17 @@ agree_all one other (n ∷ names) each = (each n.1 here, agree_all one other nam
         go true = refl
         go false = has
 
-module _ (v : View) (sigs : Bytes → Option Sig) (are_merged : (q : Bytes) → sigs q ≡ merged v q) (path : Bytes) (deps : Deps) (m : Module) where
-  -- what is known of the module by itself
-  abbrev pub known : Known
-  known = record { sig = local_signature m; deps = deps }
+-- what is known of a module with this list and this tree by itself
+abbrev pub known_by : Deps → Module → Known
+known_by deps m = record { sig = local_signature m; deps = deps }
 
+module _ (v : View) (sigs : Bytes → Option Sig) (are_merged : (q : Bytes) → sigs q ≡ merged v q) (path : Bytes) (deps : Deps) (m : Module) where
   -- what a word means by the tree, and by the signature
   abbrev by_tree : Bytes → FlowType
   by_tree w = type_meant (type_bound path deps sigs w (row_at (scope_of m) w))
 
   abbrev by_signature : Bytes → FlowType
-  by_signature w = name_type (alias_named (alias_at v) path known w)
+  by_signature w = name_type (alias_named (alias_at v) path (known_by deps m) w)
 
   through : (row : ImportRow) (o : Option Bytes) → row.is_type ≡ true → type_said (said_by sigs row.name o) ≡ name_type (alias_through (alias_at v) row o)
   through row None is = refl
@@ -166,7 +167,7 @@ module _ (v : View) (sigs : Bytes → Option Sig) (are_merged : (q : Bytes) → 
   tree_same : (t : Ty) → type_of by_tree t ≡ type_by by_tree (local_type (scope_of m) t)
   tree_same t = (λ j. type_of (λ w. local_same w j) t) ∙ type_same by_tree (local_name (scope_of m)) t
 
-  alias_same : (name : Bytes) (t : Ty) → is_reached m name ≡ true → row_at (scope_of m) name ≡ Some (bound_alias t) → type_of by_tree t ≡ type_with (alias_at v) path known (local_type (scope_of m) t)
+  alias_same : (name : Bytes) (t : Ty) → is_reached m name ≡ true → row_at (scope_of m) name ≡ Some (bound_alias t) → type_of by_tree t ≡ type_with (alias_at v) path (known_by deps m) (local_type (scope_of m) t)
   alias_same name t reached at =
       let row : row_at (aliases_of m) name ≡ Some (local_type (scope_of m) t) = aliases_by_scope m name ∙ ap (alias_bound (scope_of m)) at in
       tree_same t
@@ -177,14 +178,14 @@ module _ (v : View) (sigs : Bytes → Option Sig) (are_merged : (q : Bytes) → 
   abbrev pub InTree : Bytes → FlowType → Type 0
   InTree name t = (own : Ty) × (row_at (scope_of m) name ≡ Some (bound_alias own)) × (type_of by_tree own ≡ t)
 
-  pub signed : (name : Bytes) (t : FlowType) → row_at (merged_known v path known).aliases name ≡ Some t → InTree name t
+  pub signed : (name : Bytes) (t : FlowType) → row_at (merged_known v path (known_by deps m)).aliases name ≡ Some t → InTree name t
   signed name t told = of (is_reached m name) (row_at (scope_of m) name) refl refl
-      (sym (row_made (type_with (alias_at v) path known) (local_signature m).aliases name ∙ ap (option_map (type_with (alias_at v) path known)) (signature_alias m name)) ∙ told)
+      (sym (row_made (type_with (alias_at v) path (known_by deps m)) (local_signature m).aliases name ∙ ap (option_map (type_with (alias_at v) path (known_by deps m))) (signature_alias m name)) ∙ told)
     where
-      of : (r : Bool) (b : Option Binding) → is_reached m name ≡ r → row_at (scope_of m) name ≡ b → option_map (type_with (alias_at v) path known) (cond r (alias_bound (scope_of m) b) None) ≡ Some t → InTree name t
+      of : (r : Bool) (b : Option Binding) → is_reached m name ≡ r → row_at (scope_of m) name ≡ b → option_map (type_with (alias_at v) path (known_by deps m)) (cond r (alias_bound (scope_of m) b) None) ≡ Some t → InTree name t
       of false b reached at is = absurd (let z : None ≡ Some t = is in cc)
       of true None reached at is = absurd (let z : None ≡ Some t = is in cc)
-      of true (Some (bound_alias own)) reached at is = (own, at, alias_same name own reached at ∙ some_same (type_with (alias_at v) path known (local_type (scope_of m) own)) t is)
+      of true (Some (bound_alias own)) reached at is = (own, at, alias_same name own reached at ∙ some_same (type_with (alias_at v) path (known_by deps m) (local_type (scope_of m) own)) t is)
       of true (Some (bound_import spec outer is_type)) reached at is = absurd (let z : None ≡ Some t = is in cc)
       of true (Some (bound_variable d)) reached at is = absurd (let z : None ≡ Some t = is in cc)
       of true (Some (bound_function f)) reached at is = absurd (let z : None ≡ Some t = is in cc)
