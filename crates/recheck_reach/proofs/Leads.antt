@@ -117,7 +117,7 @@ module _ (s : Sources) (sigs : List Sig) (leading : List ℕ) (named : List (Lis
 
 -- ---- as the code has them
 
--- so many lists are those of the modules, and the numbers of flags are among them
+-- the numbers whose flags are on are those of modules
 flags_low : (s : Sources) (moved : List Bool) (ones view : List ℕ) (n : ℕ) → length moved ≡ length s.root.modules → AreExactly (IsOn moved) ones → view ≡ ones → n ≡ length s.root.modules → All (λ t. t < n) view
 flags_low s moved ones view n many on same is =
     has_all (λ (t : ℕ). t < n) view (λ t has. (let low = within_there moved t true (on.sound t (subst (λ (l : List ℕ). Has l t) same has)) in omega arith))

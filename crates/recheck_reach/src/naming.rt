@@ -109,8 +109,8 @@ fn named_by(
     Ok(named)
 }
 
-/// For each module the numbers of the modules that its merged signature names, where it is among these; for any other none. It takes time
-/// in proportion to the signatures of these, with a search by halving for each name, and to the number of all modules.
+/// For each module the numbers of the modules that its merged signature names, where it is one of `numbers`; for any other none. It takes
+/// time in proportion to the signatures of these, with a search by halving for each name in them, and to the number of all modules.
 ///
 /// # Errors
 ///
