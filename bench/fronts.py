@@ -91,21 +91,21 @@ def builder():
     return made
 
 
-def compiled(room):
-    """The program, in a copy of the repository that has it as a crate more."""
+def compiled(room, crate_name, uses, program):
+    """A program over the crates, in a copy of the repository that has it as a crate more."""
     build, top = builder(), f"{room}/repository"
-    os.makedirs(f"{top}/crates/{NAME}/src")
+    os.makedirs(f"{top}/crates/{crate_name}/src")
     for name in os.listdir(f"{TOP}/crates"):
         shutil.copytree(f"{TOP}/crates/{name}", f"{top}/crates/{name}", ignore=shutil.ignore_patterns("out"))
     shutil.copyfile(f"{TOP}/HANDLES", f"{top}/HANDLES")
     with open(f"{TOP}/crates.txt", encoding="utf-8") as crates, open(f"{top}/crates.txt", "w", encoding="utf-8") as to:
-        to.write(f"{crates.read()}{NAME}: {USES}\n")
-    with open(f"{top}/crates/{NAME}/src/main.rt", "w", encoding="utf-8") as to:
-        to.write(PROGRAM)
+        to.write(f"{crates.read()}{crate_name}: {uses}\n")
+    with open(f"{top}/crates/{crate_name}/src/main.rt", "w", encoding="utf-8") as to:
+        to.write(program)
     rtlib = build.toolchain()
-    os.chdir(f"{top}/crates/{NAME}")
+    os.chdir(f"{top}/crates/{crate_name}")
     crate = rtlib.Crate(os.getcwd(), top, {})
-    kept, made = f"{room}/program.bc", f"{room}/{NAME}"
+    kept, made = f"{room}/program.bc", f"{room}/{crate_name}"
     words = build.words_of_try(rtlib, crate, build.toolchain_that_keeps(rtlib.KIT, room, kept))
     how = {"stdin": subprocess.DEVNULL, "stdout": subprocess.DEVNULL, "stderr": subprocess.PIPE, "errors": "replace"}
     tried = subprocess.run(words, env={**os.environ, "TMPDIR": room}, **how)
@@ -127,7 +127,7 @@ def timed(words):
 
 def main(count):
     with tempfile.TemporaryDirectory(prefix="flowd-fronts-") as room:
-        program = compiled(room)
+        program = compiled(room, NAME, USES, PROGRAM)
         rounds = [[timed([program, str(count), str(workers)]) for workers in (0, 1, 2, 4)] for _ in range(ROUNDS)]
         alone, *others = [statistics.median(it[at] for it in rounds) for at in range(4)]
         print(f"{count} empty fronts by one analyst: {alone * 1e3:.1f} ms")
