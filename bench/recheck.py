@@ -6,8 +6,8 @@
     bench/recheck.py memory COUNT          the peak of memory after ten rechecks and after 1,000
 
 The edits: ten of a body, ten of a signature (of the module that has 14 importers, or as near to it as there is one), each with its
-recheck, then one that adds a module and one that removes it. The least, the median and the most milliseconds of each are told.
-More than 1,023 modules are said by the word --modules; COUNT is 4,095 at the most, since a module is added.
+recheck, then ten that add a module each and ten that remove them. The least, the median and the most milliseconds of each are told.
+More than 1,014 modules are said by the word --modules; COUNT is 4,086 at the most, since modules are added.
 FLOWD names another program in the place of crates/flowd/out/flowd, which ./build builds. TypeScript is that of Debian's node-typescript.
 """
 
@@ -23,6 +23,7 @@ import time
 sys.path.insert(0, os.path.dirname(os.path.abspath(__file__)))
 from modules import FLOWD, SHAPES, TOP, write
 
+MORE = 10  # modules that are added
 IMPORT = re.compile(r"from '\./(\w+)'")
 
 
@@ -69,8 +70,8 @@ def edits_of(texts):
         body.append((name, re.sub(r"return x\.a \+ \d+|return depth > tags\.length", f"return x.a + {n}" if "x.a" in text else "return depth + 0 > tags.length" if n % 2 else "return depth > tags.length", text, count=1)))
     for n in range(1, 11):
         signature.append((name, text + f"export const more{n}: number = {n};\n"))
-    added = [("zz", "export const z: number = 1;\n")]
-    return {"body": body, f"signature, {importers[name]} importers": signature, "added": added, "removed": [("zz", None)]}
+    added = [(f"zz{n}", "export const z: number = 1;\n") for n in range(MORE)]
+    return {"body": body, f"signature, {importers[name]} importers": signature, "added": added, "removed": [(name, None) for name, _ in added]}
 
 
 def as_edits(rows, ending):
@@ -108,7 +109,7 @@ def compare(shape, count):
         write(f"{room}/js", shape, count, False)
         write(f"{room}/ts", shape, count, True)
         js, ts = (dict(SHAPES[shape](count, is_ts)) for is_ts in (False, True))
-        words = ["--modules", str(count + 1)] if count >= 1024 else []
+        words = ["--modules", str(count + MORE)] if count + MORE > 1024 else []
         load, taken, lines, peak = of_flowd(f"{room}/js", edits_of(js), words)
         print(f"{shape}: {count} modules")
         print(f"  flowd's load {load:.2f} s, {peak:.0f} MB at the most")
