@@ -12,7 +12,7 @@
 //! - `status N` ends a case, with the status that it must have.
 //! - `test NAME` ends a case in place of `status`: it runs a test of calls below the program, which must tell the lines that are wanted.
 //!
-//! What must be written was made from the language's description by hand.
+//! What must be written was made from the language's description by hand; the types at places, by a search through the definition.
 #![tactic(auto)]
 
 mod calls;
