@@ -133,9 +133,9 @@ fn told_sources(
 }
 
 /// The dependency lists of the modules of an edited program, and which modules differ. A list is found by the tree of a module that is
-/// new or has another text. Elsewhere the old one is kept, where no path came or went that a specifier of its may find, and otherwise found
-/// again by its own specifiers. `was` is what was known of the old modules, `parses` what the new ones say by themselves, `from` has for each module
-/// the number that it had, if it was one, and `fresh` whether it is new or has another text.
+/// new or has another text. Elsewhere the old one is kept, where no path came or went that a specifier of its may find, and otherwise
+/// found again by its own specifiers. `was` is what was known of the old modules, `parses` what the new ones say by themselves, `from`
+/// has for each module the number that it had, if it was one, and `fresh` whether it is new or has another text.
 ///
 /// # Errors
 ///
