@@ -8,6 +8,7 @@ mod fail_streams;
 mod mem_folder;
 mod mem_streams;
 mod outside;
+mod slow_streams;
 
 pub use calls::Calls;
 pub use fail_folder::FailFolder;
@@ -18,6 +19,4 @@ pub use mem_streams::{MemSink, MemSource};
 pub use outside::{
     Failed, Folder, FolderFault, LastFault, Open, Point, Sink, SinkFault, Source, Turnstile,
 };
-
-#[cfg(test)]
-mod tests;
+pub use slow_streams::{SlowSink, SlowSource};

@@ -11,6 +11,3 @@ mod reversing;
 pub use changing::{Changes, changed};
 pub use checking::check_set;
 pub use merging::merge_set;
-
-#[cfg(test)]
-mod tests;

@@ -1,2 +1,1 @@
 pub mod Heaps
-pub mod Pieces

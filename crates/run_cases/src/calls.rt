@@ -6,8 +6,10 @@ ghost use Rattle.check_values.specs.Roots.{paths_of};
 ghost use Rattle.run_cases.specs.Heaps.{IsEmpty};
 
 use crate::cases::path_of;
+use crate::ends::ends;
 use crate::meeting::{Known, Meeting, MeetingAnalyst, MeetingAnalysts, PATHS, Rule, SOURCES};
 use crate::outside::TestFolder;
+use crate::values::values;
 use analyst::check_job::CheckJob;
 use analyst::source_front::{Parse, ParseTree};
 use check_values::{Deps, Errs, Root, RootRow, Sig};
@@ -54,6 +56,8 @@ pub(crate) fn test<R: Threads + Wait + Sync>(
             plans(alloc, &mut out)?;
         }
         "edits" => limited_edits(alloc, &mut out)?,
+        "ends" => ends(alloc, folder, &mut out)?,
+        "values" => values(alloc, &mut out)?,
         _ => {}
     }
     Ok(out)

@@ -1,7 +1,7 @@
 //! Cases of the whole program: over which folder, which words, which script, and what it must write.
 use crate::calls::test;
 use crate::meeting::{Known, Meeting, MeetingAnalyst, MeetingAnalysts, Rule};
-use crate::outside::{SlowSink, SlowSource, TestFolder};
+use crate::outside::{TestFolder, TestSink, TestSource};
 use flow_analyst::FlowAnalysts;
 use flow_base::{List, MemFolder, MemSink, MemSource, NoMemory, Path, PathFault, Text};
 use flowd_top::{Status, flowd};
@@ -77,8 +77,8 @@ struct File {
 #[derive(Drop)]
 struct Ends {
     folder: TestFolder,
-    script: SlowSource,
-    out: SlowSink,
+    script: TestSource,
+    out: TestSink,
 }
 
 impl Ends {
@@ -88,8 +88,8 @@ impl Ends {
             Fault::Nothing => 0,
             Fault::FolderFails => self.folder.inner.calls.made,
             Fault::FolderRefuses => self.folder.refused.made,
-            Fault::SourceFails => self.script.inner.calls.made,
-            Fault::SinkFails => self.out.inner.calls.made,
+            Fault::SourceFails => self.script.calls(),
+            Fault::SinkFails => self.out.inner.calls(),
             Fault::SinkRefuses => self.out.refused.made,
         }
     }
@@ -120,7 +120,7 @@ pub(crate) struct CaseReader {
     fault: Fault,
     // the number of the call that goes wrong, or 0 for each in turn
     at: u64,
-    step: usize,
+    step: Option<usize>,
     rule: Rule,
     // what the kept server must be, where the case says it
     kept: Option<String>,
@@ -187,7 +187,7 @@ impl CaseReader {
             wanted: Vec::new(alloc),
             fault: Fault::Nothing,
             at: 0,
-            step: usize::MAX,
+            step: None,
             rule: Rule::Open,
             kept: None,
         }
@@ -226,7 +226,7 @@ impl CaseReader {
                 let (times, byte) = rest.split_once(' ').unwrap_or((rest, ""));
                 self.add_bytes(number(times), byte)?;
             }
-            "step" => self.step = rest.parse::<usize>().unwrap_or(0),
+            "step" => self.step = rest.parse::<usize>().ok(),
             "goes" => self.take_fault(rest),
             "waits" => self.rule = rule_of(rest),
             "kept" => self.kept = Some(String::from_str(self.alloc, rest)?),
@@ -244,7 +244,7 @@ impl CaseReader {
         self.wanted = Vec::new(self.alloc);
         self.fault = Fault::Nothing;
         self.at = 0;
-        self.step = usize::MAX;
+        self.step = None;
         self.rule = Rule::Open;
         self.kept = None;
         Ok(())
@@ -323,10 +323,10 @@ impl CaseReader {
         let folder = TestFolder::new(folder, fails, refuses);
         let script = MemSource::new(List::from_slice(self.alloc, self.script.as_slice())?);
         let fails = self.numbers(Fault::SourceFails, at)?;
-        let script = SlowSource::new(script, fails, self.step);
+        let script = TestSource::new(script, fails, self.step);
         let fails = self.numbers(Fault::SinkFails, at)?;
         let refuses = self.numbers(Fault::SinkRefuses, at)?;
-        let out = SlowSink::new(MemSink::new(self.alloc), fails, refuses, self.step);
+        let out = TestSink::new(MemSink::new(self.alloc), fails, refuses, self.step);
         Ok(Ends {
             folder,
             script,
@@ -350,8 +350,8 @@ impl CaseReader {
         let status = flowd::<
             R,
             TestFolder,
-            SlowSource,
-            SlowSink,
+            TestSource,
+            TestSink,
             Meeting,
             MeetingAnalyst<'a>,
             MeetingAnalysts<'a>,
@@ -386,7 +386,7 @@ impl CaseReader {
         let mut ends = self.ends(folder, at)?;
         let meeting = Meeting::new(self.rule);
         let (status, kept) = self.run_over(rt, &mut ends, &meeting)?;
-        let written = ends.out.inner.inner.bytes.as_slice();
+        let written = ends.out.inner.bytes();
         Ok(Left {
             status,
             written: List::from_slice(self.alloc, written)?,

@@ -6,7 +6,8 @@
 //! - `case NAME` begins a case, with the word `d`; `words WORDS` gives it other words; `>TEXT` is a line of its script, `bytes N BYTE` so
 //!   many bytes more of it, and `<TEXT` a line that it must write.
 //! - `goes OBJECT fails N` or `goes OBJECT refuses N`: the call of this number fails, or memory is refused to it; without N each call in turn.
-//!   The object is `folder`, `source` or `sink`. `step N`: at most so many bytes are read or written at a call.
+//!   The object is `folder`, `source` or `sink`. `step N`: at most so many bytes are read or written at a call, and the
+//!   source and the sink don't fail.
 //! - `waits sources N`, `waits poll N` and `waits flags N`: who waits for whom (`meeting::Rule`). `kept VERSION PINS/SEEN ..`: what must be
 //!   kept, with each lane.
 //! - `status N` ends a case, with the status that it must have.
@@ -17,8 +18,10 @@
 
 mod calls;
 mod cases;
+mod ends;
 mod meeting;
 mod outside;
+mod values;
 
 use cases::CaseReader;
 use flow_base::NoMemory;

@@ -1,10 +1,11 @@
 //! A folder, a source and a sink in memory, which fail at some calls, refuse memory at some, and take so many bytes at a call.
-ghost use Rattle.std.specs.Prelude.{Some, ◌≤◌};
+ghost use Rattle.std.specs.Prelude.{Some};
 ghost use Rattle.flow_base.specs.Seen.{folder_seen};
+ghost use Rattle.run_cases.specs.Ends.{source_seen, sink_seen, source_bounded, sink_bounded};
 
 use flow_base::{
     Calls, FailFolder, FailSink, FailSource, Failed, Folder, FolderFault, List, MemFolder, MemSink,
-    MemSource, Path, Sink, SinkFault, Source, Text,
+    MemSource, Path, Sink, SinkFault, SlowSink, SlowSource, Source, Text,
 };
 
 /// A folder that also refuses memory at the listed ones of its calls.
@@ -43,68 +44,118 @@ impl Folder for TestFolder {
     ghost bounded = { λ f. f.inner.bounded };
 }
 
-/// A source that gives at most so many bytes at a call.
+/// A source that fails at the listed ones of its calls, or one that gives at most so many bytes at a call.
 #[derive(Drop)]
-pub(crate) struct SlowSource {
-    pub inner: FailSource,
-    step: usize,
-    ghost some: { 1 ≤ step },
+pub(crate) enum TestSource {
+    Failing(FailSource),
+    Slow(SlowSource),
 }
 
-impl SlowSource {
-    pub(crate) fn new(inner: MemSource, failing: List<u64>, step: usize) -> SlowSource {
-        SlowSource {
-            inner: FailSource::new(inner, failing),
-            step: step.max(1),
+impl TestSource {
+    pub(crate) fn new(inner: MemSource, failing: List<u64>, step: Option<usize>) -> TestSource {
+        match step {
+            Some(step) => TestSource::Slow(SlowSource::new(inner, step.max(1))),
+            None => TestSource::Failing(FailSource::new(inner, failing)),
+        }
+    }
+
+    /// How often it was called; of a slow one that isn't counted.
+    pub(crate) fn calls(&self) -> u64 {
+        match self {
+            TestSource::Failing(source) => source.calls.made,
+            TestSource::Slow(_) => 0,
         }
     }
 }
 
-impl Source for SlowSource {
-    ghost seen = { λ s. record { left = Some s.inner.inner; faults = s.inner.faults } };
+impl Source for TestSource {
+    ghost seen = { λ s. source_seen s };
 
     fn read(&mut self, into: &mut [u8]) -> Result<usize, Failed> {
-        let most = into.len().min(self.step);
-        self.inner.read(&mut into[..most])
+        match self {
+            TestSource::Failing(source) => source.read(into),
+            TestSource::Slow(source) => source.read(into),
+        }
     }
 
-    ghost bounded = { λ s. s.inner.bounded };
+    ghost bounded = { λ s. source_bounded s };
 }
 
-/// A sink that takes at most so many bytes at a call, and refuses memory at the listed ones of its calls.
+/// A sink that fails at the listed ones of its calls, or one that takes at most so many bytes at a call.
 #[derive(Drop)]
-pub(crate) struct SlowSink {
-    pub inner: FailSink,
-    pub refused: Calls,
-    step: usize,
-    ghost some: { 1 ≤ step },
+pub(crate) enum SinkEnd {
+    Failing(FailSink),
+    Slow(SlowSink),
 }
 
-impl SlowSink {
+impl SinkEnd {
+    pub(crate) fn new(inner: MemSink, failing: List<u64>, step: Option<usize>) -> SinkEnd {
+        match step {
+            Some(step) => SinkEnd::Slow(SlowSink::new(inner, step.max(1))),
+            None => SinkEnd::Failing(FailSink::new(inner, failing)),
+        }
+    }
+
+    /// How often it was called; of a slow one that isn't counted.
+    pub(crate) fn calls(&self) -> u64 {
+        match self {
+            SinkEnd::Failing(sink) => sink.calls.made,
+            SinkEnd::Slow(_) => 0,
+        }
+    }
+
+    /// The bytes that were written.
+    pub(crate) fn bytes(&self) -> &[u8] {
+        match self {
+            SinkEnd::Failing(sink) => sink.inner.bytes.as_slice(),
+            SinkEnd::Slow(sink) => sink.inner.bytes.as_slice(),
+        }
+    }
+}
+
+impl Sink for SinkEnd {
+    ghost seen = { λ s. sink_seen s };
+
+    fn write(&mut self, piece: &[u8]) -> Result<usize, SinkFault> {
+        match self {
+            SinkEnd::Failing(sink) => sink.write(piece),
+            SinkEnd::Slow(sink) => sink.write(piece),
+        }
+    }
+
+    ghost bounded = { λ s. sink_bounded s };
+}
+
+/// A sink that also refuses memory at the listed ones of its calls.
+#[derive(Drop)]
+pub(crate) struct TestSink {
+    pub inner: SinkEnd,
+    pub refused: Calls,
+}
+
+impl TestSink {
     pub(crate) fn new(
         inner: MemSink,
         failing: List<u64>,
         refused: List<u64>,
-        step: usize,
-    ) -> SlowSink {
-        SlowSink {
-            inner: FailSink::new(inner, failing),
+        step: Option<usize>,
+    ) -> TestSink {
+        TestSink {
+            inner: SinkEnd::new(inner, failing, step),
             refused: Calls::new(refused),
-            step: step.max(1),
         }
     }
 }
 
-impl Sink for SlowSink {
-    ghost seen = { λ s. record { written = Some s.inner.inner.bytes; faults = s.inner.faults } };
+impl Sink for TestSink {
+    ghost seen = { λ s. sink_seen s.inner };
 
     fn write(&mut self, piece: &[u8]) -> Result<usize, SinkFault> {
         if self.refused.count() {
             return Err(SinkFault::NoMemory);
         }
-        let most = piece.len().min(self.step);
-        self.inner.write(&piece[..most])
+        self.inner.write(piece)
     }
 
-    ghost bounded = { λ s. s.inner.bounded };
+    ghost bounded = { λ s. sink_bounded s.inner };
 }

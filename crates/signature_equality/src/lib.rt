@@ -6,6 +6,3 @@ mod same;
 mod signatures;
 
 pub use signatures::{same_deps, same_local, same_sig};
-
-#[cfg(test)]
-mod tests;

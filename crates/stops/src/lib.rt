@@ -6,6 +6,3 @@ mod stop_at;
 
 pub use stop::{Stop, says_yes_at_its_question};
 pub use stop_at::StopAt;
-
-#[cfg(test)]
-mod tests;
