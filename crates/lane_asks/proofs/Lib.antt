@@ -1,4 +1,5 @@
 pub mod Dealt
+pub mod Idle
 pub mod Places
 pub mod Telling
 pub mod Whole

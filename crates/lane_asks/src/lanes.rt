@@ -13,7 +13,7 @@ use std::sync::Wait;
 use std::thread::Threads;
 
 /// Answers on each lane of a heap what is dealt to its row, each on a thread of its own, where one can be had, with a large stack, and
-/// calls `other` beside them in this thread.
+/// calls `other` beside them in this thread. Where nothing is asked no thread is started.
 ///
 /// # Errors
 ///
@@ -47,6 +47,9 @@ pub fn answer_beside<
     ensures told { OnOk result.0 (AllTold K.answers K.works asks.now lanes.old lanes.new askers.old askers.new rows.old rows.new) }
     ensures other { G.step other.old result.1 other.new }
 {
+    if asks.is_empty() {
+        return (Ok(()), other());
+    }
     do_beside::<R, Heap<P>, T, Q, Lane<P>, A, Row<Told<X>>, K, G, B>(
         rt, heap, turns, lanes, askers, rows, asks, other,
     )
