@@ -77,15 +77,14 @@ pub fn kept_errors(
 /// # Errors
 ///
 /// `NoMemory` where memory is refused.
-#[tactic(auto, using(crate::proofs::Clears::never_empty))]
-pub fn whole_errors(alloc: Global, slots: &ErrorSlots) -> Result<Vec<Shared<Errs>>, NoMemory>
-    requires filled { AreFilled slots.now.items }
-    ensures { IfOk result (λ all. map Some all.items ≡ slots.now.items) }
+pub fn whole_errors(alloc: Global, slots: ErrorSlots) -> Result<Vec<Shared<Errs>>, NoMemory>
+    requires filled { AreFilled slots.items }
+    ensures { IfOk result (λ all. map Some all.items ≡ slots.items) }
 {
-    let mut all = Vec::new(alloc);
-    for i in 0..slots.len() {
-        match &slots[i] {
-            Some(errors) => all.push(errors.share()?)?,
+    let mut all = Vec::with_capacity(alloc, slots.len())?;
+    for slot in slots {
+        match slot {
+            Some(errors) => all.push(errors)?,
             None => unreachable!(),
         }
     }

@@ -80,15 +80,14 @@ pub fn kept_signatures(
 /// # Errors
 ///
 /// `NoMemory` where memory is refused.
-#[tactic(auto, using(crate::proofs::Clears::never_empty))]
-pub fn whole_signatures(alloc: Global, slots: &Slots) -> Result<Vec<Shared<Sig>>, NoMemory>
-    requires filled { IsFilled slots.now.items }
-    ensures { IfOk result (λ all. map Some all.items ≡ slots.now.items) }
+pub fn whole_signatures(alloc: Global, slots: Slots) -> Result<Vec<Shared<Sig>>, NoMemory>
+    requires filled { IsFilled slots.items }
+    ensures { IfOk result (λ all. map Some all.items ≡ slots.items) }
 {
-    let mut all = Vec::new(alloc);
-    for i in 0..slots.len() {
-        match &slots[i] {
-            Some(signature) => all.push(signature.share()?)?,
+    let mut all = Vec::with_capacity(alloc, slots.len())?;
+    for slot in slots {
+        match slot {
+            Some(signature) => all.push(signature)?,
             None => unreachable!(),
         }
     }

@@ -77,7 +77,7 @@ pub(crate) fn begin_checks(
     } = merging;
     let was = base.was.signatures.as_slice();
     let from = base.from.as_slice();
-    let signatures = whole_signatures(alloc, &slots)?;
+    let signatures = whole_signatures(alloc, slots)?;
     let all = signatures.as_slice();
     let merged = plan.merged.as_slice();
     let moved = moved_signatures(alloc, was, from, merged, all)?;

@@ -53,20 +53,22 @@ fn results_of(alloc: Global, base: &Base, checking: Checking) -> Result<Results,
 {
     error_laws();
     errors_by_reach::errors_by_reach();
-    let errors = whole_errors(alloc, &checking.errors)?;
-    let flags = base.fresh.as_slice();
-    let fresh = Vec::from_slice(alloc, flags)?;
-    let root = base.root.get();
-    let count = root.modules.len();
-    let numbers = checking.checked.as_slice();
-    let checked = flags_of(alloc, count, numbers)?;
     let Checking {
         sources,
         relisted,
         signatures,
         moved,
-        ..
+        checked: ones,
+        done: _,
+        errors: slots,
     } = checking;
+    let errors = whole_errors(alloc, slots)?;
+    let flags = base.fresh.as_slice();
+    let fresh = Vec::from_slice(alloc, flags)?;
+    let root = base.root.get();
+    let count = root.modules.len();
+    let numbers = ones.as_slice();
+    let checked = flags_of(alloc, count, numbers)?;
     Ok(Results {
         made: Made {
             sources,

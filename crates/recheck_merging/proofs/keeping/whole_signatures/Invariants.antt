@@ -1,5 +1,5 @@
-use Rattle.std.proofs.Common.{◌≡◌, map, take, Some}
+use Rattle.std.proofs.Common.{◌≡◌, map, Some}
 use Rattle.recheck_merging.proofs.keeping.whole_signatures.Given as goal
 
-abbrev pub invariant-loop-i : goal.invariant-loop-i
-invariant-loop-i l = map Some l.all.items ≡ take l.i l.slots.items
+abbrev pub invariant-loop-slot : goal.invariant-loop-slot
+invariant-loop-slot l = map Some l.all.items ≡ l.yielded
