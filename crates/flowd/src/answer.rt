@@ -12,15 +12,33 @@ use core::thread::Stack;
 use flow_analyst::{FlowAnalyst, FlowAnalysts};
 use flow_base::Open;
 use flowd_top::{Status, flowd};
+use std::alloc::Global;
 use std::snapshot::Snapshot;
 use std::sync::Wait;
-use std::thread;
 use std::thread::{Promise, Threads};
+use std::{mem, thread};
 
 // The bytes of the stack of the thread that does all work: 1 GiB. Each level of a type takes some of
 // it where a type is walked, and no source within the limit has a type so deep that it takes all.
 // The system gives memory to what is used of it alone.
 const STACK: usize = 1 << 30;
+
+// The bytes of a piece of memory that lets the heap of that thread grow: 31 MiB. The C library gives a piece of 32 MiB or more from the
+// system alone, and a thread's heap holds 64 MiB.
+const ROOM: usize = 31 << 20;
+
+// Lets the heap of this thread grow at once. By itself it grows page by page, with a call of the system for each, and the start and the
+// end of another thread wait for such a call. The first piece of memory comes from the system. Once it is given back, pieces as large
+// come from the heap, so two more make it grow, and what is given back stays in it. The system gives memory to what is used of it alone.
+// Where there is none, nothing is lost.
+fn grow_heap(alloc: Global) {
+    let room: Result<Vec<u8>, _> = Vec::with_capacity(alloc, ROOM);
+    mem::drop(room);
+    let first: Result<Vec<u8>, _> = Vec::with_capacity(alloc, ROOM);
+    let second: Result<Vec<u8>, _> = Vec::with_capacity(alloc, ROOM);
+    mem::drop(first);
+    mem::drop(second);
+}
 
 // The words of the folder that is opened.
 #[tactic(auto, using(crate::proofs::Answering::that_place))]
@@ -51,9 +69,10 @@ fn answer<R: Threads + Wait + Sync>(threads: &R, rt: &HostRuntime, words: &[Stri
     let mut script = StdinSource::new(rt.reader());
     let mut out = StdoutSink::new(rt);
     let alloc = rt.alloc();
+    grow_heap(alloc);
     let maker = FlowAnalysts::new(alloc);
     let mut kept = None;
-    flowd::<_, _, _, _, _, FlowAnalyst, _>(
+    let status = flowd::<_, _, _, _, _, FlowAnalyst, _>(
         threads,
         alloc,
         words,
@@ -63,7 +82,10 @@ fn answer<R: Threads + Wait + Sync>(threads: &R, rt: &HostRuntime, words: &[Stri
         &mut out,
         &Open,
         &mut kept,
-    )
+    );
+    // The process ends here, and the system takes back what is kept at once.
+    mem::forget(kept);
+    status
 }
 
 // The status is what a run on these words answers.

@@ -6,7 +6,7 @@ use Rattle.flowd.proofs.answer.answer.Goals as goal
 
 pub returns : goal.returns
 returns g c =
-    answered (map string_bytes c.args.words.now) c.flowd.result c.folder_of-folder.result.faults c.folder_of-folder.result.last c.new-script.result.faults c.new-out.result.faults
-    (outside (folder_seen None c.flowd.new.folder.faults c.flowd.new.folder.last) (record { left = None; faults = c.flowd.new.script.faults }) (record { written = None; faults = c.flowd.new.out.faults })) c.flowd.new.kept
-    c.folder_of-folder.ensures.faults c.folder_of-folder.ensures.last_fault c.new-script.ensures c.new-out.ensures c.flowd.ensures.printed c.flowd.ensures.script_counts c.flowd.ensures.sink_counts
-    c.flowd.ensures.folder_fault
+    answered (map string_bytes c.args.words.now) c.flowd-status.result c.folder_of-folder.result.faults c.folder_of-folder.result.last c.new-script.result.faults c.new-out.result.faults
+    (outside (folder_seen None c.flowd-status.new.folder.faults c.flowd-status.new.folder.last) (record { left = None; faults = c.flowd-status.new.script.faults }) (record { written = None; faults = c.flowd-status.new.out.faults })) c.flowd-status.new.kept
+    c.folder_of-folder.ensures.faults c.folder_of-folder.ensures.last_fault c.new-script.ensures c.new-out.ensures c.flowd-status.ensures.printed c.flowd-status.ensures.script_counts c.flowd-status.ensures.sink_counts
+    c.flowd-status.ensures.folder_fault
