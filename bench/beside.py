@@ -11,15 +11,16 @@ There are as many lanes as there are processors less one, and one worker. The re
 most others reach. The least, the median and the most of ten rechecks are told, and how much longer the median is than without
 questions. What is asked on each lane takes less than the recheck: what it takes by itself is told too, beside a recheck that
 changes nothing. A client has the answers once the recheck's line is there. So how long a question waited is seen by the thread of
-its lane, which ends once it has answered: it is looked for over and over, and how long one look takes is told.
+its lane, which ends once it has answered: the kernel tells `perf` when it starts and when it ends. Alone is beside a recheck of nothing.
 
 FLOWD names another program in the place of crates/flowd/out/flowd, which ./build builds.
 """
 
 import json
 import os
-import select
+import re
 import statistics
+import subprocess
 import sys
 import tempfile
 import time
@@ -30,6 +31,7 @@ from recheck import Session
 
 ROUNDS, WANTED = 10, 100  # milliseconds of a recheck
 MOST_ASKS = 64
+WAITS = 20  # loads
 LANES = max(1, min(16, len(os.sched_getaffinity(0)) - 1))
 SIZES = (64, 128, 256, 512, 1024, 2048, 4096)
 
@@ -65,9 +67,6 @@ class Beside(Session):
         spent = (time.perf_counter() - begin) * 1000
         self.answers(len(asks))
         return told, spent
-
-    def threads(self):
-        return set(os.listdir(f"/proc/{self.child.pid}/task"))
 
 
 def edit_of(text, number):
@@ -133,40 +132,36 @@ def longer(count=None):
         print(f"  {told.decode().strip()}; {ended(session):.0f} MB at the most")
 
 
-def life_of_lane(session, before):
-    """The milliseconds that the first thread lives which is not one of these, and the looks that were taken meanwhile; none where it
-    came and went between two looks, which is known by the recheck's line."""
-    while not (new := session.threads() - before):
-        if select.select([session.child.stdout], [], [], 0)[0]:
-            return None
-    begin, looks = time.perf_counter(), 0
-    while new & session.threads():
-        looks += 1
-    return (time.perf_counter() - begin) * 1000, looks
+def life_of_lane(room, words, script):
+    """The milliseconds that the lane's thread of the script's one recheck with a question lives, and what is printed. The kernel tells when
+    threads start and end: the first one is the thread that does all work, and the second one the lane's, which starts before all workers."""
+    events = ["-e", "sched:sched_process_fork", "-e", "sched:sched_process_exit"]
+    ran = subprocess.run(["perf", "record", "-q", *events, "-o", f"{room}/threads", FLOWD, *words], input=script, stdout=subprocess.PIPE, check=False)
+    told = subprocess.run(["perf", "script", "-i", f"{room}/threads"], stdout=subprocess.PIPE, stderr=subprocess.DEVNULL, check=True).stdout.decode()
+    if ran.returncode not in (0, 2):
+        sys.exit(f"flowd ended with status {ran.returncode}")
+    begun = re.findall(r" ([\d.]+): +sched:sched_process_fork: .* child_pid=(\d+)", told)
+    ended = {thread: float(at) for at, thread in re.findall(r" ([\d.]+): +sched:sched_process_exit: .* pid=(\d+)", told)}
+    at, thread = begun[1]
+    return (ended[thread] - float(at)) * 1000, ran.stdout.decode().splitlines()
 
 
 def waits(count=4096):
     rows = [(f"{name}.js", text) for name, text in generated(count, False)]
     wrong = rows[0][0], rows[0][1].replace("a: 0", "a: '0'")
-    ask = {"what": "errors", "path": wrong[0]}
-    script = b"".join(line(do="edit", path=path, text=text) for path, text in rows[1:])
-    print(f"a load of {count} generated modules, 1 lane, `errors` of a module that was there before")
-    for workers in (1, len(os.sched_getaffinity(0))):
-        with tempfile.TemporaryDirectory(prefix="flowd-bench-") as room:
-            with open(f"{room}/{wrong[0]}", "w", encoding="utf-8") as file:
-                file.write(wrong[1])
-            session = Beside(room, [*words_of(count), f"--workers={workers}", "--lanes=1"])
-            before = session.threads()
-            session.send(script)
-            begin = time.perf_counter()
-            session.send(line(do="recheck", asks=[ask]) + line(do="ask", ask={"what": "errors", "path": "no/such.js"}))
-            seen = life_of_lane(session, before)
-            told = session.child.stdout.readline().decode().strip()
-            spent = (time.perf_counter() - begin) * 1000
-            answer = session.answers(1)[0].decode().strip()
-            ended(session)
-            waited = "answered in {:.2f} ms, {} looks".format(*seen) if seen else "answered between two looks"
-            print(f"  {workers} workers: {waited}; the load took {spent:.0f} ms\n    {told}; {answer}", flush=True)
+    edits = b"".join(line(do="edit", path=path, text=text) for path, text in rows[1:])
+    asking = line(do="recheck", asks=[{"what": "errors", "path": wrong[0]}])
+    print(f"a load of {count} generated modules, 1 lane, `errors` of a module that was there before, {WAITS} times each")
+    with tempfile.TemporaryDirectory(prefix="flowd-bench-") as room:
+        os.mkdir(f"{room}/js")
+        with open(f"{room}/js/{wrong[0]}", "w", encoding="utf-8") as file:
+            file.write(wrong[1])
+        for workers, script in ((1, b""), (1, edits), (len(os.sched_getaffinity(0)), edits)):
+            words = [*words_of(count), f"--workers={workers}", "--lanes=1", f"{room}/js"]
+            lives = [life_of_lane(room, words, script + asking) for _ in range(WAITS)]
+            taken = sorted(it for it, _ in lives)
+            kind = f"beside a load by {workers} workers" if script else "alone"
+            print(f"  {kind:28} least {taken[0]:.3f}, median {statistics.median(taken):.3f}, most {taken[-1]:.3f} ms; {lives[0][1][1]}; {lives[0][1][2]}", flush=True)
 
 
 def main(words):

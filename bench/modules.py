@@ -3,8 +3,8 @@
 
     bench/modules.py                       300 and 1,000 generated modules, and 300 dense ones of about 180 lines
     bench/modules.py SHAPE COUNT..         modules of one shape alone; SHAPE is generated or dense
-    bench/modules.py --workers N,.. [SHAPE COUNT..]     with so many workers each, as 1,2,4: by itself 300 dense modules, 4,096 and
-                                           30 generated ones
+    bench/modules.py --workers N,.. [SHAPE COUNT..]     with so many workers each, as 1,2,4, in turn: by itself 300 dense modules,
+                                           4,096 and 30 generated ones
     bench/modules.py top SHAPE COUNT [N]   the ten functions of flowd that take most time, by perf, with N workers
     bench/modules.py write FOLDER SHAPE COUNT [ts]      writes the modules, for TypeScript where ts is said
 
@@ -17,6 +17,7 @@ FLOWD names another program in the place of crates/flowd/out/flowd, which ./buil
 """
 
 import os
+import statistics
 import subprocess
 import sys
 import tempfile
@@ -27,7 +28,7 @@ FLOWD = os.environ.get("FLOWD", f"{TOP}/crates/flowd/out/flowd")
 TSC = ["tsc", "--noEmit", "--strict", "--target", "es2020", "--lib", "es2020", "--skipLibCheck"]
 PARTS = 10  # of a dense module
 MODULES = 1024  # that flowd takes where no word says more
-SMALL, ROUNDS = 100, (3, 20)  # how often a load is timed: of many modules, and of few
+SMALL, ROUNDS = 100, (9, 20)  # how often a load is timed: of many modules, and of few
 
 
 class Draws:
@@ -154,14 +155,18 @@ def compare(shape, count, start, workers=(None,)):
         write(f"{room}/ts", shape, count, True)
         print(f"{shape}: {count} modules, {lines} lines, {size / 1e6:.2f} MB")
         told, rounds = b"recheck 1: %d parsed, %d checked, 0 errors\n" % (count, count), ROUNDS[count <= SMALL] if workers[0] else 1
-        ours = {}
+        # (in turn, since a processor may be faster at one time than at another)
+        loads = [{n: spent([FLOWD, *words_of(count, n), f"{room}/js"], told) for n in workers} for _ in range(rounds)]
+        ours = {n: min(load[n] for load in loads) for n in workers}
         for n in workers:
-            ours[n] = min(spent([FLOWD, *words_of(count, n), f"{room}/js"], told) for _ in range(rounds))
             said(f"flowd, {n} worker{'s' * (n > 1)}" if n else "flowd", ours[n])
         theirs = spent([*TSC, *sorted(os.listdir(f"{room}/ts"))], b"", cwd=f"{room}/ts")
         said("tsc", theirs)
+        first = workers[0]
         for n in workers[1:]:
-            print(f"  {n} workers: {ours[workers[0]][0] / ours[n][0]:.2f} times as fast as {workers[0]}", flush=True)
+            times = statistics.median(load[first][0] for load in loads), statistics.median(load[n][0] for load in loads)
+            least = f"{ours[first][0] / ours[n][0]:.2f} by the least time of each"
+            print(f"  {n} workers: {times[0] / times[1]:.2f} times as fast as {first} by the medians ({times[0]:.2f} and {times[1]:.2f} s), {least}", flush=True)
         best = ours[workers[-1]]
         parts = best[0] / theirs[0], best[1] / theirs[1], best[1] / (theirs[1] - start[1]), best[2] / theirs[2]
         print("  of TypeScript's: %.3f of the time, %.3f of processors, %.3f without its start, %.3f of the memory" % parts, flush=True)

