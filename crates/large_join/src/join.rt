@@ -94,8 +94,6 @@ fn run_both<
             );
             match started {
                 Ok(child) => {
-                    // The system may put the new thread behind this one, on the same processor: it gets its turn at once.
-                    thread::yield_now();
                     let b = second.run();
                     (child.join(rt), b)
                 }
