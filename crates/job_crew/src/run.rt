@@ -80,9 +80,21 @@ fn run_by<R: Threads + Wait + Sync, A: Send, J: Sync, X: Send + Drop, K: Kind<A,
     Ok(List::from_vec(answers))
 }
 
+// The size of the jobs for which one more analyst is worth its thread.
+const SHARE: usize = 4096;
+
+// How many analysts some jobs are worth: two from four jobs on, and one for each share of all sizes.
+fn worth_of<A, J, X, K: Kind<A, J, X>>(jobs: &[J]) -> usize {
+    let mut sizes = 0usize;
+    for job in jobs {
+        sizes = sizes.saturating_add(K::size(job));
+    }
+    usize::max(usize::min(jobs.len() / 2, 2), sizes / SHARE)
+}
+
 /// The answers to some jobs, in order. Each analyst works in a thread of its own, where one can be had; number i is put into the deque
-/// i mod the number of analysts, and who has none left takes numbers from the others. Where there are fewer jobs than analysts, the last
-/// analysts get none.
+/// i mod the number of analysts, and who has none left takes numbers from the others. Where there are fewer jobs than analysts, or where
+/// their sizes are not worth so many threads, the last analysts get none: from four jobs on, at least two work.
 ///
 /// # Errors
 ///
@@ -99,7 +111,8 @@ pub fn run_all<R: Threads + Wait + Sync, A: Send, J: Sync, X: Send + Drop, K: Ki
     ensures work { AreWorked result (work_sum K.work_of jobs.now) (map K.work analysts.old) (map K.work analysts.new) }
 {
     all_counted::<A, J, X, K>();
-    let busy = usize::min(analysts.len(), usize::max(1, jobs.len()));
+    let worth = usize::min(worth_of::<A, J, X, K>(jobs), jobs.len());
+    let busy = usize::min(analysts.len(), usize::max(1, worth));
     let (busy, _idle) = analysts.split_at_mut(busy);
     run_by::<R, A, J, X, K>(rt, alloc, busy, jobs)
 }

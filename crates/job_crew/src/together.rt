@@ -57,7 +57,8 @@ fn work_both<R: Threads + Wait + Sync, A: Send, J: Sync, X: Send + Drop, K: Kind
     )
 }
 
-/// Lets all workers work, each at its place, until it finds no number.
+/// Lets all workers work, each at its place, until it finds no number. This thread starts those of the others one after the other: the
+/// system puts two that are started at once on one processor, where they share it, though others are free.
 ///
 /// # Errors
 ///
@@ -81,9 +82,8 @@ pub fn work_all<
     if analysts.len() == 1 {
         return work::<A, J, X, K>(jobs, &mut analysts[0], &mut seats[0]);
     }
-    let half = analysts.len() / 2;
-    let (first, second) = seats.split_at_mut(half);
-    let (left, right) = analysts.split_at_mut(half);
+    let (first, second) = seats.split_at_mut(1);
+    let (left, right) = analysts.split_at_mut(1);
     let (front, back) = work_both::<R, A, J, X, K>(rt, jobs, first, second, left, right);
     joined(front, back)
 }

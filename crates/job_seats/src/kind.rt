@@ -17,6 +17,10 @@ pub trait Kind<A, J, X> {
     /// How much work one of them has done.
     ghost work: { A → Work };
 
+    /// About how long an answer to a job takes, in the time that a byte of a source takes to be checked. How many threads are started goes
+    /// by it, and no answer.
+    fn size(job: &J) -> usize;
+
     /// An answer to a job.
     ///
     /// # Errors

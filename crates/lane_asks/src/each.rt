@@ -6,7 +6,7 @@ ghost use Rattle.lane_asks.specs.Each.{AllDone, Both};
 use flow_values::NoMemory;
 use large_join::join_large;
 use std::sync::Wait;
-use std::thread::Threads;
+use std::thread::{Threads, yield_now};
 
 /// What is done on a lane, by an asker, into a row. It is said of any types, and so the threads know nothing of heaps.
 pub(crate) trait Stint<H, T, Q, L, A, X> {
@@ -45,6 +45,8 @@ fn joined(front: Result<(), NoMemory>, back: Result<(), NoMemory>) -> Result<(),
     back
 }
 
+// Does it on some lanes in a new thread, and on others in this one. A thread that was just started may stand behind this one on the same
+// processor, so this one lets it have its turn first.
 #[cycle(each)]
 fn do_both<
     R: Threads + Wait + Sync,
@@ -76,22 +78,26 @@ fn do_both<
     ensures front { OnOk result.0 (AllDone (K.told asks.now) first.old first.new left.old left.new upper.old upper.new) }
     ensures back { OnOk result.1 (AllDone (K.told asks.now) second.old second.new right.old right.new lower.old lower.new) }
 {
-    join_large(
+    let (back, front) = join_large(
         rt,
-        &mut || -> Result<(), NoMemory>
-            requires { IsSync R.row × IsSync H.row × IsSync T.row × IsSync Q.row × IsSend L.row × IsSend A.row × IsSend X.row × IsSend K.row × (0 < length first.now) × (length left.now ≡ length first.now) × (length upper.now ≡ length first.now) × AllZip (K.ready heap.now asks.now) first.now upper.now }
-            ensures kept { AllZip (K.kept heap.entry.now) first.entry.now first.exit.now }
-            ensures told { OnOk result (AllDone (K.told asks.entry.now) first.entry.now first.exit.now left.entry.now left.exit.now upper.entry.now upper.exit.now) }
-        { do_each::<R, H, T, Q, L, A, X, K>(rt, heap, turns, first, left, upper, asks) },
         &mut || -> Result<(), NoMemory>
             requires { IsSync R.row × IsSync H.row × IsSync T.row × IsSync Q.row × IsSend L.row × IsSend A.row × IsSend X.row × IsSend K.row × (0 < length second.now) × (length right.now ≡ length second.now) × (length lower.now ≡ length second.now) × AllZip (K.ready heap.now asks.now) second.now lower.now }
             ensures kept { AllZip (K.kept heap.entry.now) second.entry.now second.exit.now }
             ensures told { OnOk result (AllDone (K.told asks.entry.now) second.entry.now second.exit.now right.entry.now right.exit.now lower.entry.now lower.exit.now) }
         { do_each::<R, H, T, Q, L, A, X, K>(rt, heap, turns, second, right, lower, asks) },
-    )
+        &mut || -> Result<(), NoMemory>
+            requires { IsSync R.row × IsSync H.row × IsSync T.row × IsSync Q.row × IsSend L.row × IsSend A.row × IsSend X.row × IsSend K.row × (0 < length first.now) × (length left.now ≡ length first.now) × (length upper.now ≡ length first.now) × AllZip (K.ready heap.now asks.now) first.now upper.now }
+            ensures kept { AllZip (K.kept heap.entry.now) first.entry.now first.exit.now }
+            ensures told { OnOk result (AllDone (K.told asks.entry.now) first.entry.now first.exit.now left.entry.now left.exit.now upper.entry.now upper.exit.now) }
+        {
+            yield_now();
+            do_each::<R, H, T, Q, L, A, X, K>(rt, heap, turns, first, left, upper, asks)
+        },
+    );
+    (front, back)
 }
 
-// Does it on each of some lanes, on a thread of its own.
+// Does it on each of some lanes, on a thread of its own but for the first one.
 #[cycle(each)]
 fn do_each<
     R: Threads + Wait + Sync,
@@ -128,10 +134,9 @@ fn do_each<
             asks,
         );
     }
-    let half = lanes.len() / 2;
-    let (first, second) = lanes.split_at_mut(half);
-    let (left, right) = askers.split_at_mut(half);
-    let (upper, lower) = rows.split_at_mut(half);
+    let (first, second) = lanes.split_at_mut(1);
+    let (left, right) = askers.split_at_mut(1);
+    let (upper, lower) = rows.split_at_mut(1);
     let (front, back) = do_both::<R, H, T, Q, L, A, X, K>(
         rt, heap, turns, first, second, left, right, upper, lower, asks,
     );
@@ -139,7 +144,7 @@ fn do_each<
 }
 
 /// Does it on each of some lanes, each on a thread of its own, where one can be had, with a large stack, and calls `other` beside them in
-/// this thread.
+/// this thread. The lanes have their turn first.
 ///
 /// # Errors
 ///
@@ -181,6 +186,12 @@ pub(crate) fn do_beside<
             ensures kept { AllZip (K.kept heap.entry.now) lanes.entry.now lanes.exit.now }
             ensures told { OnOk result (AllDone (K.told asks.entry.now) lanes.entry.now lanes.exit.now askers.entry.now askers.exit.now rows.entry.now rows.exit.now) }
         { do_each::<R, H, T, Q, L, A, X, K>(rt, heap, turns, lanes, askers, rows, asks) },
-        other,
+        &mut || -> B
+            requires { G.pre other.now }
+            ensures { G.step other.entry.now result other.exit.now }
+        {
+            yield_now();
+            other()
+        },
     )
 }

@@ -2,7 +2,7 @@ use check_values::{Errs, Sig};
 use flow_values::{List, NoMemory, Text};
 use job_crew::analyst::Analyst;
 use job_crew::job_seats::Kind;
-use job_ends::MergeJob;
+use job_ends::{MergeJob, MergeMember};
 use tree_crossing::check_job::CheckJob;
 use tree_crossing::source_front::Parse;
 
@@ -24,9 +24,24 @@ impl<A: Analyst> Kind<A, Text, Parse> for Fronts {
 
     ghost bounded = { A.bounded };
 
+    fn size(job: &Text) -> usize {
+        job.len()
+    }
+
     fn answer(analyst: &mut A, job: &Text) -> Result<Parse, NoMemory> {
         analyst.front(job)
     }
+}
+
+// About how long it takes to merge a module: its exports, aliases and imports are looked at, and what they name is replaced.
+fn size_of_member(member: &MergeMember) -> usize {
+    let signature = member.sig.get();
+    let rows = signature
+        .exports
+        .len()
+        .saturating_add(signature.aliases.len())
+        .saturating_add(signature.imports.len());
+    rows.saturating_mul(16)
 }
 
 /// The jobs of merging signatures.
@@ -47,6 +62,14 @@ impl<A: Analyst> Kind<A, MergeJob, List<Sig>> for Merges {
     ghost work = { A.work };
 
     ghost bounded = { A.bounded };
+
+    fn size(job: &MergeJob) -> usize {
+        let mut size = 0usize;
+        for member in job.members.as_slice() {
+            size = size.saturating_add(size_of_member(member));
+        }
+        size
+    }
 
     fn answer(analyst: &mut A, job: &MergeJob) -> Result<List<Sig>, NoMemory> {
         analyst.merge(job)
@@ -70,6 +93,14 @@ impl<A: Analyst> Kind<A, CheckJob, Errs> for Checks {
     ghost work = { A.work };
 
     ghost bounded = { A.bounded };
+
+    // What a module reaches is put into tables, before its text is checked.
+    fn size(job: &CheckJob) -> usize {
+        job.sigs
+            .len()
+            .saturating_mul(32)
+            .saturating_add(job.text.len())
+    }
 
     fn answer(analyst: &mut A, job: &CheckJob) -> Result<Errs, NoMemory> {
         analyst.check(job)
