@@ -3,6 +3,7 @@ pub mod Clears
 pub mod Counts
 pub mod Finds
 pub mod Groups
+pub mod Hinted
 pub mod Imported
 pub mod Jobs
 pub mod Keeps

@@ -6,15 +6,20 @@ ghost use Rattle.path_numbers.specs.affected_sizes.specs.Polls.{AreImports};
 ghost use Rattle.check_phases.specs.Sourced.{AreSources, paths_in, view_in};
 ghost use Rattle.recheck_merging.specs.Rows.{AddsFound, FollowRows, FollowLists};
 
+use crate::hints::{Hints, place_by};
 use check_phases::Sources;
 use check_values::{Deps, Root};
 use flow_values::{List, NoMemory, Path, Shared};
-use pending_edits::place_of;
 use std::alloc::Global;
 
 // Adds the number of the module that was found, if one was.
 #[tactic(auto, using(crate::proofs::Finds::finds_none, crate::proofs::Finds::finds_missing, crate::proofs::Finds::finds_one))]
-fn add_found(root: &Root, found: &Option<Path>, edges: &mut List<u32>) -> Result<(), NoMemory>
+fn add_found(
+    hints: &Hints,
+    root: &Root,
+    found: &Option<Path>,
+    edges: &mut List<u32>,
+) -> Result<(), NoMemory>
     requires rising { IsRising (paths_of root.now) }
     requires few { length root.now.modules < 2 ^ 32 }
     ensures { OnOk result (AddsFound (paths_of root.now) found.now edges.old edges.new) }
@@ -22,7 +27,7 @@ fn add_found(root: &Root, found: &Option<Path>, edges: &mut List<u32>) -> Result
     let Some(path) = found else {
         return Ok(());
     };
-    match place_of(root.modules.as_slice(), path) {
+    match place_by(hints, root.modules.as_slice(), path) {
         Some(number) => edges.push(number as u32),
         None => Ok(()),
     }
@@ -30,7 +35,7 @@ fn add_found(root: &Root, found: &Option<Path>, edges: &mut List<u32>) -> Result
 
 // The numbers of the modules that the rows of a dependency list find.
 #[tactic(auto, using(crate::proofs::Finds::no_rows, crate::proofs::Finds::more_rows))]
-fn edges_from(alloc: Global, root: &Root, deps: &Deps) -> Result<List<u32>, NoMemory>
+fn edges_from(alloc: Global, hints: &Hints, root: &Root, deps: &Deps) -> Result<List<u32>, NoMemory>
     requires rising { IsRising (paths_of root.now) }
     requires few { length root.now.modules < 2 ^ 32 }
     ensures { IfOk result (FollowRows (paths_of root.now) deps.now.rows (length deps.now.rows)) }
@@ -38,7 +43,7 @@ fn edges_from(alloc: Global, root: &Root, deps: &Deps) -> Result<List<u32>, NoMe
     let rows = deps.rows.as_slice();
     let mut edges = List::new(alloc);
     for i in 0..rows.len() {
-        add_found(root, &rows[i].found, &mut edges)?;
+        add_found(hints, root, &rows[i].found, &mut edges)?;
     }
     Ok(edges)
 }
@@ -50,15 +55,16 @@ fn edges_by(alloc: Global, root: &Root, lists: &[Shared<Deps>]) -> Result<Vec<Li
     requires few { length root.now.modules < 2 ^ 32 }
     ensures { IfOk result (λ edges. FollowLists (paths_of root.now) lists.now edges.items) }
 {
+    let hints = Hints::of(alloc, root.modules.as_slice())?;
     let mut edges = Vec::new(alloc);
     for i in 0..lists.len() {
-        edges.push(edges_from(alloc, root, lists[i].get())?)?;
+        edges.push(edges_from(alloc, &hints, root, lists[i].get())?)?;
     }
     Ok(edges)
 }
 
 /// For each module the numbers of the modules that it imports. It takes time in proportion to the modules and what their dependency
-/// lists find, with a search by halving for each.
+/// lists find, with one look for most of these and a search by halving for the others.
 ///
 /// # Errors
 ///

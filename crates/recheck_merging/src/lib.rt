@@ -1,6 +1,7 @@
 //! The merged signatures of an edited program: which modules are merged anew, wave by wave, and which old signatures are kept.
 #![tactic(auto)]
 
+mod hints;
 mod importing;
 mod keeping;
 mod laws;
