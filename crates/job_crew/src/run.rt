@@ -81,20 +81,28 @@ fn run_by<R: Threads + Wait + Sync, A: Send, J: Sync, X: Send + Drop, K: Kind<A,
 }
 
 // The size of the jobs for which one more analyst is worth its thread.
-const SHARE: usize = 4096;
+const SHARE: usize = 8192;
 
-// How many analysts some jobs are worth: two from four jobs on, and one for each share of all sizes.
+// Below this a job's size says little of how long it takes.
+const SMALL: usize = 128;
+
+// How many analysts some jobs are worth: one for each share of all sizes, and at least two where there are four jobs or more that are
+// small.
 fn worth_of<A, J, X, K: Kind<A, J, X>>(jobs: &[J]) -> usize {
     let mut sizes = 0usize;
     for job in jobs {
         sizes = sizes.saturating_add(K::size(job));
     }
-    usize::max(usize::min(jobs.len() / 2, 2), sizes / SHARE)
+    let worth = sizes / SHARE;
+    if jobs.len() >= 4 && sizes / SMALL < jobs.len() {
+        return usize::max(worth, 2);
+    }
+    worth
 }
 
 /// The answers to some jobs, in order. Each analyst works in a thread of its own, where one can be had; number i is put into the deque
 /// i mod the number of analysts, and who has none left takes numbers from the others. Where there are fewer jobs than analysts, or where
-/// their sizes are not worth so many threads, the last analysts get none: from four jobs on, at least two work.
+/// their sizes are not worth so many threads, the last analysts get none; of four jobs or more that are too small to tell, two do some.
 ///
 /// # Errors
 ///

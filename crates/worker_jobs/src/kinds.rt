@@ -41,7 +41,7 @@ fn size_of_member(member: &MergeMember) -> usize {
         .len()
         .saturating_add(signature.aliases.len())
         .saturating_add(signature.imports.len());
-    rows.saturating_mul(16)
+    rows.saturating_mul(32)
 }
 
 /// The jobs of merging signatures.
