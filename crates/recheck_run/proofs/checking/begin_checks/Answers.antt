@@ -1,7 +1,7 @@
 use Rattle.std.proofs.Common.{refl}
 use Rattle.recheck_run.proofs.Goes.{checks_begin}
 use Rattle.recheck_run.proofs.Planned.{filled}
-use Rattle.recheck_run.proofs.Begun.{few_modules, merged_all, many_all, changed_low, from_all, plan_low, leading_low, rest_here, many_moved, leads_here, edges_here, affected_here, numbers_low, checking_is}
+use Rattle.recheck_run.proofs.Begun.{few_modules, merged_all, changed_low, from_all, plan_low, leading_low, rest_here, many_moved, leads_here, edges_here, affected_here, numbers_low, checking_is}
 use Rattle.recheck_run.proofs.checking.begin_checks.Goals as goal
 
 pub whole_signatures-requires : goal.whole_signatures-requires
