@@ -22,12 +22,11 @@ use Rattle.recheck_merging.specs.check_phases.proofs.Edges.{one_place}
 use Rattle.recheck_merging.specs.check_phases.proofs.Jobs.{beside_path, zip_at}
 use Rattle.recheck_merging.specs.check_phases.proofs.Lists.{one_value, same_paths, place_at, within_there}
 use Rattle.recheck_merging.specs.check_phases.proofs.Merges.{program_get, path_get}
-use Rattle.recheck_merging.specs.Plans.{IsToMerge}
 use Rattle.recheck_merging.proofs.Among as among
 use Rattle.recheck_merging.proofs.Imported.{as_many, low_path}
 use Rattle.recheck_merging.proofs.Mapped.{has_all}
-use Rattle.recheck_merging.proofs.Plans.{touched_low, merge_low, are_to_merge}
-use Rattle.recheck_reach.specs.Checked.{IsStirred, IsToCheckIn}
+use Rattle.recheck_merging.proofs.Plans.{touched_low}
+use Rattle.recheck_reach.specs.Checked.{AreLeading, IsStirred, IsToCheckIn}
 use Rattle.recheck_reach.specs.Law.{NamedIsImported}
 use Rattle.recheck_reach.specs.Named.{AreStepsOf}
 use Rattle.recheck_reach.proofs.Named.{sig_at}
@@ -57,11 +56,11 @@ signed_merged s sigs path sig sources are is =
     let own : mine.0 ≡ sig = one_value mine.0 sig (sym (sig_at s sigs sources z.0 path mine.0 z.1 mine.1) ∙ is) in
     ap (merged (view_in s)) (sym same) ∙ (mine.2 ∙ ap Some own)
 
-onward : (view : View) (p q r : Bytes) → Imports view p q → Imports view q r → Imports view p r
+pub onward : (view : View) (p q r : Bytes) → Imports view p q → Imports view q r → Imports view p r
 onward view p q _ first imports.itself = first
 onward view p q _ first (imports.further r other leads step) = imports.further r other (onward view p q r first leads) step
 
--- ---- the names of the modules from which imports lead to some
+-- ---- the names of some modules, among them each from which imports lead to one that moved
 
 module _ (s : Sources) (sigs : List Sig) (leading : List ℕ) (named : List (List ℕ)) (sources : AreSources s) (are : AreStepsOf (Names (sigs_by s sigs)) (paths_in s) leading named) where
   before : (p q r : Bytes) → Names (sigs_by s sigs) p q → LeadsByNames (sigs_by s sigs) q r → LeadsByNames (sigs_by s sigs) p r
@@ -79,18 +78,18 @@ module _ (s : Sources) (sigs : List Sig) (leading : List ℕ) (named : List (Lis
       let i = (are.sound x z edge).1 in
       before p i.other q (subst (λ (t : Bytes). Names (sigs_by s sigs) t i.other) (one_value i.path p (sym i.at_path ∙ at_x)) i.step) (leads_there rest i.other q i.at_other at_y)
 
-  module _ (law : NamedIsImported) (signed : AreMerged (view_in s) (program_in s) sigs) (ones : List ℕ) (imported : AreExactly (IsToMerge s ones) leading) where
+  module _ (law : NamedIsImported) (signed : AreMerged (view_in s) (program_in s) sigs) (moved : List Bool) (imported : AreLeading s moved leading) where
     -- from each module on the way imports lead to the last one, so that its names are there
-    leads_back : (p q last : Bytes) (x y number : ℕ) → slice_get (paths_in s) x ≡ Some p → slice_get (paths_in s) y ≡ Some q → slice_get (paths_in s) number ≡ Some last → Has ones number
+    leads_back : (p q last : Bytes) (x y number : ℕ) → slice_get (paths_in s) x ≡ Some p → slice_get (paths_in s) y ≡ Some q → slice_get (paths_in s) number ≡ Some last → IsOn moved number
         → LeadsByNames (sigs_by s sigs) p q → Imports (view_in s) q last → Leads (Edge named) y number → Leads (Edge named) x number
-    leads_back p _ last x y number at_x at_y at_last has itself led rest = subst (λ (z : ℕ). Leads (Edge named) z number) (one_place (paths_in s) y x p sources.rising at_y at_x) rest
-    leads_back p _ last x y number at_x at_y at_last has (further r other leads step) led rest =
+    leads_back p _ last x y number at_x at_y at_last on itself led rest = subst (λ (z : ℕ). Leads (Edge named) z number) (one_place (paths_in s) y x p sources.rising at_y at_x) rest
+    leads_back p _ last x y number at_x at_y at_last on (further r other leads step) led rest =
         let z = signed_place s sigs r step.0 step.1 in
         let imports = onward (view_in s) r other last (law (view_in s) r other step.0 (signed_merged s sigs r step.0 sources signed step.1) step.2) led in
-        let mine = imported.complete z.0 (record { number = number; path = r; other = last; is_touched = has; at_path = z.1; at_other = at_last; leads = imports }) in
-        leads_back p r last x z.0 number at_x z.1 at_last has leads imports (along (are.complete z.0 y mine (record { path = r; other = other; at_path = z.1; at_other = at_y; step = step })) rest)
+        let mine = imported z.0 number r last on z.1 at_last imports in
+        leads_back p r last x z.0 number at_x z.1 at_last on leads imports (along (are.complete z.0 y mine (record { path = r; other = other; at_path = z.1; at_other = at_y; step = step })) rest)
 
-    module _ (moved : List Bool) (stirred : List ℕ) (many : length moved ≡ length s.root.modules) (on : AreExactly (IsOn moved) ones) (exactly : AreExactly (LeadsToTouched named ones) stirred) where
+    module _ (ones stirred : List ℕ) (many : length moved ≡ length s.root.modules) (on : AreExactly (IsOn moved) ones) (exactly : AreExactly (LeadsToTouched named ones) stirred) where
       stirred_there : (x : ℕ) → Has stirred x → IsStirred s sigs moved x
       stirred_there x has =
           let leads = exactly.sound x has in
@@ -110,28 +109,23 @@ module _ (s : Sources) (sigs : List Sig) (leading : List ℕ) (named : List (Lis
       stirred_back : (x : ℕ) → IsStirred s sigs moved x → Has stirred x
       stirred_back x is =
           let has = on.complete is.number is.has_moved in
-          exactly.complete x (is.number, has, leads_back is.path is.other is.other x is.number is.number is.at_path is.at_other is.at_other has is.leads imports.itself here)
+          exactly.complete x (is.number, has, leads_back is.path is.other is.other x is.number is.number is.at_path is.at_other is.at_other is.has_moved is.leads imports.itself here)
 
       are_stirred : AreExactly (IsStirred s sigs moved) stirred
       are_stirred = record { rising = exactly.rising; sound = stirred_there; complete = stirred_back }
 
 -- ---- as the code has them
 
--- the numbers whose flags are on are those of modules
-flags_low : (s : Sources) (moved : List Bool) (ones view : List ℕ) (n : ℕ) → length moved ≡ length s.root.modules → AreExactly (IsOn moved) ones → view ≡ ones → n ≡ length s.root.modules → All (λ t. t < n) view
-flags_low s moved ones view n many on same is =
-    has_all (λ (t : ℕ). t < n) view (λ t has. (let low = within_there moved t true (on.sound t (subst (λ (l : List ℕ). Has l t) same has)) in omega arith))
+-- each that leads has a signature
+pub signed_low : (s : Sources) (sigs : List Sig) (leading : List ℕ) → AreMerged (view_in s) (program_in s) sigs → All (λ x. x < length s.root.modules) leading → All (λ x. x < length sigs) leading
+signed_low s sigs leading signed low = subst (λ (n : ℕ). All (λ x. x < n) leading) (sym (many_merged s sigs signed)) low
 
-pub moved_low : (s : Sources) (moved : List Bool) (edges : List (List ℕ)) (ones view : List ℕ) → length moved ≡ length s.root.modules → AreImports (view_in s) (paths_in s) edges → AreExactly (IsOn moved) ones → view ≡ ones
-    → All (λ t. t < length edges) view
-moved_low s moved edges ones view many are on same = flags_low s moved ones view (length edges) many on same (are.len ∙ as_many s)
-
--- those from which imports lead to one that moved have signatures
-pub leading_low : (s : Sources) (sigs : List Sig) (moved : List Bool) (edges : List (List ℕ)) (ones ones_view leading view : List ℕ) → AreSources s → AreMerged (view_in s) (program_in s) sigs → length moved ≡ length s.root.modules
-    → AreImports (view_in s) (paths_in s) edges → AreExactly (IsOn moved) ones → ones_view ≡ ones → AreExactly (LeadsToTouched edges ones_view) leading → view ≡ leading → All (λ x. x < length sigs) view
-leading_low s sigs moved edges ones ones_view leading view sources signed many are on same_ones exactly same =
-    subst (λ (n : ℕ). All (λ x. x < n) view) (sym (many_merged s sigs signed))
-    (subst (All (λ (x : ℕ). x < length s.root.modules)) (sym same) (merge_low s edges ones_view leading sources are (flags_low s moved ones ones_view (length s.root.modules) many on same_ones refl) exactly))
+-- the numbers whose flags are on have names
+pub ones_low : (s : Sources) (sigs : List Sig) (moved : List Bool) (ones ones_view leading : List ℕ) (named view : List (List ℕ)) → length moved ≡ length s.root.modules → AreExactly (IsOn moved) ones → ones_view ≡ ones
+    → AreStepsOf (Names (sigs_by s sigs)) (paths_in s) leading named → view ≡ named → All (λ t. t < length view) ones_view
+ones_low s sigs moved ones ones_view leading named view many on same_ones are same =
+    let whole : length view ≡ length s.root.modules = ap length same ∙ (are.len ∙ as_many s) in
+    has_all (λ (t : ℕ). t < length view) ones_view (λ t has. (let low = within_there moved t true (on.sound t (subst (λ (l : List ℕ). Has l t) same_ones has)) in omega arith))
 
 -- each name ends at a number that has names
 pub within_steps : (s : Sources) (sigs : List Sig) (leading : List ℕ) (named view : List (List ℕ)) → AreStepsOf (Names (sigs_by s sigs)) (paths_in s) leading named → view ≡ named → AreWithin view
@@ -144,13 +138,12 @@ within_steps s sigs leading named view are same = subst AreWithin (sym same) (Al
 pub few_steps : (s : Sources) (sigs : List Sig) (leading : List ℕ) (named view : List (List ℕ)) → AreStepsOf (Names (sigs_by s sigs)) (paths_in s) leading named → view ≡ named → length s.root.modules < 2 ^ 32 → length view < 2 ^ 32
 few_steps s sigs leading named view are same few = let e : length view ≡ length named = ap length same in let len = are.len in let many = as_many s in omega arith
 
-pub stirred_all : NamedIsImported → (s : Sources) (sigs : List Sig) (moved : List Bool) (edges : List (List ℕ)) (ones ones_view leading leading_view : List ℕ) (named view : List (List ℕ)) (stirred : List ℕ) → AreSources s
-    → AreMerged (view_in s) (program_in s) sigs → length moved ≡ length s.root.modules → AreImports (view_in s) (paths_in s) edges → AreExactly (IsOn moved) ones → ones_view ≡ ones → AreExactly (LeadsToTouched edges ones_view) leading
-    → leading_view ≡ leading → AreStepsOf (Names (sigs_by s sigs)) (paths_in s) leading_view named → view ≡ named → AreExactly (LeadsToTouched view ones_view) stirred → AreExactly (IsStirred s sigs moved) stirred
-stirred_all law s sigs moved edges ones ones_view leading leading_view named view stirred sources signed many imports on same_ones leads same_leading are same_named exactly =
-    let low = flags_low s moved ones ones_view (length s.root.modules) many on same_ones refl in
-    are_stirred s sigs leading named sources (subst (λ (l : List ℕ). AreStepsOf (Names (sigs_by s sigs)) (paths_in s) l named) same_leading are) law signed ones_view (are_to_merge s edges ones_view leading sources imports low leads) moved stirred many
-    (subst (AreExactly (IsOn moved)) (sym same_ones) on) (subst (λ (es : List (List ℕ)). AreExactly (LeadsToTouched es ones_view) stirred) same_named exactly)
+pub stirred_all : NamedIsImported → (s : Sources) (sigs : List Sig) (moved : List Bool) (ones ones_view leading : List ℕ) (named view : List (List ℕ)) (stirred : List ℕ) → AreSources s → AreMerged (view_in s) (program_in s) sigs
+    → length moved ≡ length s.root.modules → AreLeading s moved leading → AreExactly (IsOn moved) ones → ones_view ≡ ones → AreStepsOf (Names (sigs_by s sigs)) (paths_in s) leading named → view ≡ named
+    → AreExactly (LeadsToTouched view ones_view) stirred → AreExactly (IsStirred s sigs moved) stirred
+stirred_all law s sigs moved ones ones_view leading named view stirred sources signed many leads on same_ones are same_named exactly =
+    are_stirred s sigs leading named sources are law signed moved leads ones_view stirred many (subst (AreExactly (IsOn moved)) (sym same_ones) on)
+    (subst (λ (es : List (List ℕ)). AreExactly (LeadsToTouched es ones_view) stirred) same_named exactly)
 
 pub checked_all : (s : Sources) (sigs : List Sig) (moved : List Bool) (edges : List (List ℕ)) (changed stirred view all : List ℕ) → AreImports (view_in s) (paths_in s) edges → AreExactly (IsStirred s sigs moved) stirred → view ≡ stirred
     → AreExactly (IsToCheck edges changed view) all → AreExactly (IsToCheckIn s sigs moved changed) all

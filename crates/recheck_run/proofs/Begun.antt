@@ -14,7 +14,7 @@ use Rattle.recheck_reach.specs.recheck_merging.specs.Merging.{WavesMakeAll}
 use Rattle.recheck_reach.specs.recheck_sources.specs.Parts.{TellsOthers}
 use Rattle.recheck_reach.specs.recheck_sources.specs.Changed.{IsChanged}
 use Rattle.recheck_reach.specs.Moved.{IsSameOutside}
-use Rattle.recheck_reach.specs.Checked.{IsToCheckIn}
+use Rattle.recheck_reach.specs.Checked.{AreLeading, IsToCheckIn}
 use Rattle.recheck_reach.specs.Law.{RestIsSame, CheckedAreOfChecked, DiffersAreTouched}
 use Rattle.recheck_checking.specs.Keeping as errors
 use Rattle.recheck_checking.specs.Full.{MadeIsFull}
@@ -23,7 +23,7 @@ use Rattle.recheck_run.specs.Stages.{IsBase, IsMerging, AreAffected, KeepsErrors
 use Rattle.recheck_run.specs.declared.stages.Base.{Base}
 use Rattle.recheck_run.specs.declared.stages.Merging.{Merging}
 use Rattle.recheck_checking.specs.Checking.{AreCheckedTo}
-use Rattle.recheck_run.proofs.Planned.{places_low, signatures_merged, many_signatures, many_from, outside_same, plan_within, moved_edges, affected, errors_right, errors_kept}
+use Rattle.recheck_run.proofs.Planned.{places_low, signatures_merged, many_signatures, many_from, outside_same, plan_within, plan_leads, moved_edges, affected, errors_right, errors_kept}
 
 module _ (b : Base) (m : Merging) (base : IsBase b) (is : IsMerging b m) (past : length m.plan.waves ≤ m.wave) (law : DiffersAreTouched) (make : WavesMakeAll) (sigs : List Sig) (same : map Some sigs ≡ m.slots.items) (all : List Sig) (is_all : all ≡ sigs) where
   mine : map Some all ≡ m.slots.items
@@ -48,6 +48,9 @@ module _ (b : Base) (m : Merging) (base : IsBase b) (is : IsMerging b m) (past :
     pub plan_low : (merged : List ℕ) → merged ≡ m.plan.merged → All (λ x. x < length all) merged
     plan_low merged is_merged = subst (All (λ (x : ℕ). x < length all)) (sym is_merged) (plan_within b m base is past law make all mine)
 
+    pub leading_low : (merged : List ℕ) → merged ≡ m.plan.merged → All (λ x. x < length m.listed.sources.root.modules) merged
+    leading_low merged is_merged = subst (All (λ (x : ℕ). x < length m.listed.sources.root.modules)) (sym is_merged) is.plan.plan.within
+
     pub rest_here : RestIsSame → (was : List Sig) (merged : List ℕ) → was ≡ b.was.signatures.items → merged ≡ m.plan.merged → IsSameOutside was from merged all
     rest_here rest was merged is_was is_merged =
         subst (λ (w : List Sig). IsSameOutside w from merged all) (sym is_was)
@@ -60,6 +63,10 @@ module _ (b : Base) (m : Merging) (base : IsBase b) (is : IsMerging b m) (past :
 
       pub many_moved : (flags : List Bool) → flags ≡ moved → length flags ≡ length m.listed.sources.root.modules
       many_moved flags is_flags = ap length is_flags ∙ (tells.many ∙ many_all)
+
+      pub leads_here : RestIsSame → (flags : List Bool) (merged : List ℕ) → flags ≡ moved → merged ≡ m.plan.merged → AreLeading m.listed.sources flags merged
+      leads_here rest flags merged is_flags is_merged =
+          subst (AreLeading m.listed.sources flags) (sym is_merged) (subst (λ (l : List Bool). AreLeading m.listed.sources l m.plan.merged) (sym is_flags) (plan_leads b m base is past law make all mine rest moved tells_here))
 
       pub edges_here : RestIsSame → (flags : List Bool) (imports : List (List ℕ)) → flags ≡ moved → imports ≡ m.edges.items → (x : ℕ) → IsOn flags x → AreImports (view_in m.listed.sources) (paths_in m.listed.sources) imports
       edges_here rest flags imports is_flags is_imports x on =

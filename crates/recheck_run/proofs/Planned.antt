@@ -1,15 +1,17 @@
 -- What is known where the dependency lists are made, and where all signatures are merged.
-use Rattle.std.proofs.Common.{◌≡◌, ℕ, zero, suc, ◌<◌, ◌≤◌, Bool, true, List, [], ◌∷◌, All, map, length, slice_get, Option, Some, None, refl, sym, ap, ◌∙◌, subst, inl, inr, arith}
+use Rattle.std.proofs.Common.{◌≡◌, ℕ, suc, ◌<◌, ◌≤◌, Bool, true, List, [], ◌∷◌, All, map, length, slice_get, Option, Some, None, refl, sym, ap, ◌∙◌, subst, inl, inr, arith}
 use Rattle.std.specs.Prelude.{◌==◌, ◌↔◌, IsTrue, false}
 use Rattle.std.proofs.lemmas.Bool.Decides.{nat_tests}
 use Rattle.flow_base.specs.Program.{Bytes}
 use Rattle.committed_results.specs.full_law.specs.Law.{EachFull}
+use Rattle.heap_core.specs.Meaning.{names}
 use Rattle.heap_core.proofs.Lists.{get_there}
 use Rattle.check_values.specs.declared.faults.Errs.{Errs}
 use Rattle.check_values.specs.declared.root.Root.{Root}
 use Rattle.check_values.specs.declared.signatures.Sig.{Sig}
 use Rattle.graph_search.specs.Cycles.{Has, IsOn}
 use Rattle.graph_search.specs.Reach.{IsRising}
+use Rattle.merged_signatures.specs.Imports.{Imports}
 use Rattle.recheck_checking.specs.affected_law.specs.Affected.{Differs}
 use Rattle.recheck_reach.specs.affected_sizes.specs.Polls.{AreImports}
 use Rattle.recheck_reach.specs.path_numbers.specs.Sets.{ArePlaces}
@@ -17,8 +19,8 @@ use Rattle.recheck_plan.specs.Affected.{AreExactly}
 use Rattle.recheck_reach.specs.check_phases.specs.Phases.{AreMerged}
 use Rattle.recheck_reach.specs.check_phases.specs.Sourced.{program_in, paths_in, view_in, AreSources}
 use Rattle.recheck_reach.specs.check_phases.specs.declared.merging.Sources.{Sources}
-use Rattle.recheck_reach.specs.check_phases.proofs.Lists.{one_value}
-use Rattle.recheck_reach.specs.check_phases.proofs.Waves.{many_merged}
+use Rattle.recheck_reach.specs.check_phases.proofs.Lists.{one_value, within_there}
+use Rattle.recheck_reach.specs.check_phases.proofs.Waves.{many_merged, named_has, has_named}
 use Rattle.recheck_checking.specs.edited_root.specs.From.{numbers_from}
 use Rattle.recheck_reach.specs.recheck_merging.specs.Keeping as keeping
 use Rattle.recheck_reach.specs.recheck_merging.specs.Keeping.{ComeFrom, AreTouched, KeptAreRight}
@@ -30,8 +32,9 @@ use Rattle.recheck_reach.specs.recheck_merging.proofs.Mapped.{has_all, all_has}
 use Rattle.recheck_reach.specs.recheck_sources.specs.Parts.{TellsOthers}
 use Rattle.recheck_reach.specs.recheck_sources.specs.Changed.{IsChanged}
 use Rattle.recheck_reach.specs.Moved.{IsSameOutside}
-use Rattle.recheck_reach.specs.Checked.{IsToCheckIn}
+use Rattle.recheck_reach.specs.Checked.{AreLeading, IsToCheckIn}
 use Rattle.recheck_reach.specs.Law.{RestIsSame, CheckedAreOfChecked, UnmovedAreChanged, DiffersAreTouched}
+use Rattle.recheck_reach.proofs.Leads.{onward}
 use Rattle.recheck_checking.specs.Keeping as errors
 use Rattle.recheck_checking.specs.Checking.{IsCheckedBy, AreCheckedTo}
 use Rattle.recheck_checking.specs.Full.{results_of, MadeIsFull}
@@ -98,20 +101,38 @@ module _ (b : Base) (m : Merging) (base : IsBase b) (is : IsMerging b m) (past :
     pub plan_within : All (λ x. x < length sigs) m.plan.merged
     plan_within = subst (λ (n : ℕ). All (λ x. x < n) m.plan.merged) (sym many_signatures) is.plan.plan.within
 
-    -- where a signature moved, the edges are made
-    pub moved_edges : RestIsSame → (moved : List Bool) → TellsOthers b.was.signatures.items b.from.items sigs moved → (x : ℕ) → IsOn moved x → AreImports (view_in s) (paths_in s) m.edges.items
-    moved_edges rest moved tells x on = elim is.edges [ inr are ↦ are | inl none ↦ absurd (never none) ]
-      where
-        low : (flags : List Bool) (i : ℕ) → slice_get flags i ≡ Some true → i < length flags
-        low [] i at = absurd (let z : None ≡ Some true = at in cc)
-        low (f ∷ flags) zero at = omega arith
-        low (f ∷ flags) (suc i) at = let l = low flags i at in omega (arith, l)
+    -- the modules whose signatures moved are among those of the plan, and so are those from which imports lead to one
+    module _ (rest : RestIsSame) (moved : List Bool) (tells : TellsOthers b.was.signatures.items b.from.items sigs moved) where
+      moved_merged : (x : ℕ) → IsOn moved x → Has m.plan.merged x
+      moved_merged x on = go (names m.plan.merged x) refl
+        where
+          go : (named : Bool) → names m.plan.merged x ≡ named → Has m.plan.merged x
+          go true is = named_has m.plan.merged x is
+          go false is =
+              let out : ¬ (Has m.plan.merged x) = λ has. (let z : false ≡ true = sym is ∙ has_named m.plan.merged x has in cc) in
+              let was = (outside_same rest).same x (let many = tells.many in let low = within_there moved x true on in omega (arith, many, low)) out in
+              absurd (tells.others x was.0 was.1 was.1 on was.2 was.3 was.4 refl)
 
-        never : m.listed.touched ≡ [] → ⊥
-        never none =
-            let out : ¬ (Has m.plan.merged x) = λ has. (let to = is.plan.merged.sound x has in let t = subst (λ (l : List ℕ). Has l to.number) none to.is_touched in let z : None ≡ Some to.number = t.1 in cc) in
-            let was = (outside_same rest).same x (let many = tells.many in let l = low moved x on in omega (arith, many, l)) out in
-            tells.others x was.0 was.1 was.1 on was.2 was.3 was.4 refl
+      pub plan_leads : AreLeading s moved m.plan.merged
+      plan_leads x number path other on at_x at_number leads =
+          let to = is.plan.merged.sound number (moved_merged number on) in
+          let same : to.path ≡ other = one_value to.path other (sym to.at_path ∙ at_number) in
+          is.plan.merged.complete x (record {
+            number = to.number;
+            path = path;
+            other = to.other;
+            is_touched = to.is_touched;
+            at_path = at_x;
+            at_other = to.at_other;
+            leads = onward (view_in s) path other to.other leads (subst (λ (p : Bytes). Imports (view_in s) p to.other) same to.leads);
+          })
+
+      -- where a signature moved, the edges are made
+      pub moved_edges : (x : ℕ) → IsOn moved x → AreImports (view_in s) (paths_in s) m.edges.items
+      moved_edges x on = elim is.edges [ inr are ↦ are | inl none ↦ absurd (never none) ]
+        where
+          never : m.listed.touched ≡ [] → ⊥
+          never none = let to = is.plan.merged.sound x (moved_merged x on) in let t = subst (λ (l : List ℕ). Has l to.number) none to.is_touched in let z : None ≡ Some to.number = t.1 in cc
 
     -- which modules are to be checked
     pub affected : CheckedAreOfChecked → (moved : List Bool) (checked : List ℕ) → TellsOthers b.was.signatures.items b.from.items sigs moved → AreExactly (IsToCheckIn s sigs moved m.listed.changed) checked → AreAffected b s checked

@@ -2,7 +2,7 @@
 ghost use Rattle.std.specs.Prelude.{◌≡◌, ◌<◌, ◌≤◌, ◌^◌, ℕ, All, IfOk, length};
 ghost use Rattle.graph_search.specs.Cycles.{IsOn};
 ghost use Rattle.recheck_plan.specs.Affected.{AreExactly};
-ghost use Rattle.recheck_reach.specs.Checked.{IsToCheckIn};
+ghost use Rattle.recheck_reach.specs.Checked.{AreLeading, IsToCheckIn};
 ghost use Rattle.graph_search.specs.Reach.{IsRising};
 ghost use Rattle.recheck_reach.specs.affected_sizes.specs.Polls.{AreImports};
 ghost use Rattle.recheck_reach.specs.check_phases.specs.Phases.{AreMerged};
@@ -21,18 +21,22 @@ use recheck_reach::recheck_sources::Listed;
 use recheck_reach::{any_moved, checked_modules, moved_signatures};
 use std::alloc::Global;
 
-// Which modules are to be checked: those that changed, and where any signature moved, those that reach it.
+// Which modules are to be checked: those that changed, and where any signature moved, those that reach it. These are found among `leading`,
+// which has each module from which imports lead to one whose signature moved.
 fn to_check(
     alloc: Global,
     listed: &Listed,
     signatures: &[Shared<Sig>],
     moved: &[bool],
+    leading: &[u32],
     edges: &[List<u32>],
 ) -> Result<List<u32>, NoMemory>
     requires sources { AreSources listed.now.sources }
     requires few { length listed.now.sources.root.modules < 2 ^ 32 }
     requires merged { AreMerged (view_in listed.now.sources) (program_in listed.now.sources) signatures.now }
     requires moved { length moved.now ≡ length listed.now.sources.root.modules }
+    requires leading { AreLeading listed.now.sources moved.now leading.now }
+    requires low { All (λ x. x < length listed.now.sources.root.modules) leading.now }
     requires edges { (x : ℕ) → IsOn moved.now x → AreImports (view_in listed.now.sources) (paths_in listed.now.sources) edges.now }
     requires rising { IsRising listed.now.changed }
     requires within { All (λ x. x < length listed.now.sources.root.modules) listed.now.changed }
@@ -41,7 +45,8 @@ fn to_check(
     reach_laws();
     let changed = listed.changed.as_slice();
     if any_moved(moved) {
-        return checked_modules(alloc, &listed.sources, signatures, moved, edges, changed);
+        let sources = &listed.sources;
+        return checked_modules(alloc, sources, signatures, moved, leading, edges, changed);
     }
     let all = List::from_slice(alloc, changed)?;
     Ok(all)
@@ -83,7 +88,7 @@ pub(crate) fn begin_checks(
     let moved = moved_signatures(alloc, was, from, merged, all)?;
     let flags = moved.as_slice();
     let imports = edges.as_slice();
-    let checked = to_check(alloc, &listed, all, flags, imports)?;
+    let checked = to_check(alloc, &listed, all, flags, merged, imports)?;
     let old = base.was.errors.as_slice();
     let numbers = checked.as_slice();
     let errors = kept_errors(alloc, old, from, numbers)?;

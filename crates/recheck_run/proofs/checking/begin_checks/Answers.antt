@@ -1,7 +1,7 @@
 use Rattle.std.proofs.Common.{refl}
 use Rattle.recheck_run.proofs.Goes.{checks_begin}
 use Rattle.recheck_run.proofs.Planned.{filled}
-use Rattle.recheck_run.proofs.Begun.{few_modules, merged_all, many_all, changed_low, from_all, plan_low, rest_here, many_moved, edges_here, affected_here, numbers_low, checking_is}
+use Rattle.recheck_run.proofs.Begun.{few_modules, merged_all, changed_low, from_all, plan_low, leading_low, rest_here, many_moved, leads_here, edges_here, affected_here, numbers_low, checking_is}
 use Rattle.recheck_run.proofs.checking.begin_checks.Goals as goal
 
 pub whole_signatures-requires : goal.whole_signatures-requires
@@ -34,6 +34,16 @@ pub to_check-requires-clause-moved : goal.to_check-requires-clause-moved
 to_check-requires-clause-moved c =
     many_moved c.args.base.now c.args.merging c.requires.base c.requires.merging c.requires.all c.reach_laws.ensures.touched c.waves_make_all.ensures c.in_ok-signatures.signatures.items c.in_ok-signatures.ensures c.as_slice-all.result.now c.as_slice-all.ensures.value
     c.as_slice-from.result.now c.as_slice-from.ensures.value c.as_slice-was.result.now c.as_slice-was.ensures.value c.in_ok-moved.moved.items c.in_ok-moved.ensures c.as_slice-flags.result.now c.as_slice-flags.ensures.value
+
+pub to_check-requires-clause-leading : goal.to_check-requires-clause-leading
+to_check-requires-clause-leading c =
+    leads_here c.args.base.now c.args.merging c.requires.base c.requires.merging c.requires.all c.reach_laws.ensures.touched c.waves_make_all.ensures c.in_ok-signatures.signatures.items c.in_ok-signatures.ensures c.as_slice-all.result.now c.as_slice-all.ensures.value
+    c.as_slice-from.result.now c.as_slice-from.ensures.value c.as_slice-was.result.now c.as_slice-was.ensures.value c.in_ok-moved.moved.items c.in_ok-moved.ensures c.reach_laws.ensures.rest c.as_slice-flags.result.now c.as_slice-merged.result.now c.as_slice-flags.ensures.value c.as_slice-merged.ensures
+
+pub to_check-requires-clause-low : goal.to_check-requires-clause-low
+to_check-requires-clause-low c =
+    leading_low c.args.base.now c.args.merging c.requires.base c.requires.merging c.requires.all c.reach_laws.ensures.touched c.waves_make_all.ensures c.in_ok-signatures.signatures.items c.in_ok-signatures.ensures c.as_slice-all.result.now c.as_slice-all.ensures.value
+    c.as_slice-from.result.now c.as_slice-from.ensures.value c.as_slice-merged.result.now c.as_slice-merged.ensures
 
 pub to_check-requires-clause-edges : goal.to_check-requires-clause-edges
 to_check-requires-clause-edges c =
