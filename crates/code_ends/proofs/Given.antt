@@ -1,11 +1,9 @@
 -- What is given to the innermost form, where that does not wait for it.
 use Rattle.std.proofs.Common.{◌≡◌, refl, ℕ, true, false, [], ◌∷◌}
-use Rattle.js_token.specs.declared.token.TokenKind.{TokenKind}
-use Rattle.js_grammar.specs.Code.{Stmt, stmt, Body, Block, Simple, Function, Declaration, declares, function_stmt, Branches}
+use Rattle.js_grammar.specs.Code.{Stmt, stmt, Block, Simple, Function, Declaration, declares, function_stmt}
 use Rattle.code_law.specs.Frames as m
 use Rattle.code_law.specs.Frames.{Stack, fault, is_statement, is_default, start_function}
-use Rattle.code_law.specs.Bodies.{give_stmt, give_body, give_declaration, give_function, give_block, end_simple}
-use Rattle.code_law.specs.Statements.{end_branches}
+use Rattle.code_law.specs.Bodies.{give_stmt, give_declaration, give_function, give_block, end_simple}
 use Rattle.code_state.specs.Stack.{is_open, IsOther}
 
 pub stmt-other : (k : Stack) (y : Stmt) → IsOther k → give_stmt k y ≡ fault
@@ -32,30 +30,6 @@ stmt-other (m.in_block s1 ss1 ∷ k) y h = absurd (let z : true ≡ false = h in
 stmt-other (m.in_item a1 w1 is1 ∷ k) y h = refl
 stmt-other (m.in_default a1 is1 ∷ k) y h = refl
 
-pub body-other : (i : ℕ) (k : Stack) (b : Body) → IsOther k → give_body i k b ≡ fault
-body-other i [] b h = refl
-body-other i (m.in_prefix s1 ps1 ∷ k) b h = refl
-body-other i (m.in_chain s1 p1 f1 os1 d1 o1 ∷ k) b h = refl
-body-other i (m.in_last s1 hs1 ∷ k) b h = refl
-body-other i (m.in_branch s1 hs1 e1 ∷ k) b h = refl
-body-other i (m.in_parens s1 ∷ k) b h = refl
-body-other i (m.in_row r1 es1 ∷ k) b h = refl
-body-other i (m.in_index e1 ls1 s1 ∷ k) b h = refl
-body-other i (m.in_field s1 fs1 y1 ∷ k) b h = refl
-body-other i (m.in_arrow g1 ∷ k) b h = refl
-body-other i (m.in_body g1 ∷ k) b h = absurd (let z : true ≡ false = h in cc)
-body-other i (m.in_simple s1 v1 ∷ k) b h = refl
-body-other i (m.in_declaration s1 w1 n1 t1 ∷ k) b h = refl
-body-other i (m.in_if_test s1 bs1 a1 ∷ k) b h = refl
-body-other i (m.in_loop_test s1 ∷ k) b h = refl
-body-other i (m.in_if s1 bs1 a1 e1 ∷ k) b h = absurd (let z : true ≡ false = h in cc)
-body-other i (m.in_else s1 bs1 ∷ k) b h = absurd (let z : true ≡ false = h in cc)
-body-other i (m.in_loop s1 e1 ∷ k) b h = absurd (let z : true ≡ false = h in cc)
-body-other i (m.in_function q1 s1 n1 g1 ∷ k) b h = absurd (let z : true ≡ false = h in cc)
-body-other i (m.in_block s1 ss1 ∷ k) b h = absurd (let z : true ≡ false = h in cc)
-body-other i (m.in_item a1 w1 is1 ∷ k) b h = refl
-body-other i (m.in_default a1 is1 ∷ k) b h = refl
-
 pub block-other : (i : ℕ) (k : Stack) (b : Block) → IsOther k → give_block i k b ≡ fault
 block-other i [] b h = refl
 block-other i (m.in_prefix s1 ps1 ∷ k) b h = refl
@@ -79,30 +53,6 @@ block-other i (m.in_function q1 s1 n1 g1 ∷ k) b h = absurd (let z : true ≡ f
 block-other i (m.in_block s1 ss1 ∷ k) b h = absurd (let z : true ≡ false = h in cc)
 block-other i (m.in_item a1 w1 is1 ∷ k) b h = refl
 block-other i (m.in_default a1 is1 ∷ k) b h = refl
-
-pub branches-other : (i : ℕ) (k : Stack) (s : ℕ) (bs : Branches) (x : TokenKind) → IsOther k → end_branches i k s bs x ≡ fault
-branches-other i [] s bs x h = refl
-branches-other i (m.in_prefix s1 ps1 ∷ k) s bs x h = refl
-branches-other i (m.in_chain s1 p1 f1 os1 d1 o1 ∷ k) s bs x h = refl
-branches-other i (m.in_last s1 hs1 ∷ k) s bs x h = refl
-branches-other i (m.in_branch s1 hs1 e1 ∷ k) s bs x h = refl
-branches-other i (m.in_parens s1 ∷ k) s bs x h = refl
-branches-other i (m.in_row r1 es1 ∷ k) s bs x h = refl
-branches-other i (m.in_index e1 ls1 s1 ∷ k) s bs x h = refl
-branches-other i (m.in_field s1 fs1 y1 ∷ k) s bs x h = refl
-branches-other i (m.in_arrow g1 ∷ k) s bs x h = refl
-branches-other i (m.in_body g1 ∷ k) s bs x h = absurd (let z : true ≡ false = h in cc)
-branches-other i (m.in_simple s1 v1 ∷ k) s bs x h = refl
-branches-other i (m.in_declaration s1 w1 n1 t1 ∷ k) s bs x h = refl
-branches-other i (m.in_if_test s1 bs1 a1 ∷ k) s bs x h = refl
-branches-other i (m.in_loop_test s1 ∷ k) s bs x h = refl
-branches-other i (m.in_if s1 bs1 a1 e1 ∷ k) s bs x h = absurd (let z : true ≡ false = h in cc)
-branches-other i (m.in_else s1 bs1 ∷ k) s bs x h = absurd (let z : true ≡ false = h in cc)
-branches-other i (m.in_loop s1 e1 ∷ k) s bs x h = absurd (let z : true ≡ false = h in cc)
-branches-other i (m.in_function q1 s1 n1 g1 ∷ k) s bs x h = absurd (let z : true ≡ false = h in cc)
-branches-other i (m.in_block s1 ss1 ∷ k) s bs x h = absurd (let z : true ≡ false = h in cc)
-branches-other i (m.in_item a1 w1 is1 ∷ k) s bs x h = refl
-branches-other i (m.in_default a1 is1 ∷ k) s bs x h = refl
 
 pub simple-other : (i : ℕ) (k : Stack) (y : Simple) → IsOther k → is_open k ≡ true → end_simple i k y ≡ fault
 simple-other i [] y h o = absurd (let z : false ≡ true = o in cc)
@@ -200,6 +150,6 @@ default-open i (m.in_block s1 ss1 ∷ k) f o = refl
 default-open i (m.in_item a1 w1 is1 ∷ k) f o = absurd (let z : false ≡ true = o in cc)
 default-open i (m.in_default a1 is1 ∷ k) f o = absurd (let z : false ≡ true = o in cc)
 
-pub ruleset others = (stmt-other, body-other, block-other, branches-other, simple-other)
+pub ruleset others = (stmt-other, block-other, simple-other)
 
 pub ruleset opens = (declaration-open, function-open, default-open)
