@@ -2,22 +2,21 @@
 ghost use Rattle.std.specs.Prelude.{◌≡◌, ◌<◌, ◌∷◌, IfOk};
 ghost use Rattle.std.proofs.Common.{cond};
 ghost use Rattle.js_token.specs.Words.{is_reserved as reserved};
-ghost use Rattle.js_grammar.specs.Code.{ex, variable, no_link, no_arm, has_fields as any_fields, more_field, field as field_tree, shorthand, no_parameter};
+ghost use Rattle.js_grammar.specs.Code.{ex, variable, no_arm, has_fields as any_fields, more_field, field as field_tree, shorthand, no_parameter};
 ghost use Rattle.code_tree.specs.Flat.{parameters_view};
 ghost use Rattle.code_law.specs.Frames.{of_arrow, in_parens, in_branch, in_field, fault, go, want};
 ghost use Rattle.code_law.specs.Ladder.{after_field as next_step};
 ghost use Rattle.code_state.specs.Forms.{owner_view};
 ghost use Rattle.type_tree.specs.View.{key_view};
 ghost use Rattle.code_tree.specs.View.{expr_view, fields_view};
-ghost use Rattle.code_law.specs.Expressions.{want_step, links_step, fields_step, field_step, key_step, paren_step, paren_word_step, paren_mark_step};
+ghost use Rattle.code_law.specs.Expressions.{want_step, fields_step, field_step, key_step, paren_step, paren_mark_step};
 ghost use Rattle.code_state.specs.Stack.{stack_view};
 ghost use Rattle.code_state.specs.Turns.{turn_view, Gives};
 
-use crate::links::after_links;
 use code_heads::{after_field, begin_inside, close_fields};
 use code_state::{
-    Frame, GroupMode, HeadMode, InnerFrame, Linked, Mode, NamedParameter, OpenFields,
-    OpenParameters, Owner, ParenWord, Stack, Turn, ValueMode, Waiting,
+    Frame, GroupMode, HeadMode, InnerFrame, Mode, NamedParameter, OpenFields, OpenParameters,
+    Owner, ParenWord, Stack, Turn, ValueMode, Waiting,
 };
 use code_tree::{Expr, ExprForm, Field, FieldForm};
 use flow_values::{List, NoMemory, Text};
@@ -166,7 +165,7 @@ fn no_parameters(alloc: Global, first: usize) -> OpenParameters
 }
 
 /// A word behind `(` as the first parameter of an arrow.
-fn first_parameter(alloc: Global, word: ParenWord) -> NamedParameter
+pub fn first_parameter(alloc: Global, word: ParenWord) -> NamedParameter
     ensures owner { owner_view result.open.owner ≡ of_arrow }
     ensures first { result.open.first ≡ word.first }
     ensures parameters { parameters_view result.open.parameters ≡ no_parameter }
@@ -218,54 +217,6 @@ pub fn after_paren(
             let frame = Frame::Inner(InnerFrame::Paren(first));
             begin_inside(alloc, at, stack, frame, token)
         }
-    }
-}
-
-/// A word behind `(` is a variable, and a token comes after it.
-#[tactic(auto, using(code_state::proofs::Pushes::nothings))]
-fn after_variable(
-    alloc: Global,
-    at: usize,
-    stack: &mut Stack,
-    word: ParenWord,
-    token: &TokenKind,
-) -> Result<Turn, NoMemory>
-    requires { at < usize.MAX }
-    ensures { IfOk result (λ turn. turn_view stack.new turn ≡ links_step at (in_parens word.first ∷ stack_view stack.old) (ex word.start at (variable word.name)) no_link token.now) }
-{
-    let ParenWord { first, start, name } = word;
-    stack.push(Frame::Inner(InnerFrame::Paren(first)))?;
-    let linked = Linked {
-        base: Expr::new(start, at, ExprForm::variable(name)),
-        links: List::new(alloc),
-    };
-    after_links(alloc, at, stack, linked, token)
-}
-
-/// A token behind a word behind `(`.
-pub fn after_paren_word(
-    alloc: Global,
-    at: usize,
-    stack: &mut Stack,
-    word: ParenWord,
-    token: &TokenKind,
-) -> Result<Turn, NoMemory>
-    requires { at < usize.MAX }
-    ensures { IfOk result (λ turn. turn_view stack.new turn ≡ paren_word_step at (stack_view stack.old) word.first word.start word.name token.now) }
-{
-    match token {
-        TokenKind::Punct(Punct::Colon) => {
-            if stack.takes_arrow() {
-                let parameter = first_parameter(alloc, word);
-                Ok(Turn::Type(Waiting::Parameter(parameter, false)))
-            } else {
-                Ok(Turn::Fault)
-            }
-        }
-        TokenKind::Punct(Punct::Question) => {
-            Ok(Turn::Go(Mode::Group(GroupMode::ParenMark(word, at))))
-        }
-        _ => after_variable(alloc, at, stack, word, token),
     }
 }
 

@@ -8,9 +8,7 @@ ghost use Rattle.code_state.specs.Stack.{stack_view};
 ghost use Rattle.code_state.specs.Turns.{turn_view, Gives};
 ghost use Rattle.code_words.specs.Words.{statement_word_view};
 
-use crate::bodies::give_block;
-use crate::simples::end_simple;
-use crate::statements::push_statement;
+use code_ends::{end_simple, give_block, push_statement};
 use code_heads::{begin_body, begin_inside, begin_simple, block_word, open_block, simple_word};
 use code_state::{
     BodyFrame, Declared, Frame, Mode, OpenBlock, OpenIf, Stack, StatementMode, Top, Turn,
@@ -186,7 +184,7 @@ fn is_else(token: &TokenKind) -> bool
 }
 
 /// An `if` without a last `else` ended before a token.
-#[tactic(auto, using(crate::proofs::Given::others))]
+#[tactic(auto, using(crate::proofs::Branches::others))]
 fn end_branches(
     alloc: Global,
     at: usize,
@@ -204,7 +202,7 @@ fn end_branches(
 }
 
 /// An `if` without a last `else` ended in this form before a token.
-#[tactic(auto, using(crate::proofs::Outsides::outsides))]
+#[tactic(auto, using(crate::proofs::Branches::outsides))]
 fn end_branches_in(
     alloc: Global,
     at: usize,

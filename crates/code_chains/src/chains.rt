@@ -10,9 +10,9 @@ ghost use Rattle.code_state.specs.Forms.{operator_frame_view};
 ghost use Rattle.code_state.specs.Stack.{stack_view};
 ghost use Rattle.code_state.specs.Turns.{turn_view};
 ghost use Rattle.code_words.specs.Words.{joint_view};
-ghost use Rattle.code_steps.specs.Ended.{chain_rank as rank_of_chain, stays_open as stays};
+ghost use Rattle.code_chains.specs.Ended.{chain_rank as rank_of_chain, stays_open as stays};
 
-use crate::close::end_operator;
+use crate::ends::end_operator;
 use code_state::{Frame, Mode, OpenChain, OperatorFrame, Stack, Turn, ValueMode, Waiting};
 use code_tree::{ChainExpr, Expr, ExprForm, Level, Operator};
 use code_words::{Joint, operand_rank, rank};

@@ -1,38 +1,17 @@
 -- How the ladder goes on below an operator, and where none is open.
 use Rattle.std.proofs.Common.{◌≡◌, refl, ◌∙◌, ap, ℕ, nat_eq, nat_le, nat_lt, ◌≤◌, ◌<◌, arith, true, false, [], ◌∷◌, cond}
 use Rattle.std.proofs.lemmas.Bool.Decides.{nat_tests}
-use Rattle.js_token.specs.declared.token.TokenKind.{TokenKind}
 use Rattle.js_grammar.specs.Code as g
 use Rattle.js_grammar.specs.Code.{Ex, ex, ExForm, Level, rank, operand_rank, form_rank, ex_rank, no_arm, no_operand, Arms, Function, Operands}
 use Rattle.code_law.specs.Frames as m
 use Rattle.code_law.specs.Frames.{Stack, Step, fault, go, want, start_ex}
-use Rattle.code_law.specs.Ladder.{Joint, close, ask, ask_test, join, begin, open_chain}
+use Rattle.code_law.specs.Ladder.{Joint, ask, ask_test, join, begin, open_chain}
 use Rattle.code_law.specs.Expressions.{may_arrow}
-use Rattle.code_state.specs.Forms.{operator_frame_view, tail_view, body_frame_view}
+use Rattle.code_state.specs.Forms.{operator_frame_view}
 use Rattle.code_state.specs.Stack.{nearest_of, is_last}
 use Rattle.code_state.specs.declared.frames.OperatorFrame.{OperatorFrame}
 use Rattle.code_state.specs.declared.frames.OperatorFrame.TheVariants as operator
-use Rattle.code_state.specs.declared.frames.TailFrame.{TailFrame}
-use Rattle.code_state.specs.declared.frames.TailFrame.TheVariants as tail
-use Rattle.code_state.specs.declared.frames.BodyFrame.{BodyFrame}
-use Rattle.code_state.specs.declared.frames.BodyFrame.TheVariants as body
-use Rattle.code_steps.specs.Ended.{ended, chain_rank, stays_open}
-
-pub close-operator : (i : ℕ) (f : OperatorFrame) (k : Stack) (e : Ex) (x : TokenKind) → close i (operator_frame_view f ∷ k) e x ≡ close i k (ended i (operator_frame_view f) e) x
-close-operator i (operator.Prefix s ps) k e x = refl
-close-operator i (operator.Chain c d o) k e x = refl
-
-pub close-tail : (i : ℕ) (f : TailFrame) (k : Stack) (e : Ex) (x : TokenKind) → close i (tail_view f ∷ k) e x ≡ close i k (ended i (tail_view f) e) x
-close-tail i (tail.Last s hs) k e x = refl
-close-tail i (tail.Arrow g) k e x = refl
-
-pub close-body : (i : ℕ) (f : BodyFrame) (k : Stack) (e : Ex) (x : TokenKind) → close i (body_frame_view f ∷ k) e x ≡ fault
-close-body i (body.Function h g) k e x = refl
-close-body i (body.Arrow g) k e x = refl
-close-body i (body.Block b) k e x = refl
-close-body i (body.If b a t) k e x = refl
-close-body i (body.Else b) k e x = refl
-close-body i (body.Loop s t) k e x = refl
+use Rattle.code_chains.specs.Ended.{ended, chain_rank, stays_open}
 
 pub ask-operator : (i : ℕ) (f : OperatorFrame) (k : Stack) (e : Ex) → ask i (operator_frame_view f ∷ k) e ≡ ask i k (ended i (operator_frame_view f) e)
 ask-operator i (operator.Prefix s ps) k e = refl
@@ -166,8 +145,6 @@ rank-some g.equal_level a b h = absurd (let z : 0 ≡ 4 = h in cc)
 rank-some g.relation_level a b h = absurd (let z : 0 ≡ 5 = h in cc)
 rank-some g.sum_level a b h = absurd (let z : 0 ≡ 6 = h in cc)
 rank-some g.product_level a b h = absurd (let z : 0 ≡ 7 = h in cc)
-
-pub ruleset closes = (close-operator, close-tail, close-body)
 
 pub ruleset asks = (ask-operator, ask-outer, ask-arms)
 

@@ -1,17 +1,15 @@
-// A whole expression, and the token behind it.
-ghost use Rattle.std.specs.Prelude.{◌≡◌, ◌<◌, IfOk};
+// A whole expression, and the `?` behind it.
+ghost use Rattle.std.specs.Prelude.{◌≡◌, IfOk};
 ghost use Rattle.code_tree.specs.View.{expr_view, arms_view};
-ghost use Rattle.code_law.specs.Ladder.{ask_test as test_step, ask as ask_step, settle as settle_step};
+ghost use Rattle.code_law.specs.Ladder.{ask_test as test_step, ask as ask_step};
 ghost use Rattle.code_state.specs.Stack.{stack_view};
 ghost use Rattle.code_state.specs.Turns.{turn_view};
 
-use crate::chains::{form_rank, join};
-use crate::close::{close, end_operator};
+use crate::chains::form_rank;
+use crate::ends::end_operator;
 use code_state::{Frame, InnerFrame, Mode, Stack, Turn, ValueMode};
 use code_tree::{Arm, Expr};
-use code_words::{Behind, follows, level_of};
 use flow_values::{List, NoMemory};
-use js_token::TokenKind;
 use std::alloc::Global;
 
 /// A test is whole, behind the arms of a conditional so far.
@@ -29,7 +27,7 @@ fn ask_test(stack: &mut Stack, first: usize, arms: List<Arm>, test: Expr) -> Res
 
 /// An expression is whole, and `?` stands behind it at a place.
 #[tactic(auto, using(crate::proofs::Ladders::asks, code_state::proofs::Pushes::nothings, code_state::proofs::Views::starts))]
-fn ask(alloc: Global, at: usize, stack: &mut Stack, whole: Expr) -> Result<Turn, NoMemory>
+pub fn ask(alloc: Global, at: usize, stack: &mut Stack, whole: Expr) -> Result<Turn, NoMemory>
     ensures { IfOk result (λ turn. turn_view stack.new turn ≡ ask_step at (stack_view stack.old) (expr_view whole)) }
 {
     let mut expr = whole;
@@ -39,24 +37,5 @@ fn ask(alloc: Global, at: usize, stack: &mut Stack, whole: Expr) -> Result<Turn,
     match stack.pop_arms() {
         Some((first, arms)) => ask_test(stack, first, arms, expr),
         None => ask_test(stack, expr.first, List::new(alloc), expr),
-    }
-}
-
-/// An expression is whole, and the token at a place comes after it.
-pub fn settle(
-    alloc: Global,
-    at: usize,
-    stack: &mut Stack,
-    whole: Expr,
-    token: &TokenKind,
-) -> Result<Turn, NoMemory>
-    requires { at < usize.MAX }
-    ensures { IfOk result (λ turn. turn_view stack.new turn ≡ settle_step at (stack_view stack.old) (expr_view whole) token.now) }
-{
-    match follows(token) {
-        Behind::Joins(joint) => join(alloc, at, stack, whole, level_of(joint), joint),
-        Behind::Asks => ask(alloc, at, stack, whole),
-        Behind::Sticks => Ok(Turn::Fault),
-        Behind::Ends => close(alloc, at, stack, whole, token),
     }
 }

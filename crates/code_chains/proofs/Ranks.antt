@@ -6,8 +6,8 @@ use Rattle.code_tree.specs.declared.types.Expr.{Expr, out-Expr}
 use Rattle.code_tree.specs.declared.types.ExprForm.{the_lemmas}
 use Rattle.code_law.specs.Frames.{Stack, fault, go, want, in_branch}
 use Rattle.code_law.specs.Ladder.{Joint, begin, open_chain, ask_test}
-use Rattle.code_steps.specs.Ended.{chain_rank}
-use Rattle.code_steps.proofs.Ladders.{open-new, open-none, open-same, rank-some, test-yes, test-no}
+use Rattle.code_chains.specs.Ended.{chain_rank}
+use Rattle.code_chains.proofs.Ladders.{open-new, open-none, open-same, rank-some, test-yes, test-no}
 
 pub view_expr : (e : Expr) → expr_view e ≡ ex (out-Expr e).first (out-Expr e).end (expr_form_view (out-Expr e).form)
 unfolding expr_view expr_form_view

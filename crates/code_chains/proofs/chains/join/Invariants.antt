@@ -5,7 +5,7 @@ use Rattle.code_tree.specs.View.{expr_view}
 use Rattle.code_law.specs.Ladder.{join as join_step}
 use Rattle.code_words.specs.Words.{joint_view}
 use Rattle.code_state.specs.Stack.{stack_view, depth}
-use Rattle.code_steps.proofs.chains.join.Given as goal
+use Rattle.code_chains.proofs.chains.join.Given as goal
 
 abbrev pub invariant-outwards : goal.invariant-outwards
 invariant-outwards l =
