@@ -4,7 +4,7 @@ ghost use Rattle.code_law.specs.Frames.{is_statement, is_default};
 ghost use Rattle.code_tree.specs.View.{declaration_view, function_view};
 ghost use Rattle.js_tree.specs.View.{item_form_view};
 ghost use Rattle.code_law.specs.Bodies.{wrap_declaration as wrapped_declaration, wrap_function as wrapped_function, give_declaration as declaration_given, give_function as function_given};
-ghost use Rattle.code_state.specs.Forms.{wrap_view, kind_view, mode_view};
+ghost use Rattle.code_state.specs.Forms.{wrap_view, kind_view};
 ghost use Rattle.code_state.specs.Stack.{stack_view};
 ghost use Rattle.code_state.specs.Turns.{turn_view};
 

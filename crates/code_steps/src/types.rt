@@ -1,5 +1,5 @@
 // A whole type inside code.
-ghost use Rattle.std.specs.Prelude.{◌≡◌, ◌<◌, ℕ, IfOk};
+ghost use Rattle.std.specs.Prelude.{◌≡◌, ◌<◌, IfOk};
 ghost use Rattle.type_tree.specs.View.{type_view};
 ghost use Rattle.code_tree.specs.Flat.{binder_view, parameters_view};
 ghost use Rattle.code_tree.specs.View.{expr_view, operands_view};
