@@ -2,7 +2,7 @@
 use Rattle.std.proofs.Common.{◌≡◌, refl, ◌∙◌, ap, ℕ, nat_eq, nat_le, nat_lt, ◌≤◌, ◌<◌, arith, true, false, [], ◌∷◌, cond}
 use Rattle.std.proofs.lemmas.Bool.Decides.{nat_tests}
 use Rattle.js_grammar.specs.Code as g
-use Rattle.js_grammar.specs.Code.{Ex, ex, ExForm, Level, rank, operand_rank, form_rank, ex_rank, no_arm, no_operand, Arms, Function, Operands}
+use Rattle.js_grammar.specs.Code.{Ex, ex, ExForm, Level, rank, operand_rank, form_rank, ex_rank, no_arm, no_operand, Arms, Operands}
 use Rattle.code_law.specs.Frames as m
 use Rattle.code_law.specs.Frames.{Stack, Step, fault, go, want, start_ex}
 use Rattle.code_law.specs.Ladder.{Joint, ask, ask_test, join, begin, open_chain}

@@ -21,6 +21,8 @@ fn ask_test(stack: &mut Stack, first: usize, arms: List<Arm>, test: Expr) -> Res
         stack.push(Frame::Inner(InnerFrame::Branch(first, arms, test)))?;
         Ok(Turn::Go(Mode::Value(ValueMode::Want)))
     } else {
+        drop(arms);
+        drop(test);
         Ok(Turn::Fault)
     }
 }

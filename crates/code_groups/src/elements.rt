@@ -1,8 +1,8 @@
 // The tokens behind a dot, and those of a list in brackets.
-ghost use Rattle.std.specs.Prelude.{◌≡◌, ◌<◌, IfOk};
-ghost use Rattle.js_grammar.specs.Code.{has_exs as any_exs};
+ghost use Rattle.std.specs.Prelude.{◌≡◌, ◌<◌, suc, IfOk};
+ghost use Rattle.js_grammar.specs.Code.{has_exs as any_exs, more_link, link as link_tree, member};
 ghost use Rattle.code_tree.specs.View.{expr_view, exprs_view, links_view};
-ghost use Rattle.code_law.specs.Frames.{array_row, call_row, go};
+ghost use Rattle.code_law.specs.Frames.{array_row, call_row, after_links as links_mode, go};
 ghost use Rattle.code_law.specs.Ladder.{close_row as row_closed};
 ghost use Rattle.code_law.specs.Expressions.{dot_step, row_step};
 ghost use Rattle.code_state.specs.Forms.{row_view};
@@ -12,9 +12,26 @@ ghost use Rattle.code_state.specs.Turns.{turn_view, Gives};
 use code_heads::{add_link, begin_inside, close_row};
 use code_state::{Frame, InnerFrame, Linked, Row, Stack, Turn};
 use code_tree::{Expr, Link, LinkForm};
-use flow_values::{Boxed, List, NoMemory};
+use flow_values::{Boxed, List, NoMemory, Text};
 use js_token::{Punct, TokenKind};
 use std::alloc::Global;
+
+/// The name behind a dot at `dot` joins an expression as a link, which ends behind the place.
+fn add_member(at: usize, linked: Linked, dot: usize, word: &Text) -> Result<Turn, NoMemory>
+    requires { at < usize.MAX }
+    ensures { IfOk result (λ turn. Gives turn (λ k. go k (links_mode (expr_view linked.base) (more_link (links_view linked.links) (link_tree dot (suc at) (member word.now)))))) }
+{
+    match word.share() {
+        Ok(name) => {
+            let link = Link::new(dot, at + 1, LinkForm::member(name));
+            Ok(Turn::Go(add_link(linked, link)?))
+        }
+        Err(error) => {
+            drop(linked);
+            Err(error)
+        }
+    }
+}
 
 /// A token behind a dot.
 pub fn after_dot(at: usize, linked: Linked, dot: usize, token: &TokenKind) -> Result<Turn, NoMemory>
@@ -22,11 +39,11 @@ pub fn after_dot(at: usize, linked: Linked, dot: usize, token: &TokenKind) -> Re
     ensures { IfOk result (λ turn. Gives turn (λ k. dot_step at k (expr_view linked.base) (links_view linked.links) dot token.now)) }
 {
     match token {
-        TokenKind::Name(word) => {
-            let link = Link::new(dot, at + 1, LinkForm::member(word.share()?));
-            Ok(Turn::Go(add_link(linked, link)?))
+        TokenKind::Name(word) => add_member(at, linked, dot, word),
+        _ => {
+            drop(linked);
+            Ok(Turn::Fault)
         }
-        _ => Ok(Turn::Fault),
     }
 }
 

@@ -35,7 +35,10 @@ fn close_paren(
             let form = ExprForm::paren(alloc, expr)?;
             Ok(Turn::Go(primary(alloc, Expr::new(first, at + 1, form))))
         }
-        _ => Ok(Turn::Fault),
+        _ => {
+            drop(expr);
+            Ok(Turn::Fault)
+        }
     }
 }
 
@@ -72,7 +75,11 @@ fn close_index(
             let link = Link::new(first, at + 1, LinkForm::index(expr));
             Ok(Turn::Go(add_link(linked, link)?))
         }
-        _ => Ok(Turn::Fault),
+        _ => {
+            drop(linked);
+            drop(expr);
+            Ok(Turn::Fault)
+        }
     }
 }
 
