@@ -5,20 +5,21 @@ ghost use Rattle.code_state.specs.Forms.{mode_view, value_mode_view, group_view,
 ghost use Rattle.code_state.specs.Stack.{stack_view};
 ghost use Rattle.code_state.specs.Turns.{turn_view};
 
-use crate::blocks::{
+use crate::parens::after_paren_word;
+use code_blocks::{
     after_binder, after_branch, after_declared, after_else, after_if, after_return, after_simple,
     after_while, begin_statement,
 };
-use crate::groups::{
-    after_field_word, after_key, after_paren, after_paren_mark, after_paren_word, begin_field,
+use code_groups::{
+    after_dot, after_field_word, after_key, after_paren, after_paren_mark, begin_element,
+    begin_field,
 };
-use crate::links::{after_dot, after_links, begin_element};
-use crate::settle::settle;
 use code_heads::{
     after_arrow, after_parameter_mark, after_parameter_word, after_parameters, begin_body,
     begin_function, begin_parameter, begin_value, open_parameters,
 };
 use code_state::{GroupMode, HeadMode, Mode, Stack, StatementMode, Turn, ValueMode};
+use code_tails::{after_links, settle};
 use flow_values::NoMemory;
 use js_token::TokenKind;
 use std::alloc::Global;

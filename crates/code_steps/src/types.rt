@@ -1,5 +1,5 @@
 // A whole type inside code.
-ghost use Rattle.std.specs.Prelude.{◌≡◌, ◌<◌, ℕ, IfOk};
+ghost use Rattle.std.specs.Prelude.{◌≡◌, ◌<◌, IfOk};
 ghost use Rattle.type_tree.specs.View.{type_view};
 ghost use Rattle.code_tree.specs.Flat.{binder_view, parameters_view};
 ghost use Rattle.code_tree.specs.View.{expr_view, operands_view};
@@ -9,13 +9,13 @@ ghost use Rattle.code_state.specs.Forms.{waiting_view, owner_view};
 ghost use Rattle.code_state.specs.Stack.{stack_view};
 ghost use Rattle.code_state.specs.Turns.{turn_view};
 
-use crate::close::end_chain;
-use crate::settle::settle;
+use code_chains::end_chain;
 use code_heads::{add_parameter, open_body};
 use code_state::{
     Declared, Frame, Mode, OpenChain, OpenParameters, Owner, Stack, Turn, ValueFrame, ValueMode,
     Waiting,
 };
+use code_tails::settle;
 use code_tree::{Level, Operand, OperandForm, Signature};
 use flow_values::NoMemory;
 use js_token::{Punct, TokenKind};

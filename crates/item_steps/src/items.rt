@@ -21,7 +21,7 @@ use code_state::{
     AliasHead, Bottom, Ending, ExportMode, Frame, FunctionKind, HeadMode, ImportMode, ItemMode,
     Linked, Mode, Stack, StatementMode, Turn, ValueFrame, Verb, Wrap,
 };
-use code_steps::after_links;
+use code_tails::after_links;
 use code_tree::{Expr, ExprForm};
 use code_words::{StatementWord, may_alias, statement_word};
 use flow_values::{List, NoMemory, Text};

@@ -1,0 +1,3 @@
+pub mod Given
+pub mod Moved
+pub mod Outsides
