@@ -2,14 +2,16 @@
 """Times flowd beside TypeScript's compiler over the same modules: the time and the peak of memory of both.
 
     bench/modules.py                       300 and 1,000 generated modules, and 300 dense ones of about 180 lines
-    bench/modules.py SHAPE COUNT..         modules of one shape alone; SHAPE is generated or dense
+    bench/modules.py SHAPE COUNT..         modules of one shape alone; SHAPE is generated, dense, shared, chain, ring or star
     bench/modules.py --workers N,.. [SHAPE COUNT..]     with so many workers each, as 1,2,4, in turn: by itself 300 dense modules,
                                            4,096 and 30 generated ones
     bench/modules.py top SHAPE COUNT [N]   the ten functions of flowd that take most time, by perf, with N workers
     bench/modules.py write FOLDER SHAPE COUNT [ts]      writes the modules, for TypeScript where ts is said
 
 A generated module has a type that leads to another module's, a value and a function, as those of `flowd --gen` have. A
-dense one has types, functions with bodies, refinements, loops, object literals, and calls into the module before it.
+dense one has types, functions with bodies, refinements, loops, object literals, and calls into the module before it. Of shared modules
+all import one name each of the first one, which exports as many; in a chain each one's type leads to that of the one before, in a ring
+the first one's to that of the last, so that all are one component; and of a star one module imports a name of each other.
 TypeScript reads the same modules in its own words: `T | null | undefined` for `?T`, `readonly` for `+`. It checks them
 alone: no declarations of a browser, and none of the library's own. What it takes to start is told by an empty module.
 
@@ -103,7 +105,36 @@ def dense(count, is_ts):
         )
 
 
-SHAPES = {"generated": generated, "dense": dense}
+def shared(count, is_ts):
+    """One module with as many exports as there are others, each of which imports one of them."""
+    yield "m0", "".join(f"export const v{i}: {{a: number, b: string}} = {{a: {i}, b: 's'}};\n" for i in range(1, count))
+    for i in range(1, count):
+        yield f"m{i}", f"import {{v{i}}} from './m0';\nexport const w{i}: number = v{i}.a;\n"
+
+
+def chain(count, is_ts, is_ring=False):
+    """Modules each of which has a type that leads to that of the one before."""
+    for i in range(count):
+        j = i - 1 if i else count - 1
+        has_other = (i or is_ring) and i != j
+        other, prop, value = (f"import type {{T{j}}} from './m{j}';\n", f", b: {maybe(f'T{j}', is_ts)}", ", b: null") if has_other else ("", "", "")
+        yield f"m{i}", f"{other}export type T{i} = {{a: number{prop}}};\nexport const v{i}: T{i} = {{a: {i}{value}}};\n"
+
+
+def ring(count, is_ts):
+    """The same, and the first one's leads to that of the last."""
+    return chain(count, is_ts, is_ring=True)
+
+
+def star(count, is_ts):
+    """One module that imports a value of each other."""
+    for i in range(1, count):
+        yield f"m{i}", f"export const v{i}: number = {i};\n"
+    imports = "".join(f"import {{v{i}}} from './m{i}';\n" for i in range(1, count))
+    yield "m0", imports + "".join(f"export const w{i}: number = v{i};\n" for i in range(1, count))
+
+
+SHAPES = {"generated": generated, "dense": dense, "shared": shared, "chain": chain, "ring": ring, "star": star}
 
 
 def write(folder, shape, count, is_ts):
