@@ -11,7 +11,8 @@
 A generated module has a type that leads to another module's, a value and a function, as those of `flowd --gen` have. A
 dense one has types, functions with bodies, refinements, loops, object literals, and calls into the module before it. Of shared modules
 all import one name each of the first one, which exports as many; in a chain each one's type leads to that of the one before, in a ring
-the first one's to that of the last, so that all are one component; and of a star one module imports a name of each other.
+the first one's to that of the last, so that all are one component; and of a star one module imports a name of each other. TypeScript
+itself fails on a ring of 2,000, which ends the run.
 TypeScript reads the same modules in its own words: `T | null | undefined` for `?T`, `readonly` for `+`. It checks them
 alone: no declarations of a browser, and none of the library's own. What it takes to start is told by an empty module.
 
