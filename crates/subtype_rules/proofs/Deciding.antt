@@ -3,7 +3,7 @@ use Rattle.std.proofs.Common.{◌≡◌, Bool, true, false, ◌∷◌, refl, sym
 use Rattle.std.specs.Prelude.{IsTrue, ◌↔◌}
 use Rattle.type_values.specs.declared.types.FlowType.{FlowType}
 use Rattle.type_values.specs.declared.types.FlowType as made
-use Rattle.alias_table.specs.Table.{unfolded}
+use Rattle.alias_table.specs.Table.{types_in, unfolded}
 use Rattle.alias_table.specs.declared.table.AliasTable.{AliasTable}
 use Rattle.subtyping.specs.Closed.{IsBelow}
 use Rattle.subtyping.proofs.TableNames.{table_has}
@@ -12,7 +12,7 @@ use Rattle.subtype_rules.specs.Answer.{below}
 
 pub below_is : (table : AliasTable) (a b : FlowType) → IsTrue (below table a b) ↔ IsBelow (unfolded table) a b
 unfolding below
-below_is table a b = (decided (unfolded table) (made.Any ∷ table.types) (table_has table) a b).1
+below_is table a b = (decided (unfolded table) (made.Any ∷ types_in table) (table_has table) a b).1
 
 same_truth : (a b : Bool) → (a ≡ true → b ≡ true) → (b ≡ true → a ≡ true) → a ≡ b
 same_truth true b f g = sym (f refl)

@@ -3,7 +3,7 @@ use Rattle.std.proofs.Common.{◌≡◌, Bool, true, false, List, [], ◌∷◌,
 use Rattle.type_values.specs.declared.types.FlowType.{FlowType}
 use Rattle.type_values.specs.declared.types.FlowType as made
 use Rattle.alias_table.specs.Aliases.{Row, Key, row_type, is_row_of, alias_type}
-use Rattle.alias_table.specs.Table.{rows_in, unfolded, is_marked, alias_of}
+use Rattle.alias_table.specs.Table.{rows_in, types_in, unfolded, is_marked, alias_of}
 use Rattle.alias_table.specs.declared.table.AliasTable.{AliasTable}
 use Rattle.subtyping.specs.Closed.{IsBelow}
 use Rattle.subtyping.proofs.Whole.{here, there}
@@ -17,9 +17,6 @@ type_in (row ∷ rows) key t is = go (is_row_of key row) is (type_in rows key t)
     go : (b : Bool) → (if b then Some row.2 else alias_type rows key) ≡ Some t → (alias_type rows key ≡ Some t → Contains (map row_type rows) t) → Contains (map row_type (row ∷ rows)) t
     go true first rest = let same : row.2 ≡ t = cc in subst (λ (u : FlowType). Contains (u ∷ map row_type rows) t) (sym same) (here t (map row_type rows))
     go false first rest = there row.2 t (map row_type rows) (rest first)
-
-abbrev types_in : AliasTable → List FlowType
-types_in table = map row_type (rows_in table)
 
 -- what a table's names unfold to
 pub table_has : (table : AliasTable) (key : Key) → Contains (made.Any ∷ types_in table) (unfolded table key)
