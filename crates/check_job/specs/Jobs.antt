@@ -16,7 +16,7 @@ use Rattle.source_front.specs.declared.parse.SourceFault.TheVariants as fault
 use Rattle.errors_by_reach.specs.module_errors.specs.Program.{Program}
 use Rattle.errors_by_reach.specs.module_errors.specs.Errors.{errors_beside, broken_errors}
 use Rattle.errors_by_reach.specs.Law.{Source, whole, broken}
-use Rattle.errors_by_reach.specs.Seen.{Sigs, IsTable, IsSeen}
+use Rattle.errors_by_reach.specs.Seen.{Sigs, IsSeen}
 use Rattle.check_job.specs.declared.job.CheckJob.{CheckJob}
 
 -- the code of a source's fault, and its byte place
@@ -46,18 +46,15 @@ IsWhole (broken code place) = ⊥
 
 -- ---- the errors of a job
 
--- these are the errors of a module that sees this table, where its signature has the first faults
+-- these are the errors of a module that sees these merged signatures, where its own has the first faults
 abbrev pub HasErrorsBeside : List Fault → Bytes → Deps → Source → Sigs → List Fault → Type 0
-HasErrorsBeside first path deps (whole m spans) table errors = (p : Program) × IsSeen path deps m table p × (errors ≡ errors_beside first p m spans)
-HasErrorsBeside first path deps (broken code place) table errors = errors ≡ broken_errors code place
+HasErrorsBeside first path deps (whole m spans) sigs errors = (p : Program) × IsSeen path deps m sigs p × (errors ≡ errors_beside first p m spans)
+HasErrorsBeside first path deps (broken code place) sigs errors = errors ≡ broken_errors code place
 
--- and of a module with these dependencies, in a program with these merged signatures
-abbrev pub AreErrorsBeside : List Fault → Bytes → Deps → Source → Sigs → List Fault → Type 0
-AreErrorsBeside first path deps source sigs errors = (table : Sigs) × IsTable sigs deps table × HasErrorsBeside first path deps source table errors
-
--- These are the errors of a job's module, by the parse that the job has: the faults of its signature are those that came with its tree.
+-- These are the errors of a job's module, by the parse and the signatures that the job has: the faults of its own signature are those
+-- that came with its tree.
 abbrev pub AreErrorsOf : CheckJob → List Fault → Type 0
-AreErrorsOf job errors = AreErrorsBeside job.parse.faults job.path job.deps (source_of job) (row_at job.sigs) errors
+AreErrorsOf job errors = HasErrorsBeside job.parse.faults job.path job.deps (source_of job) (row_at job.sigs.rows) errors
 
 -- the faults that were told with the tree are those of its signature
 abbrev pub HasFaults : CheckJob → Source → Type 0

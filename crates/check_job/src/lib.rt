@@ -5,4 +5,5 @@ mod job;
 
 pub use errors_by_reach;
 pub use job::CheckJob;
+pub use signature_table;
 pub use source_front;

@@ -16,10 +16,10 @@ use Rattle.analyst.specs.source_front.specs.Front.{Says, IsParse}
 use Rattle.analyst.specs.source_front.specs.declared.parse.Parse.{Parse}
 use Rattle.analyst.specs.source_front.specs.declared.parse.ParseTree.{ParseTree}
 use Rattle.analyst.specs.source_front.specs.declared.parse.ParseTree.TheVariants.{Tree, Broken}
-use Rattle.errors_by_reach.specs.Law.{AreErrors, Agree}
-use Rattle.reach_law.specs.Law.{JobsAreRight}
+use Rattle.errors_by_reach.specs.Law.{HasErrors, Agree}
+use Rattle.reach_law.specs.Law.{KeyLaw}
 use Rattle.named_rows.proofs.Lists.{flat_last}
-use Rattle.import_sayings.proofs.ReachedPaths.{taken}
+use Rattle.std.proofs.lemmas.List.{take_more}
 use Rattle.analyst.specs.check_job.specs.Jobs.{source_in, source_of, IsFronted, HasFaults}
 use Rattle.analyst.specs.check_job.specs.declared.job.CheckJob.{CheckJob}
 use Rattle.payloads.specs.program_check.specs.Full.{beside}
@@ -61,7 +61,7 @@ picked_none rows numbers some none = none
 pub picked_more : (rows : Rows Sig) (numbers : List ℕ) (i n : ℕ) (before after : Rows Sig) → i < length numbers → n ≡ get_or numbers i n → before ≡ flat_map (picked rows) (take i numbers) → after ≡ before ++ picked rows n → after ≡ flat_map (picked rows) (take (i + 1) numbers)
 picked_more rows numbers i n before after within is so_far adds =
     adds ∙ ap (λ (l : Rows Sig). l ++ picked rows n) so_far
-    ∙ sym (ap (flat_map (picked rows)) (taken numbers i n within is) ∙ flat_last (picked rows) (take i numbers) n)
+    ∙ sym (ap (flat_map (picked rows)) (take_more numbers i n within ∙ ap (λ (m : ℕ). take i numbers ++ m ∷ []) (sym is)) ∙ flat_last (picked rows) (take i numbers) n)
 
 pub picked_all : (rows : Rows Sig) (numbers : List ℕ) (i : ℕ) (some : Rows Sig) → length numbers ≤ i → some ≡ flat_map (picked rows) (take i numbers) → some ≡ flat_map (picked rows) numbers
 picked_all rows numbers i some past is = is ∙ ap (flat_map (picked rows)) (take_all i numbers past)
@@ -70,12 +70,12 @@ picked_all rows numbers i some past is = is ∙ ap (flat_map (picked rows)) (tak
 
 pub job_made : (s : Sources) (rows : Rows Sig) (ms : List RootRow) (x : ℕ) (m : RootRow) (parse : Parse) (deps : Deps) (job : CheckJob) → ms ≡ s.root.modules → x < length ms → m ≡ get_or ms x m
     → x < length s.parses.items → parse ≡ get_or s.parses.items x parse → x < length s.lists.items → deps ≡ get_or s.lists.items x deps
-    → job.path ≡ m.path → job.text ≡ m.text → job.parse ≡ parse → job.deps ≡ deps → Agree (row_at rows) deps (row_at job.sigs) → IsJobOf s rows x job
+    → job.path ≡ m.path → job.text ≡ m.text → job.parse ≡ parse → job.deps ≡ deps → Agree (row_at rows) deps (row_at job.sigs.rows) → IsJobOf s rows x job
 job_made s rows ms x m parse deps job same low is low_p is_p low_d is_d path text p d signed = record {
   at_module = program_get s.root.modules x m (ap (λ (l : List RootRow). slice_get l x) (sym same) ∙ get_index ms x m low is) ∙ (λ j. Some (sym path j, sym text j));
   parse = get_index s.parses.items x parse low_p is_p ∙ ap Some (sym p);
   deps = get_index s.lists.items x deps low_d is_d ∙ ap Some (sym d);
-  signed = subst (λ (ds : Deps). Agree (row_at rows) ds (row_at job.sigs)) (sym d) signed;
+  signed = subst (λ (ds : Deps). Agree (row_at rows) ds (row_at job.sigs.rows)) (sym d) signed;
 }
 
 -- what a source says goes with the faults of its tree
@@ -91,20 +91,20 @@ job_fronted s rows x job sources is =
     says_faults job.text job job.parse.tree job.parse.sig job.parse.faults refl says
 
 -- its errors are those of the module of its number
-pub job_checked : JobsAreRight → (s : Sources) (rows : Rows Sig) (x : ℕ) (job : CheckJob) (errs : Errs) → IsJobOf s rows x job → AreErrors job.path job.deps (source_of job) (row_at job.sigs) errs.faults
+pub job_checked : KeyLaw → (s : Sources) (rows : Rows Sig) (x : ℕ) (job : CheckJob) (errs : Errs) → IsJobOf s rows x job → HasErrors job.path job.deps (source_of job) (row_at job.sigs.rows) errs.faults
     → IsCheckedAt (row_at rows) (program_in s) s.parses.items s.lists.items x errs
-job_checked right s rows x job errs is are = record {
+job_checked key s rows x job errs is are = record {
   path = (job.path, job.text);
   parse = job.parse;
   deps = job.deps;
   at_path = is.at_module;
   at_parse = is.parse;
   at_deps = is.deps;
-  errors = right job.path job.deps (source_of job) rows job.sigs errs.faults is.signed are;
+  errors = (key job.path job.deps (source_of job) rows job.sigs.rows errs.faults is.signed).1 are;
 }
 
-pub job_errors : JobsAreRight → (s : Sources) (rows : Rows Sig) (x : ℕ) (job : CheckJob) (errs mine : Errs) → IsJobOf s rows x job → AreErrors job.path job.deps (source_of job) (row_at job.sigs) errs.faults → mine ≡ errs
+pub job_errors : KeyLaw → (s : Sources) (rows : Rows Sig) (x : ℕ) (job : CheckJob) (errs mine : Errs) → IsJobOf s rows x job → HasErrors job.path job.deps (source_of job) (row_at job.sigs.rows) errs.faults → mine ≡ errs
     → IsCheckedAt (row_at rows) (program_in s) s.parses.items s.lists.items x mine
-job_errors right s rows x job errs mine is are same = subst (λ (e : Errs). IsCheckedAt (row_at rows) (program_in s) s.parses.items s.lists.items x e) (sym same) (job_checked right s rows x job errs is are)
+job_errors key s rows x job errs mine is are same = subst (λ (e : Errs). IsCheckedAt (row_at rows) (program_in s) s.parses.items s.lists.items x e) (sym same) (job_checked key s rows x job errs is are)
 
 -- ---- batches

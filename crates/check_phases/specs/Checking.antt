@@ -16,7 +16,7 @@ pub record IsJobOf (s : Sources) (rows : Rows Sig) (x : ℕ) (job : CheckJob) : 
   pub at_module : slice_get (program_in s) x ≡ Some (job.path, job.text)
   pub parse : slice_get s.parses.items x ≡ Some job.parse
   pub deps : slice_get s.lists.items x ≡ Some job.deps
-  pub signed : Agree (row_at rows) job.deps (row_at job.sigs)
+  pub signed : Agree (row_at rows) job.deps (row_at job.sigs.rows)
 
 -- the number of modules that are checked after one more batch, of so many
 abbrev pub batch_after : ℕ → ℕ → ℕ

@@ -9,8 +9,8 @@ use Rattle.check_values.specs.declared.signatures.Export.{Export}
 use Rattle.check_values.specs.declared.signatures.Sig.{Sig}
 use Rattle.merged_signatures.specs.Reach.{paths_in, paths_of_export, paths_named}
 use Rattle.named_rows.proofs.Lists.{flat_more}
-pub use Rattle.import_sayings.proofs.PathsIn.{type_parts}
-use Rattle.import_sayings.proofs.PathsIn.{function_paths}
+pub use Rattle.named_modules.proofs.PathsIn.{type_parts}
+use Rattle.named_modules.proofs.PathsIn.{function_paths}
 
 -- the modules of the parameters, and then those of the result
 pub function_added : (t : FlowType) (params inner : List Param) (result last : FlowType) (start middle all : List Bytes) → t ≡ made.Function params result → inner ≡ params → last ≡ result

@@ -17,7 +17,7 @@ pub trait PlaceAnalyst {
     ///
     /// `NoMemory` where memory is refused.
     fn type_at(&self, job: &CheckJob, at: u32) -> Result<Option<FlowType>, NoMemory>
-        ensures ty { IfOk result (λ ty. IsTypeIn job.now.path job.now.deps (source_of job.now) (row_at job.now.sigs) at ty) };
+        ensures ty { IfOk result (λ ty. IsTypeIn job.now.path job.now.deps (source_of job.now) (row_at job.now.sigs.rows) at ty) };
 }
 
 /// Makes analysts.

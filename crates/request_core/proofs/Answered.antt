@@ -154,8 +154,8 @@ module _ (one : OneFull) (state later : List Payload) (lawful : IsLawful state) 
         deps = made.deps ∙ ap (λ (paths : List Bytes). deps_in paths path job.parse) (ap paths_of_rows is ∙ sym (same_paths root.modules));
         sig = subst (λ (p : Bytes). merged (view_in (program_of root) results) p ≡ Some r.sig) found_there.has_path
             (results_of (paths_of (program_of root)) (view_in (program_of root) results) (sigs_in (program_of root) results) root.modules results at m r full found_there.stands of).sig;
-        errors = right path job.deps (source_of job) (beside (program_of root) (map (λ (s : Results). s.sig) results)) job.sigs faults (agree_all results job.deps (row_at job.sigs) hold made.signed)
-            (subst (λ (p : Bytes). AreErrors p job.deps (source_of job) (row_at job.sigs) faults) made.at_path (fronted_errors job faults (fronted job text made.parse) errors));
+        errors = right path job.deps (source_of job) (beside (program_of root) (map (λ (s : Results). s.sig) results)) job.sigs faults (agree_all results job.deps (row_at job.sigs.rows) hold made.signed)
+            (subst (λ (p : Bytes). AreErrors p job.deps (source_of job) (row_at job.sigs.rows) faults) made.at_path (fronted_errors job faults (fronted job text made.parse) errors));
       }
 
       contents_told : JobsAreRight → (text : Bytes) (faults : List Fault) → AreFoundInstead later modules path text faults → IsAnswer (program_in state) (ask.CheckContents path text) (Ok (Faults (errors_at path text faults)))
@@ -186,7 +186,7 @@ module _ (one : OneFull) (state later : List Payload) (lawful : IsLawful state) 
             shown_at path r.deps r.parse sigs m.text line column placed tells_there place None stood (too_long path m.text r.deps sigs r.parse place (omega (arith, low, far)) parse))
 
         pub type_told : TypesAreRight → (job : CheckJob) (place byte : ℕ) (t : Option FlowType) → IsJobOf later modules m job → placed ≡ Some place → byte ≡ place
-            → IsTypeIn job.path job.deps (source_of job) (row_at job.sigs) byte t → IsAnswer (program_in state) (ask.TypeAtPos path line column) (shown t)
+            → IsTypeIn job.path job.deps (source_of job) (row_at job.sigs.rows) byte t → IsAnswer (program_in state) (ask.TypeAtPos path line column) (shown t)
         type_told right job place byte t made stood same_place type_is =
             let at_parse = parse_stands later m.row job.parse made.parse in
             let there : slice_get state (parse_entity m.row) ≡ Some (payload.Parse job.parse) = ap (λ (st : List Payload). slice_get st (parse_entity m.row)) (sym same) ∙ at_parse in
@@ -203,9 +203,9 @@ module _ (one : OneFull) (state later : List Payload) (lawful : IsLawful state) 
                 let hold = each_holds one state root has results full in
                 let parses : job.parse ≡ r.parse = (let e : payload.Parse job.parse ≡ payload.Parse r.parse = is_parse in cc) in
                 let lists : job.deps ≡ r.deps = one_list state m r job.deps holds (ap (λ (st : List Payload). deps_at st m.row) (sym same) ∙ made.deps) in
-                let agree = agree_all results job.deps (row_at job.sigs) hold made.signed in
-                let typed : IsTypeIn path job.deps (source_of job) (row_at job.sigs) place t = subst₂ (λ (p : Bytes) (n : ℕ). IsTypeIn p job.deps (source_of job) (row_at job.sigs) n t) at_path same_place type_is in
-                let by_all : IsTypeIn path job.deps (source_of job) (sigs_in (program_of root) results) place t = right path job.deps (source_of job) (sigs_in (program_of root) results) (row_at job.sigs) place t agree typed in
+                let agree = agree_all results job.deps (row_at job.sigs.rows) hold made.signed in
+                let typed : IsTypeIn path job.deps (source_of job) (row_at job.sigs.rows) place t = subst₂ (λ (p : Bytes) (n : ℕ). IsTypeIn p job.deps (source_of job) (row_at job.sigs.rows) n t) at_path same_place type_is in
+                let by_all : IsTypeIn path job.deps (source_of job) (sigs_in (program_of root) results) place t = right path job.deps (source_of job) (sigs_in (program_of root) results) (row_at job.sigs.rows) place t agree typed in
                 let shown_by : IsShown path job.deps (source_in job.parse.tree) (sigs_in (program_of root) results) m.text line column t = shown_at path job.deps job.parse (sigs_in (program_of root) results) m.text line column placed tells_there place t stood by_all in
                 of_there (standing_at root.modules results path) _ _ m.text r (stands results r of)
                 (t, subst₂ (λ (ds : Deps) (p : Parse). IsShown path ds (source_in p.tree) (sigs_in (program_of root) results) m.text line column t) lists parses shown_by, refl)

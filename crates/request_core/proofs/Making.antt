@@ -29,19 +29,19 @@ later_places state next later ms first then places = subst (λ (st : List Payloa
 -- ---- jobs
 
 pub job_made : (state next later : List Payload) (ms : List RootRow) (m : RootRow) (job : CheckJob) (parse : Parse) (deps seen : Deps) → next ≡ state → later ≡ next → job.path ≡ m.path → job.parse ≡ parse → job.deps ≡ deps
-    → parse_at state m.row ≡ Some parse → deps_at next m.row ≡ Some deps → seen ≡ deps → Agree (sigs_by later ms) seen (row_at job.sigs) → IsJobOf state ms m job
+    → parse_at state m.row ≡ Some parse → deps_at next m.row ≡ Some deps → seen ≡ deps → Agree (sigs_by later ms) seen (row_at job.sigs.rows) → IsJobOf state ms m job
 job_made state next later ms m job parse deps seen first then path is_parse is_deps parse_there deps_there same agree = record {
   path = path;
   parse = parse_there ∙ ap Some (sym is_parse);
   deps = ap (λ (st : List Payload). deps_at st m.row) (sym first) ∙ (deps_there ∙ ap Some (sym is_deps));
-  signed = subst (λ (ds : Deps). Agree (sigs_by state ms) ds (row_at job.sigs)) (same ∙ sym is_deps) (subst (λ (st : List Payload). Agree (sigs_by st ms) seen (row_at job.sigs)) (then ∙ first) agree);
+  signed = subst (λ (ds : Deps). Agree (sigs_by state ms) ds (row_at job.sigs.rows)) (same ∙ sym is_deps) (subst (λ (st : List Payload). Agree (sigs_by st ms) seen (row_at job.sigs.rows)) (then ∙ first) agree);
 }
 
 pub job_made_instead : (state : List Payload) (ms rows : List RootRow) (path text : Bytes) (job : CheckJob) (parse : Parse) (deps : Deps) → rows ≡ ms → job.path ≡ path → job.parse ≡ parse → job.deps ≡ deps → IsParse text parse
-    → deps ≡ deps_in (paths_of_rows ms) path parse → Agree (sigs_by state rows) deps (row_at job.sigs) → IsJobInstead state ms path text job
+    → deps ≡ deps_in (paths_of_rows ms) path parse → Agree (sigs_by state rows) deps (row_at job.sigs.rows) → IsJobInstead state ms path text job
 job_made_instead state ms rows path text job parse deps same at is_parse is_deps parsed listed agree = record {
   at_path = at;
   parse = subst (IsParse text) (sym is_parse) parsed;
   deps = is_deps ∙ (listed ∙ ap (deps_in (paths_of_rows ms) path) (sym is_parse));
-  signed = subst (λ (ds : Deps). Agree (sigs_by state ms) ds (row_at job.sigs)) (sym is_deps) (subst (λ (l : List RootRow). Agree (sigs_by state l) deps (row_at job.sigs)) same agree);
+  signed = subst (λ (ds : Deps). Agree (sigs_by state ms) ds (row_at job.sigs.rows)) (sym is_deps) (subst (λ (l : List RootRow). Agree (sigs_by state l) deps (row_at job.sigs.rows)) same agree);
 }

@@ -18,14 +18,14 @@ pub record IsJobOf (state : List Payload) (modules : List RootRow) (m : RootRow)
   pub path : job.path ≡ m.path
   pub parse : parse_at state m.row ≡ Some job.parse
   pub deps : deps_at state m.row ≡ Some job.deps
-  pub signed : Agree (sigs_by state modules) job.deps (row_at job.sigs)
+  pub signed : Agree (sigs_by state modules) job.deps (row_at job.sigs.rows)
 
 -- This is the job of the module at a path, were this its text.
 pub record IsJobInstead (state : List Payload) (modules : List RootRow) (path text : Bytes) (job : CheckJob) : Type 0 where
   pub at_path : job.path ≡ path
   pub parse : IsParse text job.parse
   pub deps : job.deps ≡ deps_in (paths_of_rows modules) path job.parse
-  pub signed : Agree (sigs_by state modules) job.deps (row_at job.sigs)
+  pub signed : Agree (sigs_by state modules) job.deps (row_at job.sigs.rows)
 
 -- These are the errors of such a job.
 abbrev pub AreFoundInstead : List Payload → List RootRow → Bytes → Bytes → List Fault → Type 0

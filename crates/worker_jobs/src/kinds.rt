@@ -94,12 +94,8 @@ impl<A: Analyst> Kind<A, CheckJob, Errs> for Checks {
 
     ghost bounded = { A.bounded };
 
-    // What a module reaches is put into tables, before its text is checked.
     fn size(job: &CheckJob) -> usize {
-        job.sigs
-            .len()
-            .saturating_mul(32)
-            .saturating_add(job.text.len())
+        job.text.len()
     }
 
     fn answer(analyst: &mut A, job: &CheckJob) -> Result<Errs, NoMemory> {

@@ -1,5 +1,5 @@
 use Rattle.named_modules.proofs.Parts.{named_added}
-use Rattle.import_sayings.proofs.PathsIn.{ok_then}
+use Rattle.named_modules.proofs.PathsIn.{ok_then}
 use Rattle.named_modules.proofs.naming.add_named.Goals as goal
 
 pub returns : goal.returns
