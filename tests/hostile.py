@@ -26,6 +26,7 @@ sys.argv = [word for word in sys.argv if word != "--more"]
 THREADS = 4 if MORE else 1  # which work at once, each with a stack and an arena of its own
 STACK, ARENA = 1 << 30, 128 << 20
 SECONDS = 20  # of a processor, for each time that the sources are checked
+MODULES, MANY, FEW_SECONDS = 1024, 4000, 4  # that the program takes where no word says more; that a case has; and what such a case takes
 START, EACH = 32 << 20, 300  # bytes of memory at the most: those at the start, and those for each byte
 CASES = real_folders.CASES = []
 
@@ -42,19 +43,19 @@ def command(**parts):
 STATUS, RECHECK = command(do="ask", ask={"what": "status"}), command(do="recheck")
 
 
-def limits(times):
-    resource.setrlimit(resource.RLIMIT_CPU, (SECONDS * times,) * 2)
+def limits(seconds):
+    resource.setrlimit(resource.RLIMIT_CPU, (seconds,) * 2)
     resource.setrlimit(resource.RLIMIT_AS, (THREADS * (STACK + ARENA) + START + EACH * 8 * MOST,) * 2)
     resource.setrlimit(resource.RLIMIT_CORE, (0, 0))
 
 
-def run(root, folder, script, times):
-    """Runs ./flowd with a script, and returns its status, what it wrote, and the peak of its memory in bytes."""
+def run(root, folder, script, seconds, modules):
+    """Runs ./flowd over so many modules with a script: its status, what it wrote, and the peak of its memory in bytes."""
     with open(f"{root}/script", "wb") as file:
         file.write(script)
     with open(f"{root}/script", "rb") as lines, open(f"{root}/out", "wb") as out:
-        words = [FLOWD, f"--workers={THREADS}", f"{root}/{folder}"]
-        child = subprocess.Popen(words, stdin=lines, stdout=out, stderr=out, preexec_fn=lambda: limits(times))
+        words = [FLOWD, f"--workers={THREADS}", *([f"--modules={modules}"] if modules > MODULES else []), f"{root}/{folder}"]
+        child = subprocess.Popen(words, stdin=lines, stdout=out, stderr=out, preexec_fn=lambda: limits(seconds))
         _, status, usage = os.wait4(child.pid, 0)
         child.returncode = os.waitstatus_to_exitcode(status)
     with open(f"{root}/out", "rb") as out:
@@ -112,8 +113,8 @@ class Told:
             at = end
         return at == len(text)
 
-    def expect(self, root, folder, sources, status):
-        ended, text, memory = run(root, folder, self.script, self.times)
+    def expect(self, root, folder, sources, status, seconds):
+        ended, text, memory = run(root, folder, self.script, self.times * seconds, len(sources))
         if ended != status or not self.is_told(text):
             known = b"".join(part if isinstance(part, bytes) else b"(a type)\n" for part in self.parts)
             raise AssertionError(f"over {folder} it ended with {ended} and printed {brief(text)}, and not with {status} and {brief(known)}")
@@ -131,7 +132,7 @@ def done(version, modules, errors):
     return b"recheck %d: %d parsed, %d checked, %d errors\n" % (version, modules, modules, errors)
 
 
-def of_the_folder(root, errors, sources, types):
+def of_the_folder(root, errors, sources, types, seconds):
     """The folder has the sources; the errors of each by its text, and a type in the middle of each."""
     for name, source in sources.items():
         write(f"{root}/d/{name}.js", source.encode())
@@ -142,10 +143,10 @@ def of_the_folder(root, errors, sources, types):
         told.type_at(1, name, place_of(source, len(source.encode()) // 2))
     for name, row, column, shown in types if MORE else ():
         told.type_at(1, name, (row, column), shown)
-    told.expect(root, "d", sources, ERRORS if errors else CLEAN)
+    told.expect(root, "d", sources, ERRORS if errors else CLEAN, seconds)
 
 
-def of_edits(root, errors, sources):
+def of_edits(root, errors, sources, seconds):
     """The folder is empty, and edits bring the sources in; a type at the end of each."""
     os.makedirs(f"{root}/e", exist_ok=True)
     told = Told(done(1, 0, 0))
@@ -153,17 +154,17 @@ def of_edits(root, errors, sources):
     told.put(STATUS, status_of(2, errors))
     for name, source in sources.items():
         told.type_at(2, name, place_of(source, len(source.encode()) - 1))
-    told.expect(root, "e", sources, ERRORS if errors else CLEAN)
+    told.expect(root, "e", sources, ERRORS if errors else CLEAN, seconds)
 
 
-def expect(root, errors, types=(), most=MOST, **sources):
+def expect(root, errors, types=(), most=MOST, seconds=SECONDS, **sources):
     """The errors of these modules, each as PATH:LINE:COLUMN CODE DETAILS, and types in them, each at a module, a line and a column."""
     for name, source in sources.items():
         if len(source.encode()) > most:
             raise AssertionError(f"{name}.js has {len(source.encode())} bytes, which is past the limit")
-    of_the_folder(root, errors, sources, types)
+    of_the_folder(root, errors, sources, types, seconds)
     if MORE:
-        of_edits(root, errors, sources)
+        of_edits(root, errors, sources, seconds)
 
 
 def filled(part, before="", after="", size=MOST):
@@ -420,6 +421,53 @@ def many_errors_on_a_line(root):
 def many_types_in_errors(root):
     count = 80_000
     expect(root, [f"a.js:{i + 1}:1 incompatible-type 1 string" for i in range(count)], a="1 as string;\n" * count)
+
+
+# Many modules: each that is checked sees one table of what all of them may read.
+
+
+@case
+def one_module_that_all_import(root):
+    """It has as many exports as there are others, and each of these imports one."""
+    exports = "".join(f"export const e{i}: ?T{i} = null;\nexport type T{i} = {{a: ?T{i // 2}}};\n" for i in range(MANY))
+    others = {f"m{i:04}": f"import {{e{i}}} from './a';\nimport type {{T{i}}} from './a';\nconst x: T{i} = e{i};\n" for i in range(MANY)}
+    place = [len(f"const x: T{i} = ") + 1 for i in range(MANY)]
+    errors = [f"m{i:04}.js:3:{place[i]} incompatible-type {kind} T{i}" for i in range(MANY) for kind in ("null | void | T" + str(i),)]
+    expect(root, errors, seconds=FEW_SECONDS, a=exports, **others)
+
+
+def linked(is_ring):
+    """Modules each with a type that leads to that of the one before, and the errors of each."""
+    sources, errors = {}, []
+    for i in range(MANY):
+        before = (i - 1) % MANY
+        has_one = i > 0 or is_ring
+        other, prop, value = (f"import type {{T{before}}} from './m{before:04}';\n", f", b: ?T{before}", ", b: null") if has_one else ("", "", "")
+        line = f"const x: T{i} = {{a: ''{value}}};\n"
+        sources[f"m{i:04}"] = f"{other}export type T{i} = {{a: number{prop}}};\n{line}"
+        errors.append(f"m{i:04}.js:{3 if has_one else 2}:{line.index(chr(39)) + 1} incompatible-type \"\" number")
+    return sources, errors
+
+
+@case
+def a_chain_of_modules(root):
+    sources, errors = linked(is_ring=False)
+    expect(root, errors, seconds=FEW_SECONDS, **sources)
+
+
+@case
+def a_ring_of_modules(root):
+    sources, errors = linked(is_ring=True)
+    expect(root, errors, seconds=FEW_SECONDS, **sources)
+
+
+@case
+def a_star_of_modules(root):
+    """One imports a name of each other."""
+    imports = "".join(f"import type {{T{i}}} from './m{i:04}';\n" for i in range(MANY))
+    lines = "".join(f"const x{i}: T{i} = {{a: ''}};\n" for i in range(MANY))
+    errors = [f"a.js:{MANY + i + 1}:{len(f'const x{i}: T{i} = {{a: ') + 1} incompatible-type \"\" number" for i in range(MANY)]
+    expect(root, errors, seconds=FEW_SECONDS, a=imports + lines, **{f"m{i:04}": f"export type T{i} = {{a: number}};\n" for i in range(MANY)})
 
 
 if __name__ == "__main__":

@@ -15,10 +15,11 @@ ghost use Rattle.check_items.specs.Meant.{meant, meant_view, meaning_of, AreName
 ghost use Rattle.check_items.specs.Aliases.{own_aliases};
 
 use crate::naming::{Meant, Rows, all_names};
+use alias_table::AliasRow;
 use check_values::Code;
 use check_world::{TypeMeaning, TypeScope};
 use flow_values::{NoMemory, Path, Text};
-use import_sayings::{AliasRow, Imports};
+use import_sayings::Imports;
 use js_tree::Item;
 use named_rows::first_of_each;
 use std::alloc::Global;

@@ -14,11 +14,10 @@ use Rattle.source_front.specs.declared.parse.Parse.{Parse}
 use Rattle.source_front.specs.declared.parse.ParseTree.TheVariants as tree
 use Rattle.source_front.specs.declared.parse.SourceFault.{SourceFault}
 use Rattle.check_job.specs.declared.job.CheckJob.{CheckJob}
-use Rattle.check_job.specs.Jobs.{fault_code, fault_place, source_in, source_of, IsWhole, HasErrorsBeside, AreErrorsBeside, AreErrorsOf}
+use Rattle.check_job.specs.Jobs.{fault_code, fault_place, source_in, source_of, IsWhole, HasErrorsBeside, AreErrorsOf}
 use Rattle.check_module.specs.View.{checker_env, Opens, Names}
 use Rattle.check_module.specs.declared.checker.Checker.{Checker}
 use Rattle.check_module.proofs.Reading.{opens}
-use Rattle.check_module.proofs.Tables.{table_there}
 
 one_whole : (m n : Module) (xs ys : List Span) → whole m xs ≡ whole n ys → (m ≡ n) × (xs ≡ ys)
 one_whole m n xs ys e = (cc, cc)
@@ -40,20 +39,19 @@ module _ (job : CheckJob) where
   never_broken p f same is has = subst IsWhole (fault_told p f same is) has
 
   pub whole_errors : (p : Parse) (made : js.Module) (spans given : List Span) (first faults : List Fault) → p ≡ job.parse → p.tree ≡ tree.Tree made spans → given ≡ spans → first ≡ p.faults →
-      AreErrorsBeside first job.path job.deps (whole (module_view made) given) (row_at job.sigs) faults → AreErrorsOf job faults
+      HasErrorsBeside first job.path job.deps (whole (module_view made) given) (row_at job.sigs.rows) faults → AreErrorsOf job faults
   whole_errors p made spans given first faults same is listed told errors =
-      subst₂ (λ (l : List Fault) (s : Source). AreErrorsBeside l job.path job.deps s (row_at job.sigs) faults) (told ∙ ap (λ (x : Parse). x.faults) same) (ap (whole (module_view made)) listed ∙ sym (tree_told p made spans same is)) errors
+      subst₂ (λ (l : List Fault) (s : Source). HasErrorsBeside l job.path job.deps s (row_at job.sigs.rows) faults) (told ∙ ap (λ (x : Parse). x.faults) same) (ap (whole (module_view made)) listed ∙ sym (tree_told p made spans same is)) errors
 
   pub broken_told : (p : Parse) (f : SourceFault) (fault : Fault) (before faults : List Fault) → p ≡ job.parse → p.tree ≡ tree.Broken f → fault ∷ [] ≡ broken_errors (fault_code f) (fault_place f) → before ≡ [] → faults ≡ before ++ fault ∷ [] → AreErrorsOf job faults
   broken_told p f fault before faults same is told none added =
-      let (table, are) = table_there job.sigs job.deps in
-      (table, are, subst (λ (s : Source). HasErrorsBeside job.parse.faults job.path job.deps s table faults) (sym (fault_told p f same is)) (added ∙ ap (λ (l : List Fault). l ++ fault ∷ []) none ∙ told))
+      subst (λ (s : Source). HasErrorsBeside job.parse.faults job.path job.deps s (row_at job.sigs.rows) faults) (sym (fault_told p f same is)) (added ∙ ap (λ (l : List Fault). l ++ fault ∷ []) none ∙ told)
 
   pub whole_type : (p : Parse) (made : js.Module) (spans given : List Span) (at : ℕ) (answer : Option FlowType) → p ≡ job.parse → p.tree ≡ tree.Tree made spans → given ≡ spans →
-      IsTypeAt job.path job.deps (module_view made) given (row_at job.sigs) at answer → (m : Module) (all : List Span) → source_of job ≡ whole m all → IsTypeAt job.path job.deps m all (row_at job.sigs) at answer
+      IsTypeAt job.path job.deps (module_view made) given (row_at job.sigs.rows) at answer → (m : Module) (all : List Span) → source_of job ≡ whole m all → IsTypeAt job.path job.deps m all (row_at job.sigs.rows) at answer
   whole_type p made spans given at answer same is listed has m all told =
       let one = one_whole (module_view made) m spans all (sym (tree_told p made spans same is) ∙ told) in
-      subst₂ (λ (m : Module) (l : List Span). IsTypeAt job.path job.deps m l (row_at job.sigs) at answer) one.0 (listed ∙ one.1) has
+      subst₂ (λ (m : Module) (l : List Span). IsTypeAt job.path job.deps m l (row_at job.sigs.rows) at answer) one.0 (listed ∙ one.1) has
 
   pub not_broken : (p : Parse) (made : js.Module) (spans : List Span) (code : Code) (place : ℕ) → p ≡ job.parse → p.tree ≡ tree.Tree made spans → source_of job ≡ broken code place → ⊥
   not_broken p made spans code place same is told = let e : whole (module_view made) spans ≡ broken code place = sym (tree_told p made spans same is) ∙ told in cc

@@ -1,6 +1,5 @@
 pub mod OwnAliases
 pub mod Seeing
-pub mod Tables
 pub mod Reading
 pub mod JobSources
 pub mod Placing

@@ -55,14 +55,6 @@ module _ {X : Type 0} where
 
 -- ---- the types of aliases
 
-pub aliases_append : (xs ys : List Row) (key : Key) → alias_type (xs ++ ys) key ≡ option_or (alias_type xs key) (alias_type ys key)
-aliases_append [] ys key = refl
-aliases_append (x ∷ xs) ys key = go (is_row_of key x) (aliases_append xs ys key)
-  where
-    go : (b : Bool) → alias_type (xs ++ ys) key ≡ option_or (alias_type xs key) (alias_type ys key) → cond b (Some x.2) (alias_type (xs ++ ys) key) ≡ option_or (cond b (Some x.2) (alias_type xs key)) (alias_type ys key)
-    go true rest = refl
-    go false rest = rest
-
 module _ (path : Bytes) (meaning : Bytes → TypeMeaning) (key : Key) where
   -- a row of the module itself
   own_type : (name : Bytes) (t : FlowType) (rows : List Row) → alias_type ((path, name, t) ∷ rows) key ≡ cond (bytes_eq key.0 path && bytes_eq name key.1) (Some t) (alias_type rows key)

@@ -26,8 +26,9 @@ use Rattle.module_errors.specs.Items.{read_item, read_items}
 use Rattle.module_errors.specs.Errors.{no_notes, top_env, seen_type}
 use Rattle.errors_by_reach.specs.Law.{whole, IsTypeAt}
 use Rattle.import_sayings.specs.View.{sigs_of}
+use Rattle.reach_law.specs.Law.{TypeCutIsRight}
 use Rattle.check_job.specs.declared.job.CheckJob.{CheckJob}
-use Rattle.check_job.specs.Jobs.{AreErrorsBeside}
+use Rattle.check_job.specs.Jobs.{HasErrorsBeside}
 use Rattle.check_items.specs.check_moves.specs.View.{env, around, now, told}
 use Rattle.check_items.specs.check_moves.specs.declared.state.Read.{Read}
 use Rattle.check_items.specs.check_moves.specs.declared.state.State.{State}
@@ -79,13 +80,13 @@ started w v p is s over n m same begun bound noted =
 pub names : (job : CheckJob) (m : js.Module) (spans : List Span) (watch : Option ℕ) (a : Around) (s : State) (listed : List Item) → listed ≡ m.items → StandsFor job (module_view m) spans watch a →
     ((p : Program) → Says a.imports p → env s ≡ top_env (around_world a) p (items_view listed)) → Names job (module_view m) spans watch (record { around = a; state = s })
 unfolding checker_env
-names job m spans watch a s listed same (t, are, p, seen, is, world) begun =
-    (t, are, p, seen, is, world, begun p is.imports ∙ ap₂ (λ (w : World) (l : List Item). top_env w p (items_view l)) world same)
+names job m spans watch a s listed same (p, seen, is, world) begun =
+    (p, seen, is, world, begun p is.imports ∙ ap₂ (λ (w : World) (l : List Item). top_env w p (items_view l)) world same)
 
 -- its faults are forgotten
 pub opens : (job : CheckJob) (m : Module) (spans : List Span) (watch : Option ℕ) (c d : Checker) → d.around ≡ c.around → checker_env d ≡ record (checker_env c) { notes = no_notes } → Names job m spans watch c → Opens job m spans watch d
-opens job m spans watch c d same emptied (t, are, p, seen, is, world, begun) =
-    (t, are, p, seen, subst (λ (x : Around). IsOf x p m) (sym same) is, ap around_world same ∙ world, emptied ∙ ap (λ (e : Env). record e { notes = no_notes }) begun)
+opens job m spans watch c d same emptied (p, seen, is, world, begun) =
+    (p, seen, subst (λ (x : Around). IsOf x p m) (sym same) is, ap around_world same ∙ world, emptied ∙ ap (λ (e : Env). record e { notes = no_notes }) begun)
 
 -- ---- items in order
 
@@ -136,14 +137,15 @@ module _ (job : CheckJob) where
       reads p is_for ∙ ap₂ (λ (w : World) (e : Env). read_items w p (module_of f t is) is e) world begun
 
   pub errors_told : (m : Module) (spans : List Span) (opened read : Checker) (first own faults : List Fault) → Names job m spans None opened → ReadsAll opened read m → own ≡ (checker_env read).notes.faults →
-      faults ≡ faults_in_order (first ++ own) → AreErrorsBeside first job.path job.deps (whole m spans) (sigs_of job.sigs) faults
-  errors_told (module_of f t is) spans opened read first own faults (table, are, p, seen, is_for, world, begun) reads noted ordered =
-      (table, are, (p, seen, ordered ∙ ap (λ (b : List Fault). faults_in_order (first ++ b)) (noted ∙ ap (λ (e : Env). e.notes.faults) (all_read f t is p spans None opened read is_for world begun reads))))
+      faults ≡ faults_in_order (first ++ own) → HasErrorsBeside first job.path job.deps (whole m spans) (sigs_of job.sigs.rows) faults
+  errors_told (module_of f t is) spans opened read first own faults (p, seen, is_for, world, begun) reads noted ordered =
+      (p, seen, ordered ∙ ap (λ (b : List Fault). faults_in_order (first ++ b)) (noted ∙ ap (λ (e : Env). e.notes.faults) (all_read f t is p spans None opened read is_for world begun reads)))
 
   pub type_told : (m : Module) (spans : List Span) (place : ℕ) (opened read : Checker) (answer : Option FlowType) → Names job m spans (Some place) opened → ReadsAll opened read m → answer ≡ seen_type (checker_env read).notes.watched →
-      IsTypeAt job.path job.deps m spans (sigs_of job.sigs) place answer
-  type_told (module_of f t is) spans place opened read answer (table, are, p, seen, is_for, world, begun) reads told =
-      (table, are, (p, seen, told ∙ ap (λ (e : Env). seen_type e.notes.watched) (all_read f t is p spans (Some place) opened read is_for world begun reads)))
+      TypeCutIsRight → IsTypeAt job.path job.deps m spans (sigs_of job.sigs.rows) place answer
+  type_told (module_of f t is) spans place opened read answer (p, seen, is_for, world, begun) reads told cut =
+      (cut job.path job.deps (module_of f t is) spans job.sigs.rows place answer).1
+      (p, seen, told ∙ ap (λ (e : Env). seen_type e.notes.watched) (all_read f t is p spans (Some place) opened read is_for world begun reads))
 
 -- ---- an expression that was read
 

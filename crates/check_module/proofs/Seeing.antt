@@ -1,6 +1,6 @@
 -- What a module sees by a table.
 use Rattle.std.proofs.Common.{◌≡◌, ◌↔◌, ℕ, IsTrue, cond, bytes_eq, List, [], ◌∷◌, ◌++◌, Option, Some, None, unwrap_or, refl, sym, ap, ap₂, ◌∙◌, subst}
-use Rattle.std.specs.Option.{option_or}
+use Rattle.std.specs.Option.{option_or, option_and_then}
 use Rattle.flow_values.specs.declared.span.Span.{Span}
 use Rattle.type_values.specs.declared.types.FlowType.{FlowType}
 use Rattle.type_values.specs.declared.types.FlowType as made
@@ -25,42 +25,41 @@ use Rattle.check_world.specs.View.{meaning_in}
 use Rattle.check_world.specs.declared.names.TypeScope.{TypeScope}
 use Rattle.local_signatures.specs.Scope.{scope_of, bindings, bound_by, items_from}
 use Rattle.merged_signatures.specs.Chains.{found}
-use Rattle.merged_signatures.specs.Reach.{by_specifier}
 use Rattle.named_rows.specs.Seen.{seen}
 use Rattle.typing.specs.States.{TypeMeaning}
-use Rattle.module_errors.specs.Program.{Program, said_by, said_by_sig, said_in, type_bound, world_of}
+use Rattle.module_errors.specs.Program.{Program, said_by, type_bound, world_of}
 use Rattle.errors_by_reach.specs.Seen as reached
-use Rattle.errors_by_reach.specs.Seen.{Sigs, IsTable, IsSeen, alias_told, own_alias}
-use Rattle.import_sayings.specs.View.{found_of, said_of, sigs_of, AreReachedAliases}
+use Rattle.errors_by_reach.specs.Seen.{Sigs, IsSeen, alias_told, own_alias}
+use Rattle.import_sayings.specs.View.{found_of, sigs_of}
 use Rattle.import_sayings.specs.declared.imports.Imports.{Imports}
 use Rattle.check_job.specs.declared.job.CheckJob.{CheckJob}
+use Rattle.check_job.specs.signature_table.specs.Telling.{type_told, AreAliases}
+use Rattle.check_job.specs.signature_table.specs.declared.table.SignatureTable.{SignatureTable}
 use Rattle.check_items.specs.View.{SaysOf}
 use Rattle.check_items.specs.Meant.{meant, own_rows}
 use Rattle.check_module.specs.View.{HasAliases, StandsFor, around_world}
 use Rattle.check_module.specs.declared.around.Around.{Around}
-use Rattle.check_module.proofs.OwnAliases.{aliases_append, own_told, firsts_once}
+use Rattle.check_module.proofs.OwnAliases.{own_told, firsts_once}
 
--- the table of the module's own aliases and of those that are reached
-pub has_aliases : (own before rows all listed : List Row) (deps called : Deps) (sigs given : Rows Sig) (t : AliasTable) → called ≡ deps → given ≡ sigs → before ≡ [] → rows ≡ before ++ own → AreReachedAliases called (sigs_of given) rows all → listed ≡ all →
-    ((key : Key) → alias_of t key ≡ alias_type listed key) → ((key : Key) → IsTrue (is_marked t key) ↔ IsCyclic (alias_type listed) key) → HasAliases own deps (sigs_of sigs) t
-has_aliases own before rows all listed deps called sigs given t same_deps same_sigs none is (more, adds, (table, are, told)) same types marks = (
-  table,
-  subst (λ (d : Deps). IsTable (sigs_of sigs) d table) same_deps (subst (λ (l : Rows Sig). IsTable (sigs_of l) called table) same_sigs are),
-  λ key. types key ∙ ap (λ (l : List Row). alias_type l key) (same ∙ adds ∙ ap (λ (l : List Row). l ++ more) (is ∙ ap (λ (l : List Row). l ++ own) none)) ∙ aliases_append own more key ∙ ap (option_or (alias_type own key)) (told key),
-  λ key. subst (λ (f : Key → Option FlowType). IsTrue (is_marked t key) ↔ IsCyclic f key) (λ i k. sym (types k) i) (marks key),
+alias_is : (key : Key) (o : Option Sig) → option_and_then (λ (sig : Sig). row_at sig.aliases key.1) o ≡ alias_told key.1 o
+alias_is key None = refl
+alias_is key (Some sig) = refl
+
+-- the table of the module's own aliases and of those of all signatures
+pub has_aliases : (own before rows listed others : List Row) (sigs told : Rows Sig) (t : AliasTable) → before ≡ [] → rows ≡ before ++ own → listed ≡ rows → told ≡ sigs → AreAliases told others →
+    ((key : Key) → alias_of t key ≡ option_or (alias_type listed key) (alias_type others key)) → ((key : Key) → IsTrue (is_marked t key) ↔ IsCyclic (alias_of t) key) → HasAliases own (sigs_of sigs) t
+has_aliases own before rows listed others sigs told t none is same shown are types marks = (
+  (λ key. types key ∙ ap (λ (l : List Row). option_or (alias_type l key) (alias_type others key)) (same ∙ is ∙ ap (λ (l : List Row). l ++ own) none)
+      ∙ ap (option_or (alias_type own key)) (are key ∙ ap (λ (l : Rows Sig). type_told l key) shown ∙ alias_is key (row_at sigs key.0))),
+  marks,
 )
 
--- the modules that specifiers find say the same in the table
-pub says_table : (imports : Imports) (deps : Deps) (sigs t : Sigs) → IsTable sigs deps t → ((spec : Bytes) → found_of imports spec ≡ found deps spec) →
-    ((spec name : Bytes) → said_of imports spec name ≡ said_in deps sigs spec name) → SaysOf imports deps t
-says_table imports deps sigs t is finds says = record {
+-- what imports say is what all signatures say
+pub says_all : (imports : Imports) (deps : Deps) (sigs : SignatureTable) → imports.table.now ≡ sigs → ((spec : Bytes) → found_of imports spec ≡ found deps spec) → SaysOf imports deps (sigs_of sigs.rows)
+says_all imports deps sigs same finds = record {
   finds = finds;
-  says = λ spec name. says spec name ∙ go spec name (found deps spec) refl;
+  says = λ spec name. ap₂ (λ (s : SignatureTable) (o : Option Bytes). said_by (sigs_of s.rows) name o) same (finds spec);
 }
-  where
-    go : (spec name : Bytes) (o : Option Bytes) → found deps spec ≡ o → said_by sigs name o ≡ said_by t name o
-    go spec name None e = refl
-    go spec name (Some path) e = ap (said_by_sig name) (sym (is.has path (by_specifier spec path e)))
 
 module _ (path : Bytes) (deps : Deps) (m : Module) (t : Sigs) (names : TypeScope) (a : AliasTable)
     (means : (name : Bytes) → meaning_in names name ≡ type_bound path deps t name (row_at (scope_of m) name))
@@ -97,36 +96,35 @@ module _ (path : Bytes) (deps : Deps) (m : Module) (t : Sigs) (names : TypeScope
 
 -- what stands around the code of a job's module
 pub stands : (job : CheckJob) (m : Module) (spans : List Span) (watch : Option ℕ) (own : List Row) (a : Around) → a.spans.now ≡ spans → a.watch ≡ watch → ((spec : Bytes) → found_of a.imports spec ≡ found job.deps spec) →
-    ((spec name : Bytes) → said_of a.imports spec name ≡ said_in job.deps (sigs_of job.sigs) spec name) →
+    a.imports.table.now ≡ job.sigs →
     ((deps : Deps) (sigs : Sigs) → SaysOf a.imports deps sigs → (name : Bytes) → meaning_in a.names name ≡ type_bound job.path deps sigs name (row_at (scope_of m) name)) →
-    own ≡ own_rows job.path (meaning_in a.names) (seen meant (scope_of m)) → HasAliases own job.deps (sigs_of job.sigs) a.table → StandsFor job m spans watch a
+    own ≡ own_rows job.path (meaning_in a.names) (seen meant (scope_of m)) → HasAliases own (sigs_of job.sigs.rows) a.table → StandsFor job m spans watch a
 unfolding around_world
-stands job m spans watch own a at watched finds says told is (t, are, aliases, marks) =
-    let sees : SaysOf a.imports job.deps t = says_table a.imports job.deps (sigs_of job.sigs) t are finds says in
+stands job m spans watch own a at watched finds shown told is (aliases, marks) =
+    let t : Sigs = sigs_of job.sigs.rows in
+    let sees : SaysOf a.imports job.deps t = says_all a.imports job.deps job.sigs shown finds in
     let means : (name : Bytes) → meaning_in a.names name ≡ type_bound job.path job.deps t name (row_at (scope_of m) name) = told job.deps t sees in
     let tells : (key : Key) → alias_of a.table key ≡ option_or (alias_type (own_rows job.path (meaning_in a.names) (seen meant (scope_of m))) key) (alias_told key.1 (t key.0)) =
     λ key. aliases key ∙ ap (λ (l : List Row). option_or (alias_type l key) (alias_told key.1 (t key.0))) is in
     let p : Program = seen_program job.path job.deps m t a.names a.table means tells marks in
     let world : around_world a ≡ world_of p m spans watch = λ i. record { members = members_in a.table; below = below a.table; type_meaning = λ name. means name i; spans = at i; watch = watched i } in
     let own_world : around_world a ≡ world_of p m a.spans.now a.watch = λ i. record { members = members_in a.table; below = below a.table; type_meaning = λ name. means name i; spans = a.spans.now; watch = a.watch } in
-    (t, are, p, is_seen job.path job.deps m t a.names a.table means tells marks, record { imports = sees; cyclic = λ key. refl; world = own_world }, world)
+    (p, is_seen job.path job.deps m t a.names a.table means tells marks, record { imports = sees; cyclic = λ key. refl; world = own_world }, world)
 
 -- by the names that were found
 pub stands_by : (job : CheckJob) (m : Module) (spans : List Span) (watch : Option ℕ) (names : TypeScope) (own : List Row) (a : Around) → a.spans.now ≡ spans → a.watch ≡ watch → a.names ≡ names →
-    ((spec : Bytes) → found_of a.imports spec ≡ found job.deps spec) → ((spec name : Bytes) → said_of a.imports spec name ≡ said_in job.deps (sigs_of job.sigs) spec name) →
+    ((spec : Bytes) → found_of a.imports spec ≡ found job.deps spec) → a.imports.table.now ≡ job.sigs →
     ((deps : Deps) (sigs : Sigs) → SaysOf a.imports deps sigs → (name : Bytes) → meaning_in names name ≡ type_bound job.path deps sigs name (row_at (scope_of m) name)) →
-    own ≡ own_rows job.path (meaning_in names) (seen meant (scope_of m)) → HasAliases own job.deps (sigs_of job.sigs) a.table → StandsFor job m spans watch a
-stands_by job m spans watch names own a at watched same finds says told is has =
-    subst (λ (n : TypeScope). StandsFor job m spans watch (record a { names = n })) (sym same) (stands job m spans watch own (record a { names = names }) at watched finds says told is has)
+    own ≡ own_rows job.path (meaning_in names) (seen meant (scope_of m)) → HasAliases own (sigs_of job.sigs.rows) a.table → StandsFor job m spans watch a
+stands_by job m spans watch names own a at watched same finds shown told is has =
+    subst (λ (n : TypeScope). StandsFor job m spans watch (record a { names = n })) (sym same) (stands job m spans watch own (record a { names = names }) at watched finds shown told is has)
 
 -- by the parts of a job and of its tree
-pub stands_parts : (job : CheckJob) (first end : ℕ) (all listed : List Item) (spans : List Span) (watch : Option ℕ) (deps : Deps) (sigs : Rows Sig) (names : TypeScope) (own : List Row) (a : Around) → deps ≡ job.deps → sigs ≡ job.sigs → listed ≡ all →
-    a.spans.now ≡ spans → a.watch ≡ watch → a.names ≡ names → ((spec : Bytes) → found_of a.imports spec ≡ found deps spec) →
-    ((spec name : Bytes) → said_of a.imports spec name ≡ said_in deps (sigs_of sigs) spec name) →
+pub stands_parts : (job : CheckJob) (first end : ℕ) (all listed : List Item) (spans : List Span) (watch : Option ℕ) (deps : Deps) (sigs : SignatureTable) (names : TypeScope) (own : List Row) (a : Around) → deps ≡ job.deps → sigs ≡ job.sigs → listed ≡ all →
+    a.spans.now ≡ spans → a.watch ≡ watch → a.names ≡ names → ((spec : Bytes) → found_of a.imports spec ≡ found deps spec) → a.imports.table.now ≡ sigs →
     ((ds : Deps) (ss : Sigs) → SaysOf a.imports ds ss → (name : Bytes) → meaning_in names name ≡ type_bound job.path ds ss name (row_at (first_of_each (flat_map bound_by (items_from (items_view listed)))) name)) →
-    own ≡ own_rows job.path (meaning_in names) (seen meant (first_of_each (flat_map bound_by (items_from (items_view listed))))) → HasAliases own job.deps (sigs_of job.sigs) a.table → StandsFor job (module_of first end (items_view all)) spans watch a
-stands_parts job first end all listed spans watch deps sigs names own a same_deps same_sigs same_items at watched same finds says told is has =
-    stands_by job (module_of first end (items_view all)) spans watch names own a at watched same (λ spec. finds spec ∙ ap (λ (d : Deps). found d spec) same_deps)
-    (λ spec name. says spec name ∙ ap₂ (λ (d : Deps) (l : Rows Sig). said_in d (sigs_of l) spec name) same_deps same_sigs)
+    own ≡ own_rows job.path (meaning_in names) (seen meant (first_of_each (flat_map bound_by (items_from (items_view listed))))) → HasAliases own (sigs_of job.sigs.rows) a.table → StandsFor job (module_of first end (items_view all)) spans watch a
+stands_parts job first end all listed spans watch deps sigs names own a same_deps same_sigs same_items at watched same finds shown told is has =
+    stands_by job (module_of first end (items_view all)) spans watch names own a at watched same (λ spec. finds spec ∙ ap (λ (d : Deps). found d spec) same_deps) (shown ∙ same_sigs)
     (λ ds ss sees name. told ds ss sees name ∙ ap (λ (l : List Item). type_bound job.path ds ss name (row_at (first_of_each (flat_map bound_by (items_from (items_view l)))) name)) same_items)
     (is ∙ ap (λ (l : List Item). own_rows job.path (meaning_in names) (seen meant (first_of_each (flat_map bound_by (items_from (items_view l)))))) same_items) has

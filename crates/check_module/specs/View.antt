@@ -7,7 +7,6 @@ use Rattle.alias_members.specs.MembersIn.{members_in}
 use Rattle.alias_table.specs.Aliases.{Row, Key, alias_type, IsCyclic}
 use Rattle.alias_table.specs.Table.{alias_of, is_marked}
 use Rattle.alias_table.specs.declared.table.AliasTable.{AliasTable}
-use Rattle.check_values.specs.declared.signatures.Deps.{Deps}
 use Rattle.subtype_rules.specs.Answer.{below}
 use Rattle.check_world.specs.View.{meaning_in}
 use Rattle.flow_facts.specs.Known.{no_facts}
@@ -15,7 +14,7 @@ use Rattle.typing.specs.Names.{prelude}
 use Rattle.typing.specs.States.{World, Env}
 use Rattle.module_errors.specs.Program.{Program, world_of}
 use Rattle.module_errors.specs.Errors.{no_notes, top_env}
-use Rattle.errors_by_reach.specs.Seen.{Sigs, IsTable, IsSeen, alias_told}
+use Rattle.errors_by_reach.specs.Seen.{Sigs, IsSeen, alias_told}
 use Rattle.import_sayings.specs.View.{sigs_of}
 use Rattle.check_job.specs.declared.job.CheckJob.{CheckJob}
 use Rattle.check_items.specs.check_moves.specs.View.{env}
@@ -23,11 +22,10 @@ use Rattle.check_items.specs.View.{Says}
 use Rattle.check_module.specs.declared.around.Around.{Around}
 use Rattle.check_module.specs.declared.checker.Checker.{Checker}
 
--- the table has these aliases of the module itself, and behind them those of the modules that are reached
-abbrev pub HasAliases : List Row → Deps → Sigs → AliasTable → Type 0
-HasAliases own deps sigs t =
-    (table : Sigs) × IsTable sigs deps table
-    × ((key : Key) → alias_of t key ≡ option_or (alias_type own key) (alias_told key.1 (table key.0)))
+-- the table has these aliases of the module itself, and behind them those of signatures
+abbrev pub HasAliases : List Row → Sigs → AliasTable → Type 0
+HasAliases own sigs t =
+    ((key : Key) → alias_of t key ≡ option_or (alias_type own key) (alias_told key.1 (sigs key.0)))
     × ((key : Key) → IsTrue (is_marked t key) ↔ IsCyclic (alias_of t) key)
 
 -- what stands around the code
@@ -68,18 +66,16 @@ StaysOf old new = (checker_world new ≡ checker_world old) × ((p : Program) (m
 abbrev pub items_of : Module → Items
 items_of (module_of f t is) = is
 
--- what stands around the code of a job's module: it sees what the job's signatures tell by reach
+-- what stands around the code of a job's module: it sees what the job's signatures tell
 abbrev pub StandsFor : CheckJob → Module → List Span → Option ℕ → Around → Type 0
 StandsFor job m spans watch a =
-    (table : Sigs) × IsTable (sigs_of job.sigs) job.deps table
-    × (p : Program) × IsSeen job.path job.deps m table p × IsOf a p m × (around_world a ≡ world_of p m spans watch)
+    (p : Program) × IsSeen job.path job.deps m (sigs_of job.sigs.rows) p × IsOf a p m × (around_world a ≡ world_of p m spans watch)
 
--- A checker before the first item of a job's module, with the place that is watched: it sees what the job's signatures tell by reach,
--- and knows this.
+-- A checker before the first item of a job's module, with the place that is watched: it sees what the job's signatures tell, and knows
+-- this.
 abbrev pub Starts : (World → Program → Items → Env) → CheckJob → Module → List Span → Option ℕ → Checker → Type 0
 Starts known job m spans watch c =
-    (table : Sigs) × IsTable (sigs_of job.sigs) job.deps table
-    × (p : Program) × IsSeen job.path job.deps m table p × IsFor c p m
+    (p : Program) × IsSeen job.path job.deps m (sigs_of job.sigs.rows) p × IsFor c p m
     × (checker_world c ≡ world_of p m spans watch)
     × (checker_env c ≡ known (world_of p m spans watch) p (items_of m))
 

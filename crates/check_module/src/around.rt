@@ -18,7 +18,7 @@ use check_items::{Types, bind_items, bind_prelude, note_second_exports, types_of
 use check_job::CheckJob;
 use check_world::{TypeScope, World};
 use flow_values::{NoMemory, Span};
-use import_sayings::{Imports, add_reached_aliases};
+use import_sayings::Imports;
 use js_tree::{Item, Module};
 use std::alloc::Global;
 
@@ -34,17 +34,15 @@ pub(crate) struct Around<'j> {
     pub watch: Option<u32>,
 }
 
-// The table of the module's own aliases and of those that it reaches.
+// The table of the module's own aliases and of those of all signatures.
 fn table_of(alloc: Global, job: &CheckJob, types: &Types<'_>) -> Result<AliasTable, NoMemory>
-    ensures { IfOk result (λ table. HasAliases (own_aliases job.now.path types.now) job.now.deps (sigs_of job.now.sigs) table) }
+    ensures { IfOk result (HasAliases (own_aliases job.now.path types.now) (sigs_of job.now.sigs.rows)) }
 {
-    let deps = job.deps.get();
-    let sigs = job.sigs.as_slice();
+    let others = job.sigs.get().aliases();
     let mut rows = Vec::new(alloc);
     types.add_aliases(alloc, &job.path, &mut rows)?;
-    add_reached_aliases(alloc, deps, sigs, &mut rows)?;
-    let all = rows.as_slice();
-    let table = AliasTable::build(alloc, all)?;
+    let own = rows.as_slice();
+    let table = AliasTable::over(alloc, own, others)?;
     Ok(table)
 }
 
@@ -66,7 +64,7 @@ impl<'j> Around<'j> {
         ensures { IfOk result (λ a. StandsFor job.now (module_view «module».now) spans.now watch a) }
     {
         let deps = job.deps.get();
-        let sigs = job.sigs.as_slice();
+        let sigs = job.sigs.get();
         let items = module.items.as_slice();
         let imports = Imports::new(alloc, deps, sigs)?;
         let types = types_of(alloc, &job.path, &imports, items)?;

@@ -7,7 +7,7 @@ ghost use Rattle.module_errors.specs.Items.{read_items};
 ghost use Rattle.module_errors.specs.Errors.{broken_errors};
 ghost use Rattle.errors_by_reach.specs.Law.{whole};
 ghost use Rattle.check_values.specs.Rows.{row_at};
-ghost use Rattle.check_job.specs.Jobs.{fault_code, fault_place, AreErrorsBeside, AreErrorsOf};
+ghost use Rattle.check_job.specs.Jobs.{fault_code, fault_place, HasErrorsBeside, AreErrorsOf};
 ghost use Rattle.check_module.specs.View.{checker_world, checker_env, IsFor, StaysOf};
 
 use crate::checker::Checker;
@@ -61,7 +61,7 @@ fn tree_errors(
     spans: &[Span],
     first: &[Fault],
 ) -> Result<List<Fault>, NoMemory>
-    ensures { IfOk result (λ faults. AreErrorsBeside first.now job.now.path job.now.deps (whole (module_view «module».now) spans.now) (row_at job.now.sigs) faults) }
+    ensures { IfOk result (HasErrorsBeside first.now job.now.path job.now.deps (whole (module_view «module».now) spans.now) (row_at job.now.sigs.rows)) }
 {
     let mut checker = Checker::named(alloc, job, module, spans, None)?;
     read_all(&mut checker, module)?;

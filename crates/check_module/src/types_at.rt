@@ -16,6 +16,7 @@ use byte_places::byte_place;
 use check_job::CheckJob;
 use flow_values::{NoMemory, Span};
 use js_tree::Module;
+use reach_law::cut_is_right;
 use source_front::ParseTree;
 use std::alloc::Global;
 use type_values::FlowType;
@@ -39,8 +40,9 @@ fn tree_type_at(
     spans: &[Span],
     at: u32,
 ) -> Result<Option<FlowType>, NoMemory>
-    ensures { IfOk result (λ t. IsTypeAt job.now.path job.now.deps (module_view «module».now) spans.now (row_at job.now.sigs) at t) }
+    ensures { IfOk result (λ t. IsTypeAt job.now.path job.now.deps (module_view «module».now) spans.now (row_at job.now.sigs.rows) at t) }
 {
+    cut_is_right();
     let mut checker = Checker::named(alloc, job, module, spans, Some(at))?;
     read_all(&mut checker, module)?;
     let seen = checker.watched();
@@ -56,7 +58,7 @@ fn tree_type_at(
 /// `NoMemory` where memory is refused.
 #[tactic(auto, using(crate::proofs::JobSources::whole_type, crate::proofs::JobSources::not_broken, crate::proofs::JobSources::not_whole))]
 pub fn type_at(alloc: Global, job: &CheckJob, at: u32) -> Result<Option<FlowType>, NoMemory>
-    ensures whole { IfOk result (λ t. (m : g.Module) (spans : List Span) → source_of job.now ≡ whole m spans → IsTypeAt job.now.path job.now.deps m spans (row_at job.now.sigs) at t) }
+    ensures whole { IfOk result (λ t. (m : g.Module) (spans : List Span) → source_of job.now ≡ whole m spans → IsTypeAt job.now.path job.now.deps m spans (row_at job.now.sigs.rows) at t) }
     ensures broken { IfOk result (λ t. (code : Code) (place : ℕ) → source_of job.now ≡ broken code place → t ≡ None) }
 {
     let parse = job.parse.get();
@@ -84,7 +86,7 @@ pub fn type_at_pos(
     line: u64,
     column: u64,
 ) -> Result<Option<FlowType>, NoMemory>
-    ensures whole { IfOk result (λ t. (m : g.Module) (spans : List Span) → source_of job.now ≡ whole m spans → IsTypeAtPos job.now.path job.now.deps m spans (row_at job.now.sigs) job.now.text line column t) }
+    ensures whole { IfOk result (λ t. (m : g.Module) (spans : List Span) → source_of job.now ≡ whole m spans → IsTypeAtPos job.now.path job.now.deps m spans (row_at job.now.sigs.rows) job.now.text line column t) }
     ensures broken { IfOk result (λ t. (code : Code) (place : ℕ) → source_of job.now ≡ broken code place → t ≡ None) }
 {
     let Some(place) = byte_place(job.text.as_bytes(), line, column) else {

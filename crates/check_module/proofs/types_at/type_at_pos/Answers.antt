@@ -10,4 +10,4 @@ returns-clause-whole c = λ m spans told.
     let tells : (n : ℕ) → (c.byte_place.result ≡ Some n) ↔ StandsAt job.text c.args.line c.args.column n =
     subst (λ (text : Bytes). (n : ℕ) → (c.byte_place.result ≡ Some n) ↔ StandsAt text c.args.line c.args.column n) c.as_bytes.ensures c.byte_place.ensures in
     let same : c.in-Ok.at ≡ c.in-Some.place = omega (arith, c.in-Ok.ensures) in
-    at_byte job.path job.deps m spans (row_at job.sigs) job.text c.args.line c.args.column c.byte_place.result c.in_ok-t.t tells c.in-Some.place c.in-Ok.at c.in-Some.is same (c.in_ok-t.ensures.whole m spans told)
+    at_byte job.path job.deps m spans (row_at job.sigs.rows) job.text c.args.line c.args.column c.byte_place.result c.in_ok-t.t tells c.in-Some.place c.in-Ok.at c.in-Some.is same (c.in_ok-t.ensures.whole m spans told)
