@@ -2,6 +2,7 @@
 ghost use Rattle.check_job.specs.Jobs.{source_of, IsWhole};
 
 use check_job::CheckJob;
+use check_job::signature_table::SignatureTable;
 use check_module::{Checker, check_module, type_at_pos};
 use check_values::{Deps, Fault};
 use code_tree::Declaration;
@@ -33,6 +34,11 @@ fn no_deps(alloc: Global) -> Result<Shared<Deps>, NoMemory> {
     Shared::new(alloc, deps)
 }
 
+fn no_signatures(alloc: Global) -> Result<Shared<SignatureTable>, NoMemory> {
+    let table = SignatureTable::build(alloc, List::new(alloc))?;
+    Shared::new(alloc, table)
+}
+
 fn path(alloc: Global) -> Result<Path, NoMemory> {
     match Path::read(alloc, b"a.js") {
         Ok(path) => Ok(path),
@@ -51,7 +57,7 @@ fn job_of(alloc: Global, source: &[u8]) -> Result<CheckJob, NoMemory> {
         text,
         parse,
         deps,
-        sigs: List::new(alloc),
+        sigs: no_signatures(alloc)?,
     })
 }
 

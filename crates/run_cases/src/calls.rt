@@ -11,6 +11,7 @@ use crate::meeting::{Known, Meeting, MeetingAnalyst, MeetingAnalysts, PATHS, Rul
 use crate::outside::TestFolder;
 use crate::values::values;
 use analyst::check_job::CheckJob;
+use analyst::check_job::signature_table::SignatureTable;
 use analyst::source_front::{Parse, ParseTree};
 use check_values::{Deps, Errs, Root, RootRow, Sig};
 use flow_analyst::FlowAnalysts;
@@ -104,6 +105,11 @@ fn no_deps(alloc: Global) -> Result<Shared<Deps>, NoMemory> {
     Shared::new(alloc, Deps { rows })
 }
 
+fn no_signatures(alloc: Global) -> Result<Shared<SignatureTable>, NoMemory> {
+    let table = SignatureTable::build(alloc, List::new(alloc))?;
+    Shared::new(alloc, table)
+}
+
 fn job_of_merge(alloc: Global, path: &str, source: &str) -> Result<MergeJob, NoMemory> {
     let parse = source_reading::front(alloc, source.as_bytes())?;
     let mut members = List::new(alloc);
@@ -123,7 +129,7 @@ fn job_of_check(alloc: Global, path: &str, source: &str) -> Result<CheckJob, NoM
         text: Text::from_bytes(alloc, source.as_bytes())?,
         parse: Shared::new(alloc, parse)?,
         deps: no_deps(alloc)?,
-        sigs: List::new(alloc),
+        sigs: no_signatures(alloc)?,
     })
 }
 
