@@ -19,9 +19,9 @@ use Rattle.place_analyst.specs.source_front.specs.declared.parse.Parse.{Parse}
 use Rattle.place_analyst.specs.source_front.specs.declared.parse.ParseTree.{ParseTree}
 use Rattle.place_analyst.specs.source_front.specs.declared.parse.ParseTree.TheVariants.{Tree, Broken}
 use Rattle.merged_signatures.specs.Merged.{merged}
-use Rattle.errors_by_reach.specs.Law.{Agree, AreErrors}
+use Rattle.errors_by_reach.specs.Law.{Agree, HasErrors}
 use Rattle.errors_by_reach.specs.Seen.{Sigs}
-use Rattle.reach_law.specs.Law.{JobsAreRight}
+use Rattle.reach_law.specs.Law.{KeyLaw}
 use Rattle.byte_places.specs.Places.{StandsAt}
 use Rattle.place_analyst.specs.check_job.specs.Jobs.{source_in, source_of, HasFaults, IsFronted, AreErrorsOf}
 use Rattle.place_analyst.specs.check_job.specs.declared.job.CheckJob.{CheckJob}
@@ -146,23 +146,23 @@ module _ (one : OneFull) (state later : List Payload) (lawful : IsLawful state) 
 
       -- ---- another text
 
-      are_instead : JobsAreRight → (text : Bytes) (job : CheckJob) (faults : List Fault) → IsJobInstead later modules path text job → AreErrorsOf job faults
+      are_instead : KeyLaw → (text : Bytes) (job : CheckJob) (faults : List Fault) → IsJobInstead later modules path text job → AreErrorsOf job faults
           → (results : List Results) (r : Results) → IsFull (program_of root) results → AllHold state root.modules results → slice_get results at ≡ Some r
           → AreInstead (program_of root) results path text (record { parse = job.parse; deps = job.deps; sig = r.sig; errors = faults })
-      are_instead right text job faults made errors results r full hold of = record {
+      are_instead key text job faults made errors results r full hold of = record {
         parse = made.parse;
         deps = made.deps ∙ ap (λ (paths : List Bytes). deps_in paths path job.parse) (ap paths_of_rows is ∙ sym (same_paths root.modules));
         sig = subst (λ (p : Bytes). merged (view_in (program_of root) results) p ≡ Some r.sig) found_there.has_path
             (results_of (paths_of (program_of root)) (view_in (program_of root) results) (sigs_in (program_of root) results) root.modules results at m r full found_there.stands of).sig;
-        errors = right path job.deps (source_of job) (beside (program_of root) (map (λ (s : Results). s.sig) results)) job.sigs faults (agree_all results job.deps (row_at job.sigs.rows) hold made.signed)
-            (subst (λ (p : Bytes). AreErrors p job.deps (source_of job) (row_at job.sigs.rows) faults) made.at_path (fronted_errors job faults (fronted job text made.parse) errors));
+        errors = (key path job.deps (source_of job) (beside (program_of root) (map (λ (s : Results). s.sig) results)) job.sigs.rows faults (agree_all results job.deps (row_at job.sigs.rows) hold made.signed)).1
+            (subst (λ (p : Bytes). HasErrors p job.deps (source_of job) (row_at job.sigs.rows) faults) made.at_path (fronted_errors job faults (fronted job text made.parse) errors));
       }
 
-      contents_told : JobsAreRight → (text : Bytes) (faults : List Fault) → AreFoundInstead later modules path text faults → IsAnswer (program_in state) (ask.CheckContents path text) (Ok (Faults (errors_at path text faults)))
-      contents_told right text faults (job, made, errors) = by_full (ask.CheckContents path text) _ (λ results full hold.
+      contents_told : KeyLaw → (text : Bytes) (faults : List Fault) → AreFoundInstead later modules path text faults → IsAnswer (program_in state) (ask.CheckContents path text) (Ok (Faults (errors_at path text faults)))
+      contents_told key text faults (job, made, errors) = by_full (ask.CheckContents path text) _ (λ results full hold.
           let (r, of, holds) = result_there state root.modules results at m hold found_there.stands in
           of_there (standing_at root.modules results path) _ _ m.text r (stands results r of)
-          (record { parse = job.parse; deps = job.deps; sig = r.sig; errors = faults }, are_instead right text job faults made errors results r full hold of, refl))
+          (record { parse = job.parse; deps = job.deps; sig = r.sig; errors = faults }, are_instead key text job faults made errors results r full hold of, refl))
 
       -- ---- the type at a place
 
@@ -211,9 +211,9 @@ module _ (one : OneFull) (state later : List Payload) (lawful : IsLawful state) 
                 (t, subst₂ (λ (ds : Deps) (p : Parse). IsShown path ds (source_in p.tree) (sigs_in (program_of root) results) m.text line column t) lists parses shown_by, refl)
 
     -- the same of another text, where the row itself isn't read
-    pub text_told : JobsAreRight → (at : ℕ) (there_at : IsPlaceOf modules path (Some at)) (text : Bytes) (faults : List Fault) (errors : List Located) → AreFoundInstead later root.modules path text faults → errors ≡ errors_at path text faults
+    pub text_told : KeyLaw → (at : ℕ) (there_at : IsPlaceOf modules path (Some at)) (text : Bytes) (faults : List Fault) (errors : List Located) → AreFoundInstead later root.modules path text faults → errors ≡ errors_at path text faults
         → IsAnswer (program_in state) (ask.CheckContents path text) (Ok (Faults errors))
-    text_told right at there_at text faults errors found_so are =
+    text_told key at there_at text faults errors found_so are =
         let (row, stands_at) = get_there modules at there_at.0 in
         subst (λ (es : List Located). IsAnswer (program_in state) (ask.CheckContents path text) (Ok (Faults es))) (sym are)
-        (contents_told at row there_at (sym (get_or_there modules at row stands_at)) right text faults (subst (λ (ms : List RootRow). AreFoundInstead later ms path text faults) (sym is) found_so))
+        (contents_told at row there_at (sym (get_or_there modules at row stands_at)) key text faults (subst (λ (ms : List RootRow). AreFoundInstead later ms path text faults) (sym is) found_so))

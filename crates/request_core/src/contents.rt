@@ -21,7 +21,7 @@ use flow_values::NoMemory;
 use heap_answers::payloads::Payload;
 use heap_answers::program_check::one_full;
 use heap_core::HeapReader;
-use reach_law::cut_is_right;
+use reach_law::key_law;
 use std::alloc::Global;
 
 // The errors of the module at a path, were this its text.
@@ -67,7 +67,7 @@ pub(crate) fn check_contents<R: HeapReader<Payload>, A: Analyst>(
     ensures part { R.part reader.new ≡ R.part reader.old }
 {
     one_full();
-    cut_is_right();
+    key_law();
     counted(&*analyst);
     numbered(&*reader);
     let root = reader.root()?;

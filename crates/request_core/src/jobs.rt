@@ -9,7 +9,7 @@ ghost use Rattle.heap_answers.specs.States.{HasPlace};
 ghost use Rattle.request_core.specs.States.{IsRead, parse_at, deps_at};
 ghost use Rattle.request_core.specs.CheckedBy.{IsJobOf, IsJobInstead};
 
-use crate::reaching::reached_signatures;
+use crate::reaching::reached_table;
 use crate::rows::{deps_in, parse_in};
 use check_values::{Deps, Root, RootRow};
 use flow_base::{Path, Text};
@@ -74,7 +74,7 @@ pub(crate) fn job_of<R: HeapReader<Payload>>(
 {
     let parse = parse_of(reader, module)?;
     let deps = list_of(reader, module)?;
-    let sigs = reached_signatures(alloc, reader, modules, deps.get())?;
+    let sigs = reached_table(alloc, reader, modules, deps.get())?;
     Ok(CheckJob {
         path: module.path.share()?,
         text: module.text.share()?,
@@ -118,7 +118,7 @@ pub(crate) fn job_instead<R: HeapReader<Payload>>(
     ensures part { R.part reader.new ≡ R.part reader.old }
 {
     let deps = list_in(alloc, root, path, &parse)?;
-    let sigs = reached_signatures(alloc, reader, root.modules.as_slice(), &deps)?;
+    let sigs = reached_table(alloc, reader, root.modules.as_slice(), &deps)?;
     Ok(CheckJob {
         path: path.share()?,
         text: text.share()?,

@@ -15,6 +15,7 @@ use flow_values::{List, NoMemory, Shared};
 use heap_answers::payloads::{Payload, signature_entity};
 use heap_core::HeapReader;
 use signature_reach::{found_paths, named_at};
+use signature_table::SignatureTable;
 use std::alloc::Global;
 use std::collections::BTreeSet;
 
@@ -111,13 +112,9 @@ fn follow<R: HeapReader<Payload>>(
     Ok(())
 }
 
-/// The merged signatures of the modules that a module with a dependency list reaches: those that its specifiers find, and with each of
-/// them those that its signature names. No other signature is read.
-///
-/// # Errors
-///
-/// `NoMemory` where memory is refused.
-pub(crate) fn reached_signatures<R: HeapReader<Payload>>(
+// The merged signatures of the modules that a module with a dependency list reaches: those that its specifiers find, and with each of
+// them those that its signature names. No other signature is read.
+fn reached_signatures<R: HeapReader<Payload>>(
     alloc: Global,
     reader: &mut R,
     modules: &[RootRow],
@@ -135,4 +132,26 @@ pub(crate) fn reached_signatures<R: HeapReader<Payload>>(
     look_at_all(reader, modules, starts.as_slice(), &mut seen, &mut rows)?;
     follow(alloc, reader, modules, &mut seen, &mut rows)?;
     Ok(rows)
+}
+
+/// A table of the merged signatures of the modules that a module with a dependency list reaches.
+///
+/// # Errors
+///
+/// `NoMemory` where memory is refused.
+pub(crate) fn reached_table<R: HeapReader<Payload>>(
+    alloc: Global,
+    reader: &mut R,
+    modules: &[RootRow],
+    deps: &Deps,
+) -> Result<Shared<SignatureTable>, NoMemory>
+    requires rising { IsRising (paths_of_rows modules.now) }
+    requires placed { AllByRecursion (HasPlace (R.state reader.old)) modules.now }
+    ensures agree { IfOk result (λ table. Agree (sigs_by (R.state reader.old) modules.now) deps.now (row_at table.rows)) }
+    ensures same { (R.at reader.new ≡ R.at reader.old) × (R.state reader.new ≡ R.state reader.old) }
+    ensures part { R.part reader.new ≡ R.part reader.old }
+{
+    let rows = reached_signatures(alloc, reader, modules, deps)?;
+    let table = SignatureTable::build(alloc, rows)?;
+    Ok(Shared::new(alloc, table)?)
 }

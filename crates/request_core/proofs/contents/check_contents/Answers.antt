@@ -33,5 +33,5 @@ errors_instead-requires-clause-placed g c =
 pub returns-clause-answer : goal.returns-clause-answer
 returns-clause-answer g c =
     told.text_told c.one_full.ensures (g.R.HeapReader.state c.args.reader.now) (g.R.HeapReader.state c.root.new.self) (g.met.R.HeapReader.fit c.args.reader.now) c.root_of-root.result.now c.as_slice.result.now
-    (c.in_ok-root.ensures.payload ∙ ap Some (sym c.deref.ensures ∙ c.root_of-root.ensures)) c.root.ensures.same.1 c.as_slice.ensures c.args.path.now c.cut_is_right.ensures.jobs c.in-Some.field-0 c.in-Some.ensures.place c.args.text.now
+    (c.in_ok-root.ensures.payload ∙ ap Some (sym c.deref.ensures ∙ c.root_of-root.ensures)) c.root.ensures.same.1 c.as_slice.ensures c.args.path.now c.key_law.ensures.errors c.in-Some.field-0 c.in-Some.ensures.place c.args.text.now
     c.in_ok-errs.errs.faults c.in_ok-errors.errors c.in_ok-errs.ensures.errors (c.in_ok-errors.ensures ∙ (λ i. errors_at c.args.path.now (c.as_bytes.ensures i) (c.as_slice-2.ensures i)))

@@ -7,11 +7,11 @@ use Rattle.heap_answers.specs.States.{HasPlace}
 use Rattle.request_core.proofs.Making.{job_made_instead}
 use Rattle.request_core.proofs.jobs.job_instead.Goals as goal
 
-pub reached_signatures-requires-clause-rising : goal.reached_signatures-requires-clause-rising
-reached_signatures-requires-clause-rising g c = subst (λ (ms : List RootRow). IsRising (paths_of_rows ms)) (sym c.as_slice.ensures) c.requires.rising
+pub reached_table-requires-clause-rising : goal.reached_table-requires-clause-rising
+reached_table-requires-clause-rising g c = subst (λ (ms : List RootRow). IsRising (paths_of_rows ms)) (sym c.as_slice.ensures) c.requires.rising
 
-pub reached_signatures-requires-clause-placed : goal.reached_signatures-requires-clause-placed
-reached_signatures-requires-clause-placed g c = subst (λ (ms : List RootRow). AllByRecursion (HasPlace (g.R.HeapReader.state c.args.reader.now)) ms) (sym c.as_slice.ensures) c.requires.placed
+pub reached_table-requires-clause-placed : goal.reached_table-requires-clause-placed
+reached_table-requires-clause-placed g c = subst (λ (ms : List RootRow). AllByRecursion (HasPlace (g.R.HeapReader.state c.args.reader.now)) ms) (sym c.as_slice.ensures) c.requires.placed
 
 pub returns-clause-job : goal.returns-clause-job
 returns-clause-job g c =

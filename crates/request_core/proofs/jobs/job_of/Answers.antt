@@ -7,8 +7,8 @@ list_of-requires-clause-place g c = later_place _ _ _ c.parse_of.ensures.same.1 
 pub list_of-requires-clause-read : goal.list_of-requires-clause-read
 list_of-requires-clause-read g c = later_read _ _ _ c.parse_of.ensures.same.1 c.requires.read
 
-pub reached_signatures-requires-clause-placed : goal.reached_signatures-requires-clause-placed
-reached_signatures-requires-clause-placed g c = later_places _ _ _ _ c.parse_of.ensures.same.1 c.list_of.ensures.same.1 c.requires.placed
+pub reached_table-requires-clause-placed : goal.reached_table-requires-clause-placed
+reached_table-requires-clause-placed g c = later_places _ _ _ _ c.parse_of.ensures.same.1 c.list_of.ensures.same.1 c.requires.placed
 
 pub returns-clause-job : goal.returns-clause-job
 returns-clause-job g c =
