@@ -65,7 +65,7 @@ module _ {A X : Type 0} (f : A → Rows X) where
   some_at (j ∷ ks) zero k path at some = some_front (f j) (flat_map f ks) path (subst (λ (l : A). IsSome (row_at (f l) path)) (sym (one_value j k at)) some)
   some_at (j ∷ ks) (suc i) k path at some = some_behind (f j) (flat_map f ks) path (some_at ks i k path at some)
 
-  all_flat : (P : Bytes × X → Type 0) (ks : List A) → ((k : A) → AllByRecursion P (f k)) → AllByRecursion P (flat_map f ks)
+  pub all_flat : (P : Bytes × X → Type 0) (ks : List A) → ((k : A) → AllByRecursion P (f k)) → AllByRecursion P (flat_map f ks)
   all_flat P [] each = tt
   all_flat P (k ∷ ks) each = all_append P (f k) (flat_map f ks) (each k) (all_flat P ks each)
 

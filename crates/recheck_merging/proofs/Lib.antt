@@ -15,5 +15,6 @@ pub mod Outside
 pub mod Places
 pub mod Plans
 pub mod Puts
+pub mod Rising
 pub mod Tells
 pub mod Whole

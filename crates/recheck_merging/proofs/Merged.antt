@@ -7,12 +7,14 @@ use Rattle.job_ends.specs.Jobs.{job_view}
 use Rattle.job_ends.specs.declared.job.MergeJob.{MergeJob}
 use Rattle.merged_signatures.specs.Job.{Job, job_signatures}
 use Rattle.merged_signatures.specs.Settled.{AJobTellsTheProgram}
+use Rattle.asked_exports.specs.Asked.{asked_job}
+use Rattle.asked_exports.specs.Enough.{AskedJobsTellTheSame}
 use Rattle.check_phases.specs.Sourced.{AreSources}
 use Rattle.check_phases.specs.Merging.{AreRight, HasMerged, put_all}
 use Rattle.check_phases.specs.declared.merging.Sources.{Sources}
 use Rattle.check_phases.proofs.Lists.{one_value, place_at, value_at, zip_length}
 use Rattle.recheck_merging.specs.Plans.{IsPlan, numbers_at, edges_at, size_of, members_in}
-use Rattle.recheck_merging.specs.Merging.{job_by, job_in, members_at, IsSigAt, AreSigsOf, AreMergedTo}
+use Rattle.recheck_merging.specs.Merging.{job_by, whole_job_in, job_in, members_at, IsSigAt, AreSigsOf, AreMergedTo}
 use Rattle.recheck_merging.specs.declared.planning.MergePlan.{MergePlan}
 use Rattle.recheck_merging.proofs.Groups.{waved, ready_now, places_low}
 use Rattle.recheck_merging.proofs.Mapped.{length_mapped, mapped_more}
@@ -21,11 +23,11 @@ use Rattle.recheck_merging.proofs.Puts.{job_signed, has_merged}
 
 -- ---- one component, as the code has it
 
-pub job_here : (s : Sources) (p : MergePlan) (k : ℕ) (slots : List (Option Sig)) (places group : List ℕ) (job : Job) → slice_get p.components k ≡ Some places → group ≡ numbers_at p.merged places
-    → job ≡ job_by s slots group (edges_at p.edges.items places) → job ≡ job_in s p slots k
-job_here s p k slots places group job at is_group is =
+pub job_here : (s : Sources) (p : MergePlan) (k : ℕ) (slots : List (Option Sig)) (places group : List ℕ) (job own : Job) → slice_get p.components k ≡ Some places → group ≡ numbers_at p.merged places
+    → job ≡ job_by s slots group (edges_at p.edges.items places) → own ≡ asked_job job → own ≡ job_in s p slots k
+job_here s p k slots places group job own at is_group is asks =
     let same : places ≡ get_or p.components k [] = value_at p.components k places [] at in
-    is ∙ (λ i. job_by s slots ((is_group ∙ ap (numbers_at p.merged) same) i) (edges_at p.edges.items (same i)))
+    asks ∙ ap asked_job (is ∙ (λ i. job_by s slots ((is_group ∙ ap (numbers_at p.merged) same) i) (edges_at p.edges.items (same i))))
 
 pub size_here : (p : MergePlan) (k n : ℕ) (places group : List ℕ) → slice_get p.components k ≡ Some places → group ≡ numbers_at p.merged places → n ≡ length group → n ≡ size_of p k
 size_here p k n places group at is_group many = many ∙ (ap length is_group ∙ (length_mapped _ places ∙ ap length (value_at p.components k places [] at)))
@@ -50,9 +52,9 @@ map_twice g f [] = refl
 map_twice {A} {B} {C} g f (x ∷ xs) = ap (λ (l : List C). g (f x) ∷ l) (map_twice g f xs)
 
 -- the signatures that the jobs of a wave tell
-pub wave_signed : AJobTellsTheProgram → (s : Sources) (p : MergePlan) (wave : ℕ) (made : List (Option Sig)) (jobs : List MergeJob) (all : List (List Sig)) → AreSources s → IsPlan s p → wave < length p.waves → AreMergedTo s p wave made
+pub wave_signed : AJobTellsTheProgram → AskedJobsTellTheSame → (s : Sources) (p : MergePlan) (wave : ℕ) (made : List (Option Sig)) (jobs : List MergeJob) (all : List (List Sig)) → AreSources s → IsPlan s p → wave < length p.waves → AreMergedTo s p wave made
     → map job_view jobs ≡ map (job_in s p made) (get_or p.waves wave []) → all ≡ map (λ (job : MergeJob). job_signatures (job_view job)) jobs → AllZip (AreSigsOf s p) (get_or p.waves wave []) all
-wave_signed tells s p wave made jobs all sources plan low merged of_jobs told =
+wave_signed tells enough s p wave made jobs all sources plan low merged of_jobs told =
     subst (λ (l : List (List Sig)). AllZip (AreSigsOf s p) ks l) (sym (told ∙ (map_twice job_signatures job_view jobs ∙ (ap (map job_signatures) of_jobs ∙ sym (map_twice job_signatures (job_in s p made) ks)))))
     (zip_mapped (AreSigsOf s p) (λ (k : ℕ). job_signatures (job_in s p made k)) ks one)
   where
@@ -63,7 +65,8 @@ wave_signed tells s p wave made jobs all sources plan low merged of_jobs told =
     one n k at =
         let at_wave = place_at p.waves wave [] low in
         let at_places = place_at p.components k [] ((waved s p plan).within wave k (ks, at_wave, (n, at))) in
-        job_signed tells s made (members_at p k) (edges_at p.edges.items (get_or p.components k [])) sources merged.right (ready_now s p wave n k ks (get_or p.components k []) made sources plan at_wave at at_places merged)
+        let whole = job_signed tells s made (members_at p k) (edges_at p.edges.items (get_or p.components k [])) sources merged.right (ready_now s p wave n k ks (get_or p.components k []) made sources plan at_wave at at_places merged) in
+        subst (AreSigsOf s p k) (sym (enough (whole_job_in s p made k))) whole
 
 -- the members of all jobs of a wave
 sum_mapped : {A : Type 0} (f : A → ℕ) (xs : List A) → sum_by f xs ≡ sum_by (λ n. n) (map f xs)

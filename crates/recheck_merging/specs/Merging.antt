@@ -9,6 +9,7 @@ use Rattle.graph_search.specs.Cycles.{Has}
 use Rattle.graph_search.specs.Components.{StandsIn}
 use Rattle.merged_signatures.specs.Job.{Job}
 use Rattle.merged_signatures.specs.Merged.{merged}
+use Rattle.asked_exports.specs.Asked.{asked_job}
 use Rattle.path_numbers.specs.affected_sizes.specs.Polls.{IsImport}
 use Rattle.check_phases.specs.Phases.{AreMerged}
 use Rattle.check_phases.specs.Merging.{IsMade, AreRight, member_at, made_at}
@@ -56,9 +57,12 @@ pub record IsReady (s : Sources) (group : List ℕ) (edges : List (List ℕ)) (m
 abbrev pub members_at : MergePlan → ℕ → List ℕ
 members_at p k = numbers_at p.merged (get_or p.components k [])
 
--- the job of a component of the plan
+-- the job of a component of the plan, with whole signatures of the modules outside, and with what it asks of them alone
+abbrev pub whole_job_in : Sources → MergePlan → List (Option Sig) → ℕ → Job
+whole_job_in s p made k = job_by s made (members_at p k) (edges_at p.edges.items (get_or p.components k []))
+
 abbrev pub job_in : Sources → MergePlan → List (Option Sig) → ℕ → Job
-job_in s p made k = job_by s made (members_at p k) (edges_at p.edges.items (get_or p.components k []))
+job_in s p made k = asked_job (whole_job_in s p made k)
 
 -- this is the signature of the module of a number
 abbrev pub IsSigAt : Sources → ℕ → Sig → Type 0

@@ -5,12 +5,13 @@ ghost use Rattle.job_ends.specs.Jobs.{job_view, member_view};
 ghost use Rattle.check_phases.specs.analyst.specs.Work.{Works, merging};
 ghost use Rattle.work_totals.specs.Totals.{total};
 ghost use Rattle.check_phases.specs.Sourced.{AreSources};
-ghost use Rattle.check_phases.specs.Merging.{known_rows, member_at, made_at, put_all};
+ghost use Rattle.check_phases.specs.Merging.{AreRight, known_rows, member_at, made_at, put_all};
 ghost use Rattle.recheck_merging.specs.Plans.{IsPlan, numbers_at, edges_at, size_of, members_in};
 ghost use Rattle.recheck_merging.specs.Merging.{outside_by, job_by, job_in, AreSigsOf, AreMergedTo, AreMergedIn};
 
 use crate::keeping::Slots;
 use crate::planning::MergePlan;
+use asked_exports::{asked_is_enough, asked_job};
 use check_phases::Sources;
 use check_phases::analyst::Analyst;
 use check_values::{RootRow, Sig};
@@ -226,8 +227,7 @@ fn group_at<'p>(plan: &'p MergePlan, wave: usize, i: usize) -> &'p [u32]
     components[component].as_slice()
 }
 
-// The job of a component of a wave.
-#[tactic(auto, using(crate::proofs::Groups::component_low, crate::proofs::Groups::places_low, crate::proofs::Groups::places_within, crate::proofs::Outside::group_within, crate::proofs::Merged::job_here, crate::proofs::Merged::size_here))]
+// The job of a component of a wave, with what its members ask of larger modules outside.
 fn component_job(
     alloc: Global,
     sources: &Sources,
@@ -240,14 +240,15 @@ fn component_job(
     requires plan { IsPlan sources.now plan.now }
     requires wave { wave < length plan.now.waves }
     requires within { i < length (get_or plan.now.waves wave []) }
-    requires many { length slots.now ≡ length sources.now.root.modules }
+    requires right { AreRight sources.now slots.now }
     ensures job { IfOk result (λ job. job_view job ≡ job_in sources.now plan.now slots.now (get_or (get_or plan.now.waves wave []) i 0)) }
     ensures many { IfOk result (λ job. length job.members ≡ size_of plan.now (get_or (get_or plan.now.waves wave []) i 0)) }
 {
     let places = group_at(plan, wave, i);
     let numbers = numbers_of(alloc, plan, places)?;
     let group = numbers.as_slice();
-    let job = job_of(alloc, sources, plan, places, group, slots)?;
+    let whole = job_of(alloc, sources, plan, places, group, slots)?;
+    let job = asked_job(alloc, whole)?;
     Ok(job)
 }
 
@@ -262,7 +263,7 @@ fn wave_jobs(
     requires sources { AreSources sources.now }
     requires plan { IsPlan sources.now plan.now }
     requires wave { wave < length plan.now.waves }
-    requires many { length slots.now ≡ length sources.now.root.modules }
+    requires right { AreRight sources.now slots.now }
     ensures jobs { IfOk result (λ jobs. map job_view jobs ≡ map (job_in sources.now plan.now slots.now) (get_or plan.now.waves wave [])) }
     ensures many { IfOk result (λ jobs. map (λ job. length job.members) jobs ≡ map (size_of plan.now) (get_or plan.now.waves wave [])) }
 {
@@ -345,6 +346,7 @@ fn wave_signatures<R: Threads + Wait + Sync, A: Analyst + Send>(
 {
     totals_rise();
     merged_signatures::a_job_tells_the_program();
+    asked_is_enough();
     let jobs = wave_jobs(alloc, sources, plan, wave, slots)?;
     let asked = jobs.as_slice();
     let told = run_merges(rt, alloc, analysts, asked)?;
@@ -354,7 +356,8 @@ fn wave_signatures<R: Threads + Wait + Sync, A: Analyst + Send>(
 
 /// Merges the components of a wave of the plan by at least one analyst, where those of the waves before it are merged, and puts their
 /// signatures into the slots of their modules. Each component is merged by the slots as they stand before the wave, so the analysts work
-/// beside one another. It takes time in proportion to the members of the wave, their edges and exports.
+/// beside one another. It takes time in proportion to the members of the wave, their edges, imports and exports: of a large module
+/// outside a job has the rows that its members ask for.
 ///
 /// # Errors
 ///

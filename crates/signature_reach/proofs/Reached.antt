@@ -1,12 +1,12 @@
 -- Looking at paths, one after the other, until no row names one that was not looked at.
-use Rattle.std.proofs.Common.{◌≡◌, ◌⊎◌, ℕ, zero, suc, ◌+◌, ◌<◌, ◌≤◌, Bool, true, false, cond, ◌||◌, List, [], ◌∷◌, ◌++◌, length, length-append, take, take_all, slice_get, Option, Some, None, refl, sym, ap, ◌∙◌, subst, inl, inr, bytes_eq, arith, append-nil, append_assoc}
+use Rattle.std.proofs.Common.{◌≡◌, ◌⊎◌, ℕ, zero, suc, ◌+◌, ◌<◌, ◌≤◌, Bool, true, false, cond, ◌||◌, List, [], ◌∷◌, ◌++◌, length, length-append, take, take_all, get_or, slice_get, Option, Some, None, refl, sym, ap, ◌∙◌, subst, inl, inr, bytes_eq, arith, append-nil, append_assoc}
 use Rattle.std.specs.Prelude.{option_to_list}
 use Rattle.std.specs.List.{AllByRecursion, flat_map, list_any}
 use Rattle.std.specs.BTreeSet.{BTreeSet}
 use Rattle.std.specs.Ordering.{nat_cmp, is_eq}
 use Rattle.std.specs.Cmp.Lexicographic.{slice_cmp, bytes_decides}
-use Rattle.std.proofs.lemmas.Bool.{false≢true}
-use Rattle.std.proofs.lemmas.Option.{none-some, same_Some}
+use Rattle.std.proofs.lemmas.Bool.{false≢true, cases_lt}
+use Rattle.std.proofs.lemmas.Option.{none-some, same_Some, slice_get_read, slice_get-get_or, slice_get_within}
 use Rattle.check_values.specs.Rows.{Bytes, Rows, row_at, is_among}
 use Rattle.check_values.specs.declared.signatures.Deps.{Deps}
 use Rattle.check_values.specs.declared.signatures.DepRow.{DepRow}
@@ -15,7 +15,7 @@ use Rattle.merged_signatures.specs.Chains.{found_in}
 use Rattle.merged_signatures.specs.Reach.{by_specifier, by_signature, paths_named}
 use Rattle.errors_by_reach.specs.Law.{Agree}
 use Rattle.errors_by_reach.specs.Seen.{Sigs}
-use Rattle.signature_reach.specs.Along.{IsMet, AreMet, Knows, Grows, IsClosedTo, IsClosed, AreNamedAt}
+use Rattle.signature_reach.specs.Along.{IsMet, AreMet, Knows, Grows, IsClosedTo, IsClosed, AreNamedAt, starts_of, AreStartedTo, AreStarted, AgreeForAll}
 
 -- ---- steps that compose
 
@@ -114,8 +114,8 @@ row_there (row ∷ rows) p s is = go (bytes_eq row.0 p) is (row_there rows p s)
     go true e rest = (0, row, omega arith, refl, same_Some row.1 s e)
     go false e rest = let (i, r, low, at, same) = rest e in (suc i, r, omega (arith, low), at, same)
 
-abbrev starts_of : List DepRow → List Bytes
-starts_of rows = flat_map (λ (row : DepRow). option_to_list row.found) rows
+abbrev found_all : List DepRow → List Bytes
+found_all rows = flat_map (λ (row : DepRow). option_to_list row.found) rows
 
 among_right : (a b : List Bytes) (q : Bytes) → is_among b q ≡ true → is_among (a ++ b) q ≡ true
 among_right [] b q is = is
@@ -126,21 +126,21 @@ among_right (p ∷ a) b q is = go (bytes_eq q p) (among_right a b q is)
     go false rest = rest
 
 -- a module that a specifier finds is one of those
-found_among : (rows : List DepRow) (spec path : Bytes) → found_in rows spec ≡ Some path → is_among (starts_of rows) path ≡ true
+found_among : (rows : List DepRow) (spec path : Bytes) → found_in rows spec ≡ Some path → is_among (found_all rows) path ≡ true
 found_among [] spec path is = absurd (none-some path is)
 found_among (row ∷ rows) spec path is = go (bytes_eq row.spec spec) is (found_among rows spec path)
   where
-    here : (o : Option Bytes) → o ≡ Some path → is_among (option_to_list o ++ starts_of rows) path ≡ true
+    here : (o : Option Bytes) → o ≡ Some path → is_among (option_to_list o ++ found_all rows) path ≡ true
     here None e = absurd (none-some path e)
-    here (Some p) e = ap (λ (b : Bool). b || is_among (starts_of rows) path) ((bytes_decides path p).1 (sym (same_Some p path e)))
+    here (Some p) e = ap (λ (b : Bool). b || is_among (found_all rows) path) ((bytes_decides path p).1 (sym (same_Some p path e)))
 
-    go : (b : Bool) → cond b row.found (found_in rows spec) ≡ Some path → (found_in rows spec ≡ Some path → is_among (starts_of rows) path ≡ true) → is_among (starts_of (row ∷ rows)) path ≡ true
+    go : (b : Bool) → cond b row.found (found_in rows spec) ≡ Some path → (found_in rows spec ≡ Some path → is_among (found_all rows) path ≡ true) → is_among (found_all (row ∷ rows)) path ≡ true
     go true e rest = here row.found e
-    go false e rest = among_right (option_to_list row.found) (starts_of rows) path (rest e)
+    go false e rest = among_right (option_to_list row.found) (found_all rows) path (rest e)
 
 -- whatever is reached was looked at
-pub all_reached : (sigs : Sigs) (deps : Deps) (rows : Rows Sig) → AreMet sigs rows (starts_of deps.rows) → IsClosed sigs rows → Agree sigs deps (row_at rows)
-all_reached sigs deps rows starts closed path (by_specifier spec p e) = all_among sigs rows (starts_of deps.rows) p starts (found_among deps.rows spec p e)
+pub all_reached : (sigs : Sigs) (deps : Deps) (rows : Rows Sig) → AreMet sigs rows (found_all deps.rows) → IsClosed sigs rows → Agree sigs deps (row_at rows)
+all_reached sigs deps rows starts closed path (by_specifier spec p e) = all_among sigs rows (found_all deps.rows) p starts (found_among deps.rows spec p e)
 all_reached sigs deps rows starts closed path (by_signature p q s way e named) =
     let here : row_at rows p ≡ Some s = all_reached sigs deps rows starts closed p way ∙ e in
     let (i, row, low, at, same) = row_there rows p s here in
@@ -154,7 +154,29 @@ knows_none sigs seen rows none_seen no_rows = record {
 }
 
 -- the starts were looked at, and then all that they lead to
-pub reached_told : (sigs : Sigs) (ms : List Bytes) (deps : Deps) (found : List DepRow) (starts : List Bytes) (seen last : BTreeSet Bytes) (rows all : Rows Sig) → found ≡ deps.rows → starts ≡ starts_of found → AreMet sigs rows starts
+pub reached_told : (sigs : Sigs) (ms : List Bytes) (deps : Deps) (found : List DepRow) (starts : List Bytes) (seen last : BTreeSet Bytes) (rows all : Rows Sig) → found ≡ deps.rows → starts ≡ found_all found → AreMet sigs rows starts
     → Grows sigs ms seen rows last all → IsClosed sigs all → Agree sigs deps (row_at all)
 reached_told sigs ms deps found starts seen last rows all listed are met grows closed =
-    all_reached sigs deps all (subst (AreMet sigs all) (are ∙ ap starts_of listed) (all_stay sigs ms seen last rows all starts grows met)) closed
+    all_reached sigs deps all (subst (AreMet sigs all) (are ∙ ap found_all listed) (all_stay sigs ms seen last rows all starts grows met)) closed
+
+-- ---- what several modules reach
+
+pub none_started : (sigs : Sigs) (rows : Rows Sig) (lists : List Deps) (numbers : List ℕ) → AreStartedTo sigs rows lists numbers 0
+none_started sigs rows lists numbers i x deps low at there = absurd (omega (arith, low))
+
+pub one_started : (sigs : Sigs) (ms : List Bytes) (seen later : BTreeSet Bytes) (rows more : Rows Sig) (lists : List Deps) (numbers : List ℕ) (i : ℕ) (deps given : Deps) → i < length numbers → get_or numbers i 0 < length lists → deps ≡ get_or lists (get_or numbers i 0) deps
+    → Grows sigs ms seen rows later more → AreStartedTo sigs rows lists numbers i → given ≡ deps → AreMet sigs more (starts_of given) → AreStartedTo sigs more lists numbers (i + 1)
+one_started sigs ms seen later rows more lists numbers i deps given low inside is grows before same_deps here j x d less at there = elim (cases_lt j i) [
+  | inl first ↦ all_stay sigs ms seen later rows more (starts_of d) grows (before j x d first at there)
+  | inr past ↦ (let place : j ≡ i = omega (arith, less, past) in
+      let number : x ≡ get_or numbers i 0 = same_Some x (get_or numbers i 0) (sym at ∙ (ap (slice_get numbers) place ∙ slice_get-get_or numbers i 0 low)) in
+      let mine : slice_get lists (get_or numbers i 0) ≡ Some deps = slice_get_read lists _ (get_or numbers i 0) deps refl inside is in
+      let same : given ≡ d = same_deps ∙ same_Some deps d (sym mine ∙ (ap (slice_get lists) (sym number) ∙ there)) in
+      subst (λ (e : Deps). AreMet sigs more (starts_of e)) same here)
+]
+
+-- the modules that they find were looked at, and then all that these lead to
+pub all_told : (sigs : Sigs) (ms : List Bytes) (lists : List Deps) (numbers : List ℕ) (seen last : BTreeSet Bytes) (rows all : Rows Sig) → AreStarted sigs rows lists numbers → Grows sigs ms seen rows last all → IsClosed sigs all
+    → AgreeForAll sigs lists numbers (row_at all)
+all_told sigs ms lists numbers seen last rows all started grows closed i x deps at there =
+    all_reached sigs deps all (all_stay sigs ms seen last rows all (starts_of deps) grows (started i x deps (slice_get_within numbers i x at) at there)) closed

@@ -1,13 +1,15 @@
 -- The merged signatures of the modules that a module reaches, looked for along names.
-use Rattle.std.specs.Prelude.{◌≡◌, ◌≤◌, ◌<◌, ◌+◌, ◌++◌, ℕ, true, List, [], ◌∷◌, length, slice_get, Some, if◌then◌else◌}
-use Rattle.std.specs.List.{AllByRecursion}
+use Rattle.std.specs.Prelude.{◌≡◌, ◌≤◌, ◌<◌, ◌+◌, ◌++◌, ℕ, true, List, [], ◌∷◌, length, slice_get, Some, option_to_list, if◌then◌else◌}
+use Rattle.std.specs.List.{AllByRecursion, flat_map}
 use Rattle.std.specs.BTreeSet.{BTreeSet, contains}
 use Rattle.std.specs.Cmp.Lexicographic.{slice_cmp}
 use Rattle.std.specs.Ordering.{nat_cmp}
 use Rattle.check_values.specs.Rows.{Bytes, Rows, row_at}
 use Rattle.check_values.specs.declared.root.RootRow.{RootRow}
+use Rattle.check_values.specs.declared.signatures.Deps.{Deps}
 use Rattle.check_values.specs.declared.signatures.Sig.{Sig}
 use Rattle.merged_signatures.specs.Reach.{paths_named}
+use Rattle.errors_by_reach.specs.Law.{Agree}
 use Rattle.errors_by_reach.specs.Seen.{Sigs}
 
 -- the signatures of modules by their paths
@@ -51,3 +53,19 @@ IsClosed sigs rows = IsClosedTo sigs rows (length rows)
 -- these are the modules that the row at a place names
 abbrev pub AreNamedAt : Rows Sig → ℕ → List Bytes → Type 0
 AreNamedAt rows at named = (row : Bytes × Sig) → slice_get rows at ≡ Some row → named ≡ paths_named row.1
+
+-- the modules that the specifiers of a dependency list find
+abbrev pub starts_of : Deps → List Bytes
+starts_of deps = flat_map (λ row. option_to_list row.found) deps.rows
+
+-- the modules that the first of these numbers' specifiers find were looked at, by the dependency list of each number
+abbrev pub AreStartedTo : Sigs → Rows Sig → List Deps → List ℕ → ℕ → Type 0
+AreStartedTo sigs rows lists numbers n = (i x : ℕ) (deps : Deps) → i < n → slice_get numbers i ≡ Some x → slice_get lists x ≡ Some deps → AreMet sigs rows (starts_of deps)
+
+-- and so those of all of them
+abbrev pub AreStarted : Sigs → Rows Sig → List Deps → List ℕ → Type 0
+AreStarted sigs rows lists numbers = AreStartedTo sigs rows lists numbers (length numbers)
+
+-- other signatures say the same as these where the modules of some numbers reach, each by its dependency list
+abbrev pub AgreeForAll : Sigs → List Deps → List ℕ → Sigs → Type 0
+AgreeForAll sigs lists numbers others = (i x : ℕ) (deps : Deps) → slice_get numbers i ≡ Some x → slice_get lists x ≡ Some deps → Agree sigs deps others

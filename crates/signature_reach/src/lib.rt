@@ -1,4 +1,4 @@
-//! The merged signatures of the modules that a module reaches, looked for along names.
+//! The merged signatures of the modules that others reach, looked for along names.
 #![tactic(auto)]
 
 mod looking;

@@ -1,13 +1,12 @@
 //! The search among all modules.
-ghost use Rattle.std.specs.Prelude.{◌≡◌, IfOk, OnOk, length};
+ghost use Rattle.std.specs.Prelude.{◌≡◌, ◌<◌, All, IfOk, OnOk, length};
 ghost use Rattle.flow_values.specs.Path.{IsRising};
 ghost use Rattle.check_values.specs.Roots.{paths_of_rows};
 ghost use Rattle.check_values.specs.Rows.{row_at};
-ghost use Rattle.errors_by_reach.specs.Law.{Agree};
-ghost use Rattle.signature_reach.specs.Along.{signed, Knows, Grows, IsClosed};
+ghost use Rattle.signature_reach.specs.Along.{signed, Knows, Grows, IsClosed, AgreeForAll};
 
-use crate::looking::look_at_all;
-use crate::starts::{found_paths, named_at};
+use crate::looking::{look_at_all, look_at_starts};
+use crate::starts::named_at;
 use check_values::{Deps, RootRow, Sig};
 use flow_values::{List, NoMemory, Path, Shared};
 use std::alloc::Global;
@@ -36,9 +35,9 @@ fn follow(
     Ok(())
 }
 
-/// The merged signatures of the modules that a module with a dependency list reaches: those that its specifiers find, and with each of
-/// them those that its signature names. `signatures` has one for each of all modules, whose paths rise. It looks at no other signature
-/// than those, and finds each by halving.
+/// The merged signatures of the modules that the modules of some numbers reach: those that their specifiers find, and with each of them
+/// those that its signature names. `signatures` has one for each of all modules, whose paths rise, and `lists` the dependency list of each
+/// number. It looks at no other signature than those, at each of them once, and finds it by halving.
 ///
 /// # Errors
 ///
@@ -47,17 +46,19 @@ pub fn reached_signatures(
     alloc: Global,
     modules: &[RootRow],
     signatures: &[Shared<Sig>],
-    deps: &Deps,
+    lists: &[Shared<Deps>],
+    numbers: &[u32],
 ) -> Result<List<(Path, Shared<Sig>)>, NoMemory>
     requires rising { IsRising (paths_of_rows modules.now) }
     requires many { length signatures.now ≡ length modules.now }
-    ensures { IfOk result (λ some. Agree (row_at (signed modules.now signatures.now)) deps.now (row_at some)) }
+    requires within { All (λ x. x < length lists.now) numbers.now }
+    ensures { IfOk result (λ some. AgreeForAll (row_at (signed modules.now signatures.now)) lists.now numbers.now (row_at some)) }
 {
-    let starts = found_paths(alloc, deps.rows.as_slice())?;
     let mut seen = BTreeSet::new(alloc);
     let mut found = List::new(alloc);
-    let paths = starts.as_slice();
-    look_at_all(modules, signatures, paths, &mut seen, &mut found)?;
+    look_at_starts(
+        alloc, modules, signatures, lists, numbers, &mut seen, &mut found,
+    )?;
     follow(alloc, modules, signatures, &mut seen, &mut found)?;
     Ok(found)
 }

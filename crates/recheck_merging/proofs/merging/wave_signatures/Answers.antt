@@ -26,7 +26,7 @@ returns-in_err-shared-clause-work g c =
 pub returns-clause-signatures : goal.returns-clause-signatures
 returns-clause-signatures g c =
     let asked : c.as_slice-asked.result.now ≡ c.in_ok-jobs.jobs = search rules in
-    let told = wave_signed c.a_job_tells_the_program.ensures c.args.sources.now c.args.plan.now c.args.wave c.args.slots.now c.as_slice-asked.result.now c.in_ok-told.told c.requires.sources c.requires.plan c.requires.wave c.requires.merged
+    let told = wave_signed c.a_job_tells_the_program.ensures c.asked_is_enough.ensures.jobs c.args.sources.now c.args.plan.now c.args.wave c.args.slots.now c.as_slice-asked.result.now c.in_ok-told.told c.requires.sources c.requires.plan c.requires.wave c.requires.merged
     (ap (map job_view) asked ∙ c.in_ok-jobs.ensures.jobs) c.in_ok-told.ensures.signatures in
     let wave = get_or c.args.plan.now.waves c.args.wave [] in
     zip_inside (AreSigsOf c.args.sources.now c.args.plan.now) _ wave c.in_ok-shared.shared.items (subst (λ (all : List (List Sig)). AllZip (AreSigsOf c.args.sources.now c.args.plan.now) wave all) (sym c.in_ok-shared.ensures) told)

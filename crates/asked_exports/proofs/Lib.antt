@@ -1,0 +1,5 @@
+mod Enough
+mod Cuts
+mod Found
+mod Gathered
+mod Outside
