@@ -6,6 +6,7 @@ use Rattle.std.proofs.lemmas.List.{length-take, length-drop}
 use Rattle.heap_core.proofs.Lists.{get_index}
 use Rattle.recheck_merging.specs.check_job.proofs.Fronted.{fronted_errors}
 use Rattle.recheck_merging.specs.check_job.specs.declared.job.CheckJob.{CheckJob}
+use Rattle.check_values.specs.Rows.{Rows}
 use Rattle.check_values.specs.declared.faults.Errs.{Errs}
 use Rattle.check_values.specs.declared.signatures.Sig.{Sig}
 use Rattle.recheck_merging.specs.check_phases.specs.Checking.{IsJobOf, batch_after}
@@ -14,8 +15,8 @@ use Rattle.recheck_merging.specs.check_phases.specs.declared.merging.Sources.{So
 use Rattle.recheck_merging.specs.check_phases.proofs.Checks.{job_errors, job_fronted}
 use Rattle.recheck_merging.specs.check_phases.proofs.Lists.{one_value, value_at, place_at, take_whole, within_there, zip_more}
 use Rattle.recheck_merging.proofs.Mapped.{all_has, has_all}
-use Rattle.reach_law.specs.Law.{JobsAreRight}
-use Rattle.recheck_checking.specs.Checking.{rows_by, IsCheckedBy, AreCheckedTo}
+use Rattle.reach_law.specs.Law.{KeyLaw}
+use Rattle.recheck_checking.specs.Checking.{rows_by, TellsAll, IsCheckedBy, AreCheckedTo}
 use Rattle.recheck_checking.specs.Keeping.{put_all}
 use Rattle.recheck_checking.proofs.Batches.{number_low, more_checked}
 use Rattle.recheck_merging.specs.worker_jobs.specs.Checking.{HasErrors}
@@ -27,10 +28,10 @@ pub jobs_more : (s : Sources) (sigs : List Sig) (numbers : List ℕ) (i : ℕ) (
 jobs_more s sigs numbers i job old new low so_far is pushed =
     subst (λ (l : List CheckJob). AllZip (IsJobOf s (rows_by s sigs)) (take (i + 1) numbers) l) (sym pushed) (zip_more (IsJobOf s (rows_by s sigs)) numbers old i (get_or numbers i 0) job so_far (place_at numbers i 0 low) is)
 
-module _ (right : JobsAreRight) (s : Sources) (sigs : List Sig) (sources : AreSources s) where
+module _ (key : KeyLaw) (s : Sources) (sigs : List Sig) (sources : AreSources s) where
   -- the errors of a job are those of its number
   job_checked : (x : ℕ) (job : CheckJob) (errs : Errs) → IsJobOf s (rows_by s sigs) x job → HasErrors job errs → IsCheckedBy s sigs x errs
-  job_checked x job errs is has = job_errors right s (rows_by s sigs) x job errs errs is (fronted_errors job errs.faults (job_fronted s (rows_by s sigs) x job sources is) has) refl
+  job_checked x job errs is has = job_errors key s (rows_by s sigs) x job errs errs is (fronted_errors job errs.faults (job_fronted s (rows_by s sigs) x job sources is) has) refl
 
   pub jobs_checked : (numbers : List ℕ) (jobs : List CheckJob) (errors : List Errs) → AllZip (IsJobOf s (rows_by s sigs)) numbers jobs → AllZip HasErrors jobs errors → AllZip (IsCheckedBy s sigs) numbers errors
   jobs_checked [] [] [] are have = tt
@@ -105,6 +106,9 @@ module _ (s : Sources) (sigs : List Sig) (checked : List ℕ) where
         from_drop [] (suc d) k x at = absurd (let z : None ≡ Some x = at in cc)
         from_drop (y ∷ xs) zero k x at = let n : k ≡ 0 + k = omega arith in subst (λ (j : ℕ). slice_get (y ∷ xs) j ≡ Some x) n at
         from_drop (y ∷ xs) (suc d) k x at = let n : suc (d + k) ≡ suc d + k = omega arith in subst (λ (j : ℕ). slice_get (y ∷ xs) j ≡ Some x) n (from_drop xs d k x at)
+
+    pub batch_told : (rows : Rows Sig) → TellsAll s sigs checked rows → TellsAll s sigs numbers rows
+    batch_told rows told k x deps at there = told (d + k) x deps (stand k x at) there
 
     pub batch_within : All (λ x. x < length s.root.modules) checked → All (λ x. x < length s.root.modules) numbers
     batch_within within = has_all (λ (x : ℕ). x < length s.root.modules) numbers (λ x has. all_has (λ (y : ℕ). y < length s.root.modules) checked within x (d + has.0, stand has.0 x has.1))

@@ -1,6 +1,6 @@
 -- How modules are checked, batch by batch, beside errors that are kept.
 use Rattle.std.specs.Prelude.{◌≡◌, ◌<◌, ℕ, List, map, length, slice_get, Option, Some}
-use Rattle.check_values.specs.Rows.{Rows}
+use Rattle.check_values.specs.Rows.{Rows, row_at}
 use Rattle.check_values.specs.declared.faults.Errs.{Errs}
 use Rattle.check_values.specs.declared.signatures.Sig.{Sig}
 use Rattle.edited_root.specs.program_check.specs.Full.{beside}
@@ -9,11 +9,16 @@ use Rattle.recheck_merging.specs.check_phases.specs.Phases.{AreChecked, IsChecke
 use Rattle.recheck_merging.specs.check_phases.specs.Sourced.{program_in, AreSources}
 use Rattle.recheck_merging.specs.check_phases.specs.Whole.{sigs_by}
 use Rattle.recheck_merging.specs.check_phases.specs.declared.merging.Sources.{Sources}
+use Rattle.signature_reach.specs.Along.{AgreeForAll}
 use Rattle.recheck_checking.specs.Keeping.{IsFilled, AreFilled}
 
 -- the signatures of all modules by their paths
 abbrev pub rows_by : Sources → List Sig → Rows Sig
 rows_by s sigs = beside (program_in s) sigs
+
+-- some rows of signatures say what those of all modules do, where each module of some numbers reaches
+abbrev pub TellsAll : Sources → List Sig → List ℕ → Rows Sig → Type 0
+TellsAll s sigs checked rows = AgreeForAll (sigs_by s sigs) s.lists.items checked (row_at rows)
 
 -- these are the errors of the module of a number, by these signatures of all modules
 abbrev pub IsCheckedBy : Sources → List Sig → ℕ → Errs → Type 0

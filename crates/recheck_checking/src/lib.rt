@@ -11,3 +11,4 @@ pub use edited_root;
 pub use edited_root::{affected_law, payloads};
 pub use keeping::{ErrorSlots, kept_errors, whole_errors};
 pub use laws::{all_are_checked, checks_see_sources, kept_errors_are_right, made_is_full};
+pub use reading::{SharedTable, table_for};

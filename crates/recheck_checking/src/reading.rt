@@ -1,16 +1,17 @@
 //! The merged signatures that the checks of modules read.
-ghost use Rattle.std.specs.Prelude.{◌≡◌, IfOk, length};
-ghost use Rattle.flow_values.specs.Path.{IsRising};
-ghost use Rattle.check_values.specs.Rows.{row_at};
-ghost use Rattle.errors_by_reach.specs.Law.{Agree};
-ghost use Rattle.recheck_merging.specs.check_phases.specs.Sourced.{paths_in};
-ghost use Rattle.recheck_merging.specs.check_phases.specs.Whole.{sigs_by};
+ghost use Rattle.std.specs.Prelude.{◌≡◌, ◌<◌, All, IfOk, length};
+ghost use Rattle.recheck_merging.specs.check_phases.specs.Sourced.{AreSources};
+ghost use Rattle.recheck_checking.specs.Checking.{TellsAll};
 
-use check_values::{Deps, RootRow, Sig};
-use flow_values::{List, NoMemory, Path, Shared};
+use check_values::{RootRow, Sig};
+use flow_values::{NoMemory, Shared};
+use recheck_merging::check_job::signature_table::SignatureTable;
 use recheck_merging::check_phases::Sources;
 use signature_reach::reached_signatures;
 use std::alloc::Global;
+
+/// A table of merged signatures that checks share.
+pub type SharedTable = Shared<SignatureTable>;
 
 /// The modules, with their rows.
 pub(crate) fn modules_of(sources: &Sources) -> &[RootRow]
@@ -19,19 +20,26 @@ pub(crate) fn modules_of(sources: &Sources) -> &[RootRow]
     sources.root.get().modules.as_slice()
 }
 
-/// The merged signatures that the check of a module with this dependency list may read: those of the modules that it reaches.
-/// `signatures` has one for each module of `sources`, in order.
-pub(crate) fn signatures_for(
+/// The one table of merged signatures that the checks of some modules share: of those that they reach. `checked` has the numbers of the
+/// modules, and `signatures` one for each module of `sources`, in order. It looks at each signature once, however many modules reach it.
+///
+/// # Errors
+///
+/// `NoMemory` where memory is refused.
+pub fn table_for(
     alloc: Global,
     sources: &Sources,
     signatures: &[Shared<Sig>],
-    deps: &Deps,
-) -> Result<List<(Path, Shared<Sig>)>, NoMemory>
-    requires rising { IsRising (paths_in sources.now) }
+    checked: &[u32],
+) -> Result<SharedTable, NoMemory>
+    requires sources { AreSources sources.now }
+    requires within { All (λ x. x < length sources.now.root.modules) checked.now }
     requires many { length signatures.now ≡ length sources.now.root.modules }
-    ensures { IfOk result (λ some. Agree (sigs_by sources.now signatures.now) deps.now (row_at some)) }
+    ensures { IfOk result (λ table. TellsAll sources.now signatures.now checked.now table.rows) }
 {
     let modules = modules_of(sources);
-    let some = reached_signatures(alloc, modules, signatures, deps)?;
-    Ok(some)
+    let lists = sources.lists.as_slice();
+    let rows = reached_signatures(alloc, modules, signatures, lists, checked)?;
+    let table = SignatureTable::build(alloc, rows)?;
+    Shared::new(alloc, table)
 }

@@ -6,8 +6,12 @@ use Rattle.recheck_merging.specs.work_totals.specs.Totals.{total}
 use Rattle.recheck_merging.specs.work_totals.proofs.Totals.{done_anyhow}
 use Rattle.recheck_merging.specs.check_phases.proofs.Lists.{zip_length}
 use Rattle.recheck_checking.specs.Checking.{IsCheckedBy}
-use Rattle.recheck_checking.proofs.Puts.{many_batch, batch_within, batch_slots, batch_checked}
+use Rattle.recheck_checking.proofs.Puts.{many_batch, batch_told, batch_within, batch_slots, batch_checked}
 use Rattle.recheck_checking.proofs.checking.check_batch.Goals as goal
+
+pub errors_of-requires-clause-told : goal.errors_of-requires-clause-told
+errors_of-requires-clause-told g c κs within =
+    batch_told c.args.sources.now c.args.signatures.now c.args.checked.now c.args.done c.min-end.result (slice_range c.args.checked.now c.args.done c.min-end.result) c.min-end.ensures refl c.requires.begun c.args.table.now.rows c.requires.told
 
 pub errors_of-requires-clause-within : goal.errors_of-requires-clause-within
 errors_of-requires-clause-within g c κs within = batch_within c.args.sources.now c.args.signatures.now c.args.checked.now c.args.done c.min-end.result (slice_range c.args.checked.now c.args.done c.min-end.result) c.min-end.ensures refl c.requires.begun c.requires.within

@@ -22,7 +22,7 @@ returns-in_err-errors-clause-work g c =
 pub returns-clause-errors : goal.returns-clause-errors
 returns-clause-errors g c =
     IfOk-weaker c.shared_all.result _ _ (λ all shared. subst (λ (l : List Errs). AllZip (IsCheckedBy c.args.sources.now c.args.signatures.now) c.args.numbers.now l) (sym shared)
-    (jobs_checked c.cut_is_right.ensures.jobs c.args.sources.now c.args.signatures.now c.requires.sources c.args.numbers.now c.in_ok-jobs.jobs.items c.in_ok-errors.errors c.in_ok-jobs.ensures
+    (jobs_checked c.key_law.ensures.errors c.args.sources.now c.args.signatures.now c.requires.sources c.args.numbers.now c.in_ok-jobs.jobs.items c.in_ok-errors.errors c.in_ok-jobs.ensures
     (subst (λ (l : List CheckJob). AllZip HasErrors l c.in_ok-errors.errors) c.as_slice.ensures.value c.in_ok-errors.ensures.errors))) c.shared_all.ensures
 
 pub returns-clause-work : goal.returns-clause-work
