@@ -32,7 +32,6 @@ fn shared(seen: Option<&FlowType>) -> Result<Option<FlowType>, NoMemory>
 }
 
 // The type at a byte place of a source with a tree.
-#[tactic(auto, using(crate::proofs::Reading::type_told))]
 fn tree_type_at(
     alloc: Global,
     job: &CheckJob,
