@@ -1,4 +1,4 @@
-use Rattle.std.proofs.Common.{length, ap, refl, ◌∙◌, arith}
+use Rattle.std.proofs.Common.{length, ap, refl, arith}
 use Rattle.std.proofs.lemmas.Result.{err_from_is_err_and}
 use Rattle.recheck_run.proofs.Goes.{batch_goes_on, batch_failed_on, numbers_low, table_tells, checked_begun, checked_more}
 use Rattle.recheck_run.proofs.stepping.check_more.Goals as goal
