@@ -5,6 +5,7 @@ use Rattle.committed_results.specs.full_law.specs.Law.{EachFull}
 use Rattle.check_values.specs.declared.faults.Errs.{Errs}
 use Rattle.check_values.specs.declared.root.Root.{Root}
 use Rattle.check_values.specs.declared.signatures.Sig.{Sig}
+use Rattle.recheck_reach.specs.recheck_merging.specs.check_job.specs.signature_table.specs.declared.table.SignatureTable.{SignatureTable}
 use Rattle.graph_search.specs.Cycles.{Has, IsOn}
 use Rattle.recheck_reach.specs.affected_sizes.specs.Polls.{AreImports}
 use Rattle.recheck_plan.specs.Affected.{AreExactly}
@@ -22,7 +23,7 @@ use Rattle.recheck_checking.specs.Right.{KeptErrorsAreRight}
 use Rattle.recheck_run.specs.Stages.{IsBase, IsMerging, AreAffected, KeepsErrors, IsChecking}
 use Rattle.recheck_run.specs.declared.stages.Base.{Base}
 use Rattle.recheck_run.specs.declared.stages.Merging.{Merging}
-use Rattle.recheck_checking.specs.Checking.{AreCheckedTo}
+use Rattle.recheck_checking.specs.Checking.{TellsAll, AreCheckedTo}
 use Rattle.recheck_run.proofs.Planned.{places_low, signatures_merged, many_signatures, many_from, outside_same, plan_within, plan_leads, moved_edges, affected, errors_right, errors_kept}
 
 module _ (b : Base) (m : Merging) (base : IsBase b) (is : IsMerging b m) (past : length m.plan.waves ≤ m.wave) (law : DiffersAreTouched) (make : WavesMakeAll) (sigs : List Sig) (same : map Some sigs ≡ m.slots.items) (all : List Sig) (is_all : all ≡ sigs) where
@@ -79,15 +80,18 @@ module _ (b : Base) (m : Merging) (base : IsBase b) (is : IsMerging b m) (past :
         pub affected_here : AreAffected b m.listed.sources checked
         affected_here = are_affected
 
+        pub checked_low : (numbers : List ℕ) → numbers ≡ checked → All (λ x. x < length m.listed.sources.root.modules) numbers
+        checked_low numbers is_numbers = subst (All (λ (x : ℕ). x < length m.listed.sources.root.modules)) (sym is_numbers) are_affected.within
+
         pub numbers_low : (numbers : List ℕ) → numbers ≡ checked → All (λ x. x < length from) numbers
         numbers_low numbers is_numbers =
             let many : length from ≡ length m.listed.sources.root.modules = from_all ∙ many_all in
             subst (All (λ (x : ℕ). x < length from)) (sym is_numbers) (subst (λ (n : ℕ). All (λ x. x < n) checked) (sym many) are_affected.within)
 
-        pub checking_is : EachFull → MadeIsFull → KeptErrorsAreRight → (relisted moved_vec : Vec Bool) (signatures : Vec Sig) (numbers : List ℕ) (old : List Errs) (slots : Vec (Option Errs)) → relisted ≡ m.listed.relisted → moved_vec.items ≡ moved → signatures.items ≡ sigs
-            → numbers ≡ checked → old ≡ b.was.errors.items → errors.AreKept old from numbers slots.items
-            → IsChecking b (record { sources = m.listed.sources; relisted = relisted; signatures = signatures; moved = moved_vec; checked = checked; done = 0; errors = slots })
-        checking_is each full right relisted moved_vec signatures numbers old slots is_relisted is_moved is_signatures is_numbers is_old kept =
+        pub checking_is : EachFull → MadeIsFull → KeptErrorsAreRight → (relisted moved_vec : Vec Bool) (signatures : Vec Sig) (table : SignatureTable) (numbers : List ℕ) (old : List Errs) (slots : Vec (Option Errs)) → relisted ≡ m.listed.relisted → moved_vec.items ≡ moved → signatures.items ≡ sigs
+            → numbers ≡ checked → old ≡ b.was.errors.items → errors.AreKept old from numbers slots.items → TellsAll m.listed.sources all numbers table.rows
+            → IsChecking b (record { sources = m.listed.sources; relisted = relisted; signatures = signatures; moved = moved_vec; table = table; checked = checked; done = 0; errors = slots })
+        checking_is each full right relisted moved_vec signatures table numbers old slots is_relisted is_moved is_signatures is_numbers is_old kept told =
             let kept_own : errors.AreKept b.was.errors.items b.from.items checked slots.items =
             subst (λ (o : List Errs). errors.AreKept o b.from.items checked slots.items) is_old
             (subst (λ (f : List (Option ℕ)). errors.AreKept old f checked slots.items) is_from (subst (λ (l : List ℕ). errors.AreKept old from l slots.items) is_numbers kept)) in
@@ -103,6 +107,7 @@ module _ (b : Base) (m : Merging) (base : IsBase b) (is : IsMerging b m) (past :
               merged = subst (AreMerged (view_in m.listed.sources) (program_in m.listed.sources)) own merged_all;
               moved = subst (λ (l : List Bool). TellsOthers b.was.signatures.items b.from.items signatures.items l) (sym is_moved) (subst (λ (l : List Sig). TellsOthers b.was.signatures.items b.from.items l moved) own tells_here);
               to_check = are_affected;
+              told = subst (λ (l : List Sig). TellsAll m.listed.sources l checked table.rows) own (subst (λ (l : List ℕ). TellsAll m.listed.sources all l table.rows) is_numbers told);
               kept = subst (λ (l : List Sig). (x : ℕ) → x < length m.listed.sources.root.modules → ¬ (Has checked x) → KeepsErrors b m.listed.sources l x) own (errors_kept b m base is past law make all mine checked are_affected slots.items kept_own right_errors);
               errors = subst (λ (l : List Sig). AreCheckedTo m.listed.sources l checked 0 slots.items) own right_errors;
               low = omega arith;

@@ -12,6 +12,7 @@ use Rattle.recheck_checking.specs.affected_law.specs.Affected.{Differs}
 use Rattle.recheck_reach.specs.analyst.specs.Work.{Work, work_of, fronts_of, merging, checks_of, done, IsWithin, IsCounted}
 use Rattle.recheck_checking.specs.payloads.specs.State.{program_of}
 use Rattle.recheck_reach.specs.path_numbers.specs.Sets.{paths_at, ArePlaces}
+use Rattle.check_values.specs.Rows.{Rows}
 use Rattle.check_values.specs.declared.faults.Errs.{Errs}
 use Rattle.check_values.specs.declared.signatures.Sig.{Sig}
 use Rattle.check_values.specs.declared.root.Root.{Root}
@@ -23,7 +24,7 @@ use Rattle.recheck_reach.specs.recheck_merging.specs.Affected.{PlansAreOfMerged}
 use Rattle.recheck_reach.specs.recheck_merging.specs.Plans.{members_of, members_in, MembersAddUp, IsPlanOf}
 use Rattle.recheck_reach.specs.recheck_merging.specs.declared.planning.MergePlan.{MergePlan}
 use Rattle.recheck_reach.specs.Law.{ParsedAreFresh, SeenAsChecked}
-use Rattle.recheck_checking.specs.Checking.{AreCheckedTo}
+use Rattle.recheck_checking.specs.Checking.{TellsAll, AreCheckedTo}
 use Rattle.recheck_run.specs.Extent.{Extent, Affects}
 use Rattle.recheck_run.specs.Recheck.{whole_work}
 use Rattle.recheck_run.specs.Stages.{old_of, IsBase, IsMerging, AreAffected}
@@ -226,6 +227,9 @@ module _ (b : Base) (c : Checking) where
 -- the numbers as the code has them
 pub numbers_low : (s : Sources) (numbers checked : List ℕ) → numbers ≡ checked → All (λ x. x < length s.root.modules) checked → All (λ x. x < length s.root.modules) numbers
 numbers_low s numbers checked same low = subst (All (λ (x : ℕ). x < length s.root.modules)) (sym same) low
+
+pub table_tells : (s : Sources) (sigs view : List Sig) (numbers checked : List ℕ) (rows : Rows Sig) → view ≡ sigs → numbers ≡ checked → TellsAll s sigs checked rows → TellsAll s view numbers rows
+table_tells s sigs view numbers checked rows seen same told = subst (λ (l : List Sig). TellsAll s l numbers rows) (sym seen) (subst (λ (l : List ℕ). TellsAll s sigs l rows) (sym same) told)
 
 pub checked_begun : (s : Sources) (sigs view : List Sig) (numbers checked : List ℕ) (begun : ℕ) (slots : List (Option Errs)) → view ≡ sigs → numbers ≡ checked → AreCheckedTo s sigs checked begun slots → AreCheckedTo s view numbers begun slots
 checked_begun s sigs view numbers checked begun slots seen same are = subst (λ (l : List Sig). AreCheckedTo s l numbers begun slots) (sym seen) (subst (λ (l : List ℕ). AreCheckedTo s sigs l begun slots) (sym same) are)

@@ -26,7 +26,7 @@ use Rattle.recheck_reach.specs.recheck_merging.specs.Merging.{AreMergedTo}
 use Rattle.committed_results.specs.recheck_staging.specs.Staging.{state_of, HasState}
 use Rattle.recheck_reach.specs.recheck_sources.specs.Parts.{AreKeptBy, TellsOthers}
 use Rattle.recheck_reach.specs.recheck_sources.specs.Changed.{IsChanged}
-use Rattle.recheck_checking.specs.Checking.{IsCheckedBy, AreCheckedTo}
+use Rattle.recheck_checking.specs.Checking.{TellsAll, IsCheckedBy, AreCheckedTo}
 use Rattle.recheck_run.specs.declared.stages.Base.{Base}
 use Rattle.recheck_run.specs.declared.stages.Merging.{Merging}
 use Rattle.recheck_run.specs.declared.stages.Checking.{Checking}
@@ -92,6 +92,7 @@ pub record IsChecking (b : Base) (c : Checking) : Type 0 where
   pub merged : AreMerged (view_in c.sources) (program_in c.sources) c.signatures.items
   pub moved : TellsOthers b.was.signatures.items b.from.items c.signatures.items c.moved.items
   pub to_check : AreAffected b c.sources c.checked
+  pub told : TellsAll c.sources c.signatures.items c.checked c.table.rows
   pub kept : (x : ℕ) → x < length c.sources.root.modules → ¬ (Has c.checked x) → KeepsErrors b c.sources c.signatures.items x
   pub errors : AreCheckedTo c.sources c.signatures.items c.checked c.done c.errors.items
   pub low : c.done ≤ length c.checked

@@ -15,7 +15,7 @@ use crate::laws::{error_laws, reach_laws};
 use crate::stages::{Base, Checking, Merging};
 use check_values::Sig;
 use flow_values::{List, NoMemory, Shared};
-use recheck_checking::kept_errors;
+use recheck_checking::{kept_errors, table_for};
 use recheck_reach::recheck_merging::whole_signatures;
 use recheck_reach::recheck_sources::Listed;
 use recheck_reach::{any_moved, checked_modules, moved_signatures};
@@ -52,7 +52,7 @@ fn to_check(
     Ok(all)
 }
 
-/// All signatures are merged, and it is told what is to be checked.
+/// All signatures are merged, it is told what is to be checked, and those that the checks read are put into one table.
 ///
 /// # Errors
 ///
@@ -92,6 +92,7 @@ pub(crate) fn begin_checks(
     let old = base.was.errors.as_slice();
     let numbers = checked.as_slice();
     let errors = kept_errors(alloc, old, from, numbers)?;
+    let table = table_for(alloc, &listed.sources, all, numbers)?;
     let Listed {
         sources,
         relisted,
@@ -103,6 +104,7 @@ pub(crate) fn begin_checks(
         relisted,
         signatures,
         moved,
+        table,
         checked,
         done: 0,
         errors,

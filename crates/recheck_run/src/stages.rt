@@ -2,7 +2,7 @@
 use check_values::{Root, Sig};
 use committed_results::source_front::Parse;
 use flow_values::{List, Shared};
-use recheck_checking::ErrorSlots;
+use recheck_checking::{ErrorSlots, SharedTable};
 use recheck_reach::check_phases::{Made, Sources};
 use recheck_reach::recheck_merging::{MergePlan, Slots};
 use recheck_reach::recheck_sources::Listed;
@@ -48,6 +48,8 @@ pub(crate) struct Checking {
     pub signatures: Vec<Shared<Sig>>,
     /// For each whether its merged signature is new or differs.
     pub moved: Vec<bool>,
+    /// The table of the signatures that the modules that are to be checked reach.
+    pub table: SharedTable,
     /// The numbers of the modules that are to be checked, rising.
     pub checked: List<u32>,
     /// How many are checked.

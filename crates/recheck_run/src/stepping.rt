@@ -118,6 +118,7 @@ fn check_more<R: Threads + Wait + Sync, A: Analyst + Send>(
         analysts,
         &checking.sources,
         signatures,
+        &checking.table,
         numbers,
         done,
         &mut checking.errors,

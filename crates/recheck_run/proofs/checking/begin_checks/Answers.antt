@@ -1,7 +1,7 @@
 use Rattle.std.proofs.Common.{refl}
 use Rattle.recheck_run.proofs.Goes.{checks_begin}
 use Rattle.recheck_run.proofs.Planned.{filled}
-use Rattle.recheck_run.proofs.Begun.{few_modules, merged_all, changed_low, from_all, plan_low, leading_low, rest_here, many_moved, leads_here, edges_here, affected_here, numbers_low, checking_is}
+use Rattle.recheck_run.proofs.Begun.{few_modules, merged_all, changed_low, from_all, plan_low, leading_low, rest_here, many_moved, leads_here, edges_here, affected_here, checked_low, numbers_low, many_all, checking_is}
 use Rattle.recheck_run.proofs.checking.begin_checks.Goals as goal
 
 pub whole_signatures-requires : goal.whole_signatures-requires
@@ -62,12 +62,22 @@ kept_errors-requires c = record {
       c.in_ok-checked.checked c.in_ok-checked.ensures c.as_slice-numbers.result.now c.as_slice-numbers.ensures;
 }
 
+pub table_for-requires-clause-within : goal.table_for-requires-clause-within
+table_for-requires-clause-within c =
+    checked_low c.args.base.now c.args.merging c.requires.base c.requires.merging c.requires.all c.reach_laws.ensures.touched c.waves_make_all.ensures c.in_ok-signatures.signatures.items c.in_ok-signatures.ensures c.as_slice-all.result.now c.as_slice-all.ensures.value
+    c.as_slice-from.result.now c.as_slice-from.ensures.value c.as_slice-was.result.now c.as_slice-was.ensures.value c.in_ok-moved.moved.items c.in_ok-moved.ensures c.reach_laws.ensures.checked c.as_slice-flags.result.now c.as_slice-flags.ensures.value
+    c.in_ok-checked.checked c.in_ok-checked.ensures c.as_slice-numbers.result.now c.as_slice-numbers.ensures
+
+pub table_for-requires-clause-many : goal.table_for-requires-clause-many
+table_for-requires-clause-many c =
+    many_all c.args.base.now c.args.merging c.requires.base c.requires.merging c.requires.all c.reach_laws.ensures.touched c.waves_make_all.ensures c.in_ok-signatures.signatures.items c.in_ok-signatures.ensures c.as_slice-all.result.now c.as_slice-all.ensures.value
+
 pub returns-clause-checking : goal.returns-clause-checking
 returns-clause-checking c =
     checking_is c.args.base.now c.args.merging c.requires.base c.requires.merging c.requires.all c.reach_laws.ensures.touched c.waves_make_all.ensures c.in_ok-signatures.signatures.items c.in_ok-signatures.ensures c.as_slice-all.result.now c.as_slice-all.ensures.value
     c.as_slice-from.result.now c.as_slice-from.ensures.value c.as_slice-was.result.now c.as_slice-was.ensures.value c.in_ok-moved.moved.items c.in_ok-moved.ensures c.reach_laws.ensures.checked c.as_slice-flags.result.now c.as_slice-flags.ensures.value
-    c.in_ok-checked.checked c.in_ok-checked.ensures c.each_full.ensures c.error_laws.ensures.full c.error_laws.ensures.kept _ _ _ c.as_slice-numbers.result.now c.as_slice-old.result.now _ refl refl refl
-    c.as_slice-numbers.ensures c.as_slice-old.ensures.value c.in_ok-errors.ensures
+    c.in_ok-checked.checked c.in_ok-checked.ensures c.each_full.ensures c.error_laws.ensures.full c.error_laws.ensures.kept _ _ _ _ c.as_slice-numbers.result.now c.as_slice-old.result.now _ refl refl refl
+    c.as_slice-numbers.ensures c.as_slice-old.ensures.value c.in_ok-errors.ensures c.in_ok-table.ensures
 
 pub returns-clause-also : goal.returns-clause-also
 returns-clause-also c =
@@ -77,6 +87,7 @@ returns-clause-also c =
       relisted = c.args.merging.listed.relisted;
       signatures = c.in_ok-signatures.signatures;
       moved = c.in_ok-moved.moved;
+      table = c.in_ok-table.table;
       checked = c.in_ok-checked.checked;
       done = 0;
       errors = c.in_ok-errors.errors;

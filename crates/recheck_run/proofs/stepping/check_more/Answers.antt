@@ -1,11 +1,10 @@
-use Rattle.std.proofs.Common.{length, ap, refl, ◌∙◌, arith}
+use Rattle.std.proofs.Common.{length, ap, refl, arith}
 use Rattle.std.proofs.lemmas.Result.{err_from_is_err_and}
-use Rattle.recheck_reach.specs.check_phases.proofs.Waves.{many_merged}
-use Rattle.recheck_run.proofs.Goes.{batch_goes_on, batch_failed_on, numbers_low, checked_begun, checked_more}
+use Rattle.recheck_run.proofs.Goes.{batch_goes_on, batch_failed_on, numbers_low, table_tells, checked_begun, checked_more}
 use Rattle.recheck_run.proofs.stepping.check_more.Goals as goal
 
-pub check_batch-requires-clause-many : goal.check_batch-requires-clause-many
-check_batch-requires-clause-many g c κs within = ap length c.as_slice-signatures.ensures.value ∙ many_merged c.args.checking.sources c.args.checking.signatures.items c.requires.checking.merged
+pub check_batch-requires-clause-told : goal.check_batch-requires-clause-told
+check_batch-requires-clause-told g c κs within = table_tells c.args.checking.sources c.args.checking.signatures.items _ _ c.args.checking.checked c.args.checking.table.rows c.as_slice-signatures.ensures.value c.as_slice-numbers.ensures c.requires.checking.told
 
 pub check_batch-requires-clause-within : goal.check_batch-requires-clause-within
 check_batch-requires-clause-within g c κs within = numbers_low c.args.checking.sources _ c.args.checking.checked c.as_slice-numbers.ensures c.requires.checking.to_check.within
@@ -29,6 +28,7 @@ returns-clause-holds g c =
       merged = is.merged;
       moved = is.moved;
       to_check = is.to_check;
+      told = is.told;
       kept = is.kept;
       errors = checked_more c.args.checking.sources c.args.checking.signatures.items c.as_slice-signatures.result.now c.as_slice-numbers.result.now c.args.checking.checked c.args.checking.done c.min-end.result _ c.as_slice-signatures.ensures.value c.as_slice-numbers.ensures (omega (arith, a)) c.in_ok-check_batch.ensures.checked;
       low = omega (arith, low, a, v);
@@ -43,6 +43,7 @@ returns-clause-steps g c =
       relisted = c.args.checking.relisted;
       signatures = c.args.checking.signatures;
       moved = c.args.checking.moved;
+      table = c.args.checking.table;
       checked = c.args.checking.checked;
       done = c.min-end.result;
       errors = c.check_batch.new.slots;
