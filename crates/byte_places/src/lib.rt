@@ -3,4 +3,4 @@
 
 mod places;
 
-pub use places::byte_place;
+pub use places::{byte_place, column_behind, line_behind};

@@ -4,16 +4,16 @@ ghost use Rattle.byte_places.specs.Places.{StandsAt, line_behind, column_behind}
 
 use source_characters::begins_char;
 
-// The line behind a byte.
-fn line_behind(line: u64, byte: u8) -> u64
+/// The line behind a byte of a text.
+pub fn line_behind(line: u64, byte: u8) -> u64
     requires { line < 2 ^ 64 - 1 }
     ensures { result ≡ line_behind line byte }
 {
     if byte == b'\n' { line + 1 } else { line }
 }
 
-// The column behind a byte.
-fn column_behind(column: u64, byte: u8) -> u64
+/// The column behind a byte of a text: columns count characters, by the bytes that begin them.
+pub fn column_behind(column: u64, byte: u8) -> u64
     requires { column < 2 ^ 64 - 1 }
     ensures { result ≡ column_behind column byte }
 {

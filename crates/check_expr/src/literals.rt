@@ -23,18 +23,9 @@ use literal_reads::{Candidate, Elements, Entries, Entry};
 use part_steps::next;
 use place_tests::literal_type;
 use std::alloc::Global;
+use tree_typing::key_text;
 use type_terms::widen;
-use type_tree::{Key, KeyForm};
 use type_values::{FlowProp, FlowType, Variance};
-
-fn key_text(key: &Key) -> Result<Text, NoMemory>
-    ensures { IfOk result (λ name. name ≡ key_text (key_view key.now)) }
-{
-    match &key.form {
-        KeyForm::Word(word) => word.share(),
-        KeyForm::Str(text) => text.share(),
-    }
-}
 
 // A property that begins at a token.
 #[tactic(auto, using(crate::proofs::Fronts::entry_valued), unfolding(code_tree::specs::View::field_view, code_tree::specs::View::field_form_view, check_moves::specs::View::around, check_moves::specs::View::now))]
@@ -51,7 +42,7 @@ fn entry_of(field: &Field) -> Result<Entry, NoMemory>
         FieldForm::Valued { key, value } => Ok(Entry {
             first: key.first,
             end: key.end,
-            name: key_text(key)?,
+            name: key_text(key).share()?,
             literal: literal_type(value)?,
         }),
     }

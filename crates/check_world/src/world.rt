@@ -10,7 +10,7 @@ use crate::names::TypeScope;
 use alias_members::members_of;
 use alias_table::AliasTable;
 use check_values::{Code, Fault};
-use flow_values::{List, NoMemory, Span, Text};
+use flow_values::{List, NoMemory, Span, Text, span_at};
 use std::alloc::Global;
 use subtype_rules::is_subtype;
 use tree_typing::type_of_tree;
@@ -27,17 +27,6 @@ pub struct World<'a> {
     pub names: &'a TypeScope,
     pub spans: &'a [Span],
     pub watch: Option<u32>,
-}
-
-// The span of a token, or one of no bytes where it has none.
-fn span_at(spans: &[Span], at: usize) -> Span
-    ensures { result ≡ slice_index_or spans.now at no_span }
-{
-    if at < spans.len() {
-        spans[at]
-    } else {
-        Span { start: 0, end: 0 }
-    }
 }
 
 impl World<'_> {

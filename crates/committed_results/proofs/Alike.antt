@@ -14,7 +14,7 @@ use Rattle.check_values.specs.declared.signatures.Sig.{Sig}
 use Rattle.export_counts.specs.source_front.specs.Law.{seen, Same}
 use Rattle.export_counts.specs.source_front.specs.declared.parse.ParseTree.{ParseTree}
 use Rattle.export_counts.specs.source_front.specs.declared.parse.ParseTree.TheVariants.{Tree, Broken}
-use Rattle.tree_law.specs.Law.{EachModuleHasATree}
+use Rattle.full_law.specs.Trees.{EachModuleHasATree}
 use Rattle.module_resolution.specs.Dependencies.{dependencies_of}
 use Rattle.merged_signatures.specs.Chains.{Known, View}
 use Rattle.errors_by_reach.specs.Seen.{Sigs}

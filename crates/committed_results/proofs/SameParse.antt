@@ -13,7 +13,7 @@ use Rattle.check_values.specs.declared.signatures.LocalSig.{LocalSig}
 use Rattle.js_grammar.specs.Items as g
 use Rattle.js_tree.specs.View.{module_view}
 use Rattle.js_tree.specs.contracts.items.Module as tree_type
-use Rattle.tree_law.specs.Law.{EachModuleHasATree}
+use Rattle.full_law.specs.Trees.{EachModuleHasATree}
 use Rattle.local_signatures.specs.LocalSignature.{local_signature}
 use Rattle.local_signatures.specs.Faults.{signature_faults}
 use Rattle.export_counts.specs.source_front.specs.Front.{HasTree, HasFault, Says, IsParse}

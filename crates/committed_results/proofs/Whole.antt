@@ -18,7 +18,7 @@ use Rattle.merged_signatures.specs.Chains.{Known, View}
 use Rattle.merged_signatures.specs.Programs.{IsSmallWithFewExports}
 use Rattle.errors_by_reach.specs.Seen.{Sigs}
 use Rattle.export_counts.specs.Law.{FewNames}
-use Rattle.tree_law.specs.Law.{EachModuleHasATree}
+use Rattle.full_law.specs.Trees.{EachModuleHasATree}
 use Rattle.full_law.specs.Law.{EachFull}
 use Rattle.full_law.specs.program_check.specs.Full as full
 use Rattle.full_law.specs.program_check.specs.Full.{Results, beside, known_of, IsFull}

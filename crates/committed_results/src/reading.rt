@@ -104,7 +104,7 @@ pub fn committed_results<W: HeapWriter<Payload>>(
 {
     full_law::program_check::one_full();
     full_law::each_full();
-    tree_law::each_module_has_a_tree();
+    full_law::each_module_has_a_tree();
     state_law::each_state_has_a_check();
     export_counts::few_exports();
     merged_signatures::few_exports();

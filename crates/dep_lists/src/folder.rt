@@ -5,27 +5,8 @@ ghost use Rattle.flow_values.specs.Path.{SLASH};
 ghost use Rattle.flow_values.specs.PathForm.{cut};
 ghost use Rattle.module_resolution.specs.Resolution.{folder_of, applied, all_applied, stays, goes_up, is_relative};
 
-use flow_values::{NoMemory, Path};
+use flow_values::{NoMemory, Path, first_part};
 use std::alloc::Global;
-
-fn first_slash(bytes: &[u8]) -> Option<usize>
-    ensures place { result ≡ position (λ b. b == 47) bytes.now }
-    ensures within { IfSome result (λ at. at < length bytes.now) }
-{
-    bytes.iter().position(|b| *b == b'/')
-}
-
-// The first part and what stands after its slash, or `None` where there is no slash.
-#[tactic(auto, using(flow_values::proofs::Parts::cut_at, flow_values::proofs::Parts::cut_alone))]
-fn first_part(bytes: &[u8]) -> Option<(&[u8], &[u8])>
-    ensures parts { MatchOption result (cut bytes.now ≡ bytes.now ∷ []) (λ at. cut bytes.now ≡ at.0.now ∷ cut at.1.now) }
-    ensures shorter { IfSome result (λ at. length at.1.now < length bytes.now) }
-{
-    match first_slash(bytes) {
-        Some(at) => Some((&bytes[..at], &bytes[at + 1..])),
-        None => None,
-    }
-}
 
 // The folder in which a path stands.
 #[tactic(auto, using(crate::proofs::Parts::folder_parts, crate::proofs::Parts::map_more))]

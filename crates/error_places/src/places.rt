@@ -4,7 +4,7 @@ ghost use Rattle.source_place.specs.Place.{Bytes, line_at, column_at};
 ghost use Rattle.byte_places.specs.Places.{line_behind, column_behind};
 ghost use Rattle.error_places.specs.Places.{IsAt};
 
-use source_characters::begins_char;
+use byte_places::{column_behind, line_behind};
 
 /// A byte place of a text with its line and its column, both from 1. A line ends after LF alone, and
 /// columns count characters.
@@ -24,26 +24,6 @@ pub(crate) fn start() -> Place
         at: 0,
         line: 1,
         column: 1,
-    }
-}
-
-fn line_behind(line: u64, byte: u8) -> u64
-    requires { line < 2 ^ 64 - 1 }
-    ensures { result ≡ line_behind line byte }
-{
-    if byte == b'\n' { line + 1 } else { line }
-}
-
-fn column_behind(column: u64, byte: u8) -> u64
-    requires { column < 2 ^ 64 - 1 }
-    ensures { result ≡ column_behind column byte }
-{
-    if byte == b'\n' {
-        1
-    } else if begins_char(byte) {
-        column + 1
-    } else {
-        column
     }
 }
 

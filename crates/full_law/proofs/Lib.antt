@@ -1,2 +1,11 @@
+pub mod CodeLevels
+pub mod CodeTrees
+pub mod Cutting
+pub mod FlatTrees
 pub mod Fulls
+pub mod ItemTrees
+pub mod Lengths
+pub mod Lists
 pub mod Parses
+pub mod ReadPieces
+pub mod TypeTrees

@@ -19,8 +19,8 @@ use Rattle.program_check.specs.source_front.specs.declared.parse.SourceFault.The
 use Rattle.program_check.specs.source_front.specs.declared.parse.ParseTree.TheVariants.{Tree, Broken}
 use Rattle.program_check.specs.source_front.specs.declared.parse.Parse.{Parse}
 use Rattle.program_check.specs.source_front.specs.Front.{HasFault, IsParse, token_start}
-use Rattle.lex_law.specs.Law as lex
-use Rattle.tree_law.specs.Law.{EachModuleHasATree}
+use Rattle.full_law.specs.Lexing as lex
+use Rattle.full_law.specs.Trees.{EachModuleHasATree}
 
 abbrev pub HasParse : Bytes → Type 0
 HasParse text = (p : Parse) × IsParse text p

@@ -9,14 +9,9 @@ use Rattle.check_values.specs.Rows.{Bytes, Rows, row_at, by_name}
 use Rattle.check_values.specs.declared.signatures.DepRow.{DepRow}
 use Rattle.check_values.specs.declared.signatures.Deps.{Deps}
 use Rattle.merged_signatures.specs.Chains.{found_in, found}
-use Rattle.named_rows.specs.Seen.{seen}
-use Rattle.named_rows.proofs.FirstRows.{lookup_is_row, row_at-by_name, row_seen}
-use Rattle.import_sayings.specs.View.{Found, found_by_spec, found_by_row}
-
--- what a map of rows by name tells of a name
-named : {A B : Type 0} (f : A → B) (names : BTreeMap Bytes A) (rows : Rows A) → names.entries ≡ by_name rows → (word : Bytes) → option_map f (get (slice_cmp nat_cmp) names word) ≡ row_at (seen f rows) word
-named {A} f names rows is word =
-    ap (option_map f) (lookup_is_row names.entries word ∙ ap (λ (l : Rows A). row_at l word) is ∙ row_at-by_name rows word) ∙ row_seen f rows word
+use Rattle.named_rows.specs.Seen.{seen, found_by_spec}
+use Rattle.named_rows.proofs.FirstRows.{named}
+use Rattle.import_sayings.specs.View.{Found, found_by_row}
 
 found_row : (rows : List DepRow) (word : Bytes) → option_and_then (λ (o : Option Bytes). o) (row_at (found_by_spec rows) word) ≡ found_in rows word
 found_row [] word = refl

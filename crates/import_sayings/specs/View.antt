@@ -1,12 +1,11 @@
 -- What a module sees of others, as the code has it.
-use Rattle.std.specs.Prelude.{◌≡◌, List, map, Option, Some, None}
+use Rattle.std.specs.Prelude.{Option, Some, None}
 use Rattle.std.specs.BTreeMap.{BTreeMap, get}
 use Rattle.std.specs.Cmp.Lexicographic.{slice_cmp}
 use Rattle.std.specs.Ordering.{nat_cmp}
 use Rattle.std.specs.Borrow.{Bor}
 use Rattle.std.specs.Option.{option_copied}
 use Rattle.check_values.specs.Rows.{Bytes, Rows, row_at}
-use Rattle.check_values.specs.declared.signatures.DepRow.{DepRow}
 use Rattle.check_values.specs.declared.signatures.Sig.{Sig}
 use Rattle.errors_by_reach.specs.module_errors.specs.Program.{Saying, says_nothing, lacks_it, says_it, said_by}
 use Rattle.errors_by_reach.specs.Seen.{Sigs}
@@ -34,10 +33,6 @@ found_by_row found spec = elim (get (slice_cmp nat_cmp) found spec) [ None ↦ N
 
 abbrev pub found_of : Imports → Bytes → Option Bytes
 found_of imports spec = found_by_row imports.found spec
-
--- rows of what specifiers find
-abbrev pub found_by_spec : List DepRow → Rows (Option Bytes)
-found_by_spec rows = map (λ row. (row.spec, row.found)) rows
 
 -- what the module that a specifier finds says of a name
 abbrev pub said_of : Imports → Bytes → Bytes → Saying

@@ -4,13 +4,12 @@ ghost use Rattle.std.specs.Option.{option_copied};
 ghost use Rattle.check_values.specs.Rows.{row_at};
 ghost use Rattle.merged_signatures.specs.Chains.{found};
 ghost use Rattle.errors_by_reach.specs.module_errors.specs.Program.{said_by_sig};
-ghost use Rattle.named_rows.specs.Seen.{seen};
-ghost use Rattle.import_sayings.specs.View.{saying_view, found_by_spec, found_by_row, found_of, said_of};
+ghost use Rattle.import_sayings.specs.View.{saying_view, found_by_row, found_of, said_of};
 
 use crate::saying::Saying;
-use check_values::{DepRow, Deps};
+use check_values::Deps;
 use flow_values::{NoMemory, Path, Text};
-use named_rows::by_name;
+use named_rows::{by_name, found_rows};
 use signature_table::{Exports, SignatureTable};
 use std::alloc::Global;
 use std::collections::BTreeMap;
@@ -23,22 +22,6 @@ type Found<'j> = BTreeMap<Text, Option<&'j Path>>;
 pub struct Imports<'j> {
     found: Found<'j>,
     table: &'j SignatureTable,
-}
-
-// The specifiers with what each of them finds.
-#[tactic(auto, using(named_rows::proofs::Lists::seen_more))]
-fn found_rows<'j>(
-    alloc: Global,
-    rows: &'j [DepRow],
-) -> Result<Vec<(Text, Option<&'j Path>)>, NoMemory>
-    ensures { IfOk result (λ named. seen option_copied named.items ≡ found_by_spec rows.now) }
-{
-    let mut named = Vec::new(alloc);
-    for i in 0..rows.len() {
-        let row = &rows[i];
-        named.push((row.spec.share()?, row.found.as_ref()))?;
-    }
-    Ok(named)
 }
 
 // The module that each specifier finds.

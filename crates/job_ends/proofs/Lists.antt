@@ -13,25 +13,20 @@ use Rattle.check_values.specs.declared.signatures.Deps.{Deps}
 use Rattle.type_values.specs.declared.types.FlowType.{FlowType}
 use Rattle.merged_signatures.specs.Chains.{found_in, found}
 use Rattle.merged_signatures.specs.Merged.{import_at}
-use Rattle.named_rows.specs.Seen.{seen}
-use Rattle.named_rows.proofs.FirstRows.{lookup_is_row, row_at-by_name, row_seen}
+use Rattle.named_rows.specs.Seen.{seen, found_by_spec}
+use Rattle.named_rows.proofs.FirstRows.{named}
 use Rattle.chain_ends.specs.declared.links.End.{End}
 use Rattle.chain_ends.specs.declared.links.Link.{Link}
 use Rattle.chain_ends.specs.Following.{AreEnds}
 use Rattle.job_ends.specs.declared.job.MergeMember.{MergeMember}
 use Rattle.job_ends.specs.declared.member.Member.{Member}
 use Rattle.job_ends.specs.declared.nodes.Node as code
-use Rattle.job_ends.specs.Jobs.{member_view, imports_by_local, found_by_spec}
+use Rattle.job_ends.specs.Jobs.{member_view, imports_by_local}
 use Rattle.job_ends.specs.Nodes.{Node, inner_module}
 use Rattle.job_ends.specs.Views.{node_view}
 use Rattle.job_ends.specs.Linking.{link_of, links_from}
 
 -- ---- maps of rows by name
-
--- what a map of rows by name tells of a name
-named : {A B : Type 0} (f : A → B) (names : BTreeMap Bytes A) (rows : Rows A) → names.entries ≡ by_name rows → (word : Bytes) → option_map f (get (slice_cmp nat_cmp) names word) ≡ row_at (seen f rows) word
-named {A} f names rows is word =
-    ap (option_map f) (lookup_is_row names.entries word ∙ ap (λ (l : Rows A). row_at l word) is ∙ row_at-by_name rows word) ∙ row_seen f rows word
 
 is_some-map : {A B : Type 0} (f : A → B) (o : Option A) → is_some o ≡ is_some (option_map f o)
 is_some-map f None = refl

@@ -1,8 +1,7 @@
 -- A job of the code as a job of the definitions, and the rows of its members by their names.
-use Rattle.std.specs.Prelude.{List, map, Option}
+use Rattle.std.specs.Prelude.{List, map}
 use Rattle.check_values.specs.Rows.{Bytes, Rows}
 use Rattle.check_values.specs.declared.signatures.ImportRow.{ImportRow}
-use Rattle.check_values.specs.declared.signatures.DepRow.{DepRow}
 use Rattle.merged_signatures.specs.Chains.{Known}
 use Rattle.merged_signatures.specs.Job.{Job}
 use Rattle.job_ends.specs.declared.job.MergeMember.{MergeMember}
@@ -22,7 +21,3 @@ job_view job = record { members = map member_view job.members; outside = job.out
 -- imports by their local names
 abbrev pub imports_by_local : List ImportRow → Rows ImportRow
 imports_by_local rows = map (λ row. (row.local, row)) rows
-
--- what specifiers find
-abbrev pub found_by_spec : List DepRow → Rows (Option Bytes)
-found_by_spec rows = map (λ row. (row.spec, row.found)) rows

@@ -8,12 +8,12 @@ ghost use Rattle.check_values.specs.Rows.{row_at};
 ghost use Rattle.merged_signatures.specs.Chains.{found};
 ghost use Rattle.merged_signatures.specs.Merged.{import_at};
 ghost use Rattle.named_rows.specs.Seen.{seen};
-ghost use Rattle.job_ends.specs.Jobs.{imports_by_local, found_by_spec};
+ghost use Rattle.job_ends.specs.Jobs.{imports_by_local};
 
 use crate::job::{MergeJob, MergeMember};
-use check_values::{DepRow, ImportRow};
+use check_values::ImportRow;
 use flow_values::{NoMemory, Path, Text};
-use named_rows::by_name;
+use named_rows::{by_name, found_rows};
 use std::alloc::Global;
 use std::collections::BTreeMap;
 use type_values::FlowType;
@@ -56,21 +56,6 @@ fn import_rows<'a>(
     for i in 0..rows.len() {
         let row = &rows[i];
         named.push((row.local.share()?, row))?;
-    }
-    Ok(named)
-}
-
-#[tactic(auto, using(named_rows::proofs::Lists::seen_more))]
-fn found_rows<'a>(
-    alloc: Global,
-    rows: &'a [DepRow],
-) -> Result<Vec<(Text, Option<&'a Path>)>, NoMemory>
-    ensures { IfOk result (λ named. seen option_copied named.items ≡ found_by_spec rows.now) }
-{
-    let mut named = Vec::new(alloc);
-    for i in 0..rows.len() {
-        let row = &rows[i];
-        named.push((row.spec.share()?, row.found.as_ref()))?;
     }
     Ok(named)
 }

@@ -154,3 +154,8 @@ module _ {A B : Type 0} (f : A → B) where
 pub row_named : {X : Type 0} (names : BTreeMap Bytes X) (rows bindings : Rows X) → names.entries ≡ by_name bindings → rows ≡ first_of_each bindings → (word : Bytes) → get (slice_cmp nat_cmp) names word ≡ row_at rows word
 row_named {X} names rows bindings ordered firsts word =
     lookup_is_row names.entries word ∙ ap (λ (l : Rows X). row_at l word) ordered ∙ row_at-by_name bindings word ∙ sym (row_at-first bindings word) ∙ ap (λ (l : Rows X). row_at l word) (sym firsts)
+
+-- what a map of rows by name tells of a name
+pub named : {A B : Type 0} (f : A → B) (names : BTreeMap Bytes A) (rows : Rows A) → names.entries ≡ by_name rows → (word : Bytes) → option_map f (get (slice_cmp nat_cmp) names word) ≡ row_at (seen f rows) word
+named {A} f names rows is word =
+    ap (option_map f) (lookup_is_row names.entries word ∙ ap (λ (l : Rows A). row_at l word) is ∙ row_at-by_name rows word) ∙ row_seen f rows word

@@ -2,9 +2,12 @@
 #![tactic(auto)]
 
 ghost use Rattle.std.specs.Prelude.{◌≡◌, IfOk};
+ghost use Rattle.std.specs.Option.{option_copied};
 ghost use Rattle.check_values.specs.Rows.{by_name, first_of_each};
+ghost use Rattle.named_rows.specs.Seen.{seen, found_by_spec};
 
-use flow_values::{NoMemory, Text};
+use check_values::DepRow;
+use flow_values::{NoMemory, Path, Text};
 use std::alloc::Global;
 use std::collections::{BTreeMap, BTreeSet};
 
@@ -64,4 +67,24 @@ pub fn first_of_each<T: Copy>(alloc: Global, rows: &[(Text, T)]) -> Result<Vec<(
         firsts.push((row.0.share()?, row.1))?;
     }
     Ok(firsts)
+}
+
+/// The specifiers of a module's dependencies, each with the path that it finds.
+///
+/// # Errors
+///
+/// `NoMemory` where memory is refused.
+#[tactic(auto, using(crate::proofs::Lists::seen_more))]
+pub fn found_rows<'a>(
+    alloc: Global,
+    rows: &'a [DepRow],
+) -> Result<Vec<(Text, Option<&'a Path>)>, NoMemory>
+    ensures { IfOk result (λ named. seen option_copied named.items ≡ found_by_spec rows.now) }
+{
+    let mut named = Vec::new(alloc);
+    for i in 0..rows.len() {
+        let row = &rows[i];
+        named.push((row.spec.share()?, row.found.as_ref()))?;
+    }
+    Ok(named)
 }

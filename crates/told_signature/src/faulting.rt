@@ -8,7 +8,7 @@ ghost use Rattle.told_signature.specs.Seen.{told_view, named_in, said_view, plac
 
 use crate::telling::{Place, Said, Told};
 use check_values::{Code, Fault};
-use flow_values::{List, NoMemory, Span, Text};
+use flow_values::{List, NoMemory, Span, Text, span_at};
 use std::alloc::Global;
 use std::collections::{BTreeMap, BTreeSet};
 use type_values::FlowType;
@@ -16,17 +16,6 @@ use type_values::FlowType;
 // A fault by what tells it from the others, in their order: where it begins, where it ends, and the
 // name of the export.
 type Key = (u32, (u32, Text));
-
-// The span of a token.
-fn span_at(spans: &[Span], at: usize) -> Span
-    ensures { result ≡ slice_index_or spans.now at no_span }
-{
-    if at < spans.len() {
-        spans[at]
-    } else {
-        Span { start: 0, end: 0 }
-    }
-}
 
 // The span of a place.
 fn span_of(spans: &[Span], place: Place) -> Span

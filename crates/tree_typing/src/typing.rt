@@ -5,13 +5,13 @@ ghost use Rattle.std.specs.Prelude.{◌≡◌, IfOk};
 ghost use Rattle.tree_types.specs.TreeTypes.{union_of, maybe, array_of, variance_of, key_text, is_exact, type_of, types_of_members, type_of_member, type_of_core, type_of_base, type_of_form, types_of, params_of, param_of, props_of, prop_of};
 ghost use Rattle.type_tree.specs.View.{sign_view, ending_view, key_view, type_view, pre_view, core_view, base_view, form_view, param_view, prop_view, places_view, pres_view, params_view, types_view, props_view};
 
-use crate::keys::last_of_each;
+use crate::keys::{key_text, last_of_each};
 use crate::names::{Names, type_of_word};
-use flow_values::{List, NoMemory, Shared, Text};
+use flow_values::{List, NoMemory, Shared};
 use std::alloc::Global;
 use type_tree::{
-    BaseForm, BaseTree, CoreTree, Ending, FunctionType, Key, KeyForm, NamedParam, ParamTree,
-    PostType, PreTree, PropTree, Sign, TypeTree,
+    BaseForm, BaseTree, CoreTree, Ending, FunctionType, NamedParam, ParamTree, PostType, PreTree,
+    PropTree, Sign, TypeTree,
 };
 use type_values::{FlowProp, FlowType, Param, Variance};
 
@@ -257,20 +257,11 @@ fn prop_type<N: Names>(alloc: Global, names: &N, prop: &PropTree) -> Result<Flow
 {
     let ty = type_of_tree(alloc, names, &prop.ty)?;
     Ok(FlowProp {
-        key: key_text(&prop.key)?,
+        key: key_text(&prop.key).share()?,
         variance: variance_of(prop.sign),
         optional: prop.optional,
         ty,
     })
-}
-
-fn key_text(key: &Key) -> Result<Text, NoMemory>
-    ensures { IfOk result (λ text. text ≡ key_text (key_view key.now)) }
-{
-    match &key.form {
-        KeyForm::Word(word) => word.share(),
-        KeyForm::Str(text) => text.share(),
-    }
 }
 
 fn variance_of(sign: Sign) -> Variance

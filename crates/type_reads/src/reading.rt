@@ -14,11 +14,11 @@ use check_values::Code;
 use check_world::{Notes, World};
 use flow_values::{NoMemory, Text};
 use std::collections::BTreeSet;
-use tree_typing::is_type_name;
+use tree_typing::{is_type_name, key_text};
 use type_terms::show_key;
 use type_tree::{
-    BaseForm, BaseTree, CoreTree, FunctionType, Key, KeyForm, NamedParam, ParamTree, PreTree,
-    PropTree, TypeTree,
+    BaseForm, BaseTree, CoreTree, FunctionType, Key, NamedParam, ParamTree, PreTree, PropTree,
+    TypeTree,
 };
 
 /// Notes the faults of the names in a tree of a type.
@@ -182,15 +182,6 @@ fn read_types(world: &World<'_>, types: &[TypeTree], notes: &mut Notes) -> Resul
         read_type(world, &types[i], notes)?;
     }
     Ok(())
-}
-
-fn key_text(key: &Key) -> &Text
-    ensures { result.now ≡ key_text (key_view key.now) }
-{
-    match &key.form {
-        KeyForm::Word(word) => word,
-        KeyForm::Str(text) => text,
-    }
 }
 
 // A key that stands before already is a fault. `before` has the keys before it, and then this one too.

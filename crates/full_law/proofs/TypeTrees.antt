@@ -18,7 +18,7 @@ use Rattle.type_tree.specs.declared.types.ParamTree.{ParamTree, roll-ParamTree, 
 use Rattle.type_tree.specs.declared.types.PropTree.{PropTree, roll-PropTree, fold-roll-PropTree}
 use Rattle.type_tree.specs.declared.types.BaseForm.TheOpen.{BaseForm-F, CoreTree-F, ParamTree-F, BaseTree-F, FunctionType-F, NamedParam-F, PostType-F, PreTree-F, PropTree-F, TypeTree-F}
 use Rattle.type_tree.specs.View.{sign_view, ending_view, key_form_view, key_view, places_from, pres_from, params_from, types_from, props_from, places_view, pres_view, params_view, types_view, props_view, type_view, pre_view, core_view, base_view, form_view, param_view, prop_view, form_step, core_step, param_step, base_step, function_step, named_step, post_step, pre_step, prop_step, type_step}
-use Rattle.tree_law.proofs.Lists.{Seen, one_more}
+use Rattle.full_law.proofs.Lists.{Seen, one_more}
 
 -- ---- parts that hold no type
 

@@ -1,10 +1,10 @@
 -- Each tree of an expression or a statement is what some value of the code stands for.
 use Rattle.js_grammar.specs.Code as g
 use Rattle.code_tree.specs.View.{arrow_body_view, body_view, else_view, expr_form_view, field_form_view, link_form_view, operand_form_view, simple_form_view, statement_form_view, arm_view, block_view, branch_view, declaration_view, expr_view, field_view, function_view, link_view, operand_view, simple_view, statement_view, exprs_view, links_view, operands_view, fields_view, arms_view, statements_view, branches_view}
-use Rattle.tree_law.proofs.Lists.{Seen}
-use Rattle.tree_law.proofs.TypeTrees.{type_tree, some_type_tree, key_tree}
-use Rattle.tree_law.proofs.FlatTrees.{prefixes_tree, level_tree, operator_tree, binder_tree, signature_tree}
-use Rattle.tree_law.proofs.CodeLevels as of
+use Rattle.full_law.proofs.Lists.{Seen}
+use Rattle.full_law.proofs.TypeTrees.{type_tree, some_type_tree, key_tree}
+use Rattle.full_law.proofs.FlatTrees.{prefixes_tree, level_tree, operator_tree, binder_tree, signature_tree}
+use Rattle.full_law.proofs.CodeLevels as of
 
 mutual
   pub expr_tree : (x : g.Ex) → Seen expr_view x

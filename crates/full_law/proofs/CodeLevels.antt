@@ -37,7 +37,7 @@ use Rattle.code_tree.specs.declared.types.PostfixExpr.{PostfixExpr, roll-Postfix
 use Rattle.code_tree.specs.declared.types.Simple.{Simple, roll-Simple, fold-roll-Simple}
 use Rattle.code_tree.specs.declared.types.Statement.{Statement, roll-Statement, fold-roll-Statement}
 use Rattle.code_tree.specs.declared.types.WhileStatement.{WhileStatement, roll-WhileStatement, fold-roll-WhileStatement}
-use Rattle.tree_law.proofs.Lists.{Seen, one_more}
+use Rattle.full_law.proofs.Lists.{Seen, one_more}
 
 -- one level over the trees of the code
 abbrev Level : (Type 0 → Type 0 → Type 0 → Type 0 → Type 0 → Type 0 → Type 0 → Type 0 → Type 0 → Type 0 → Type 0 → Type 0 → Type 0 → Type 0 → Type 0 → Type 0 → Type 0 → Type 0 → Type 0 → Type 0 → Type 0 → Type 0 → Type 0 → Type 0 → Type 0 → Type 0 → Type 0 → Type 0) → Type 0

@@ -8,8 +8,8 @@ use Rattle.code_tree.specs.declared.types.Level.TheVariants as level
 use Rattle.code_tree.specs.declared.types.Operator.TheVariants as operator
 use Rattle.code_tree.specs.declared.types.Binder.TheVariants as binder
 use Rattle.code_tree.specs.Flat.{prefix_view, prefixes_from, prefixes_view, level_view, operator_view, binder_view, parameter_view, parameters_from, parameters_view, signature_view}
-use Rattle.tree_law.proofs.Lists.{Seen, one_more}
-use Rattle.tree_law.proofs.TypeTrees.{some_type_tree}
+use Rattle.full_law.proofs.Lists.{Seen, one_more}
+use Rattle.full_law.proofs.TypeTrees.{some_type_tree}
 
 prefix_tree : (p : g.Prefix) → Seen prefix_view p
 prefix_tree g.negation = (prefix.Not, refl)

@@ -13,8 +13,8 @@ use Rattle.js_lexer.specs.declared.fault.LexFault.{LexFault}
 use Rattle.js_lexer.specs.declared.fault.LexFault.TheVariants.{SourceTooLong, NotUtf8, BadToken, NoMemory}
 use Rattle.js_lexer.specs.Cut.{Cut, text_of, AreLongest, byte_len, tokens_of}
 use Rattle.js_lexer.specs.Answers.{source_limit, Answers}
-use Rattle.lex_law.specs.Law.{HasAnswer, EachHasAnswer}
-use Rattle.lex_law.proofs.ReadPieces.{some_read}
+use Rattle.full_law.specs.Lexing.{HasAnswer, EachHasAnswer}
+use Rattle.full_law.proofs.ReadPieces.{some_read}
 
 -- a text is cut whole, or stuck
 data IsCut (text : List ℕ) : Type 0 where

@@ -18,7 +18,7 @@ use Rattle.lex_pieces.specs.Strings.{ReadsParts, IsStringRead}
 use Rattle.lex_pieces.proofs.Fronts.{quote_char, blank_read, word_read, digit_some, digit_none, mark_read, dot_mark, dot_some, slash_mark, slash_comment, quote_some, quote_none, none_at_end}
 use Rattle.lex_pieces.proofs.PartLemmas.{part_within}
 use Rattle.lex_pieces.proofs.StringReads.{reads_more, reads_none, string_read, string_none}
-use Rattle.lex_law.proofs.Lengths.{number_within}
+use Rattle.full_law.proofs.Lengths.{number_within}
 
 -- ---- strings
 

@@ -6,10 +6,10 @@ use Rattle.js_tree.specs.View.{imported_view, exported_view, importeds_from, exp
 use Rattle.js_tree.specs.declared.items.ImportForm.TheVariants as import
 use Rattle.js_tree.specs.declared.items.ExportForm.TheVariants as export
 use Rattle.js_tree.specs.declared.items.ItemForm.TheVariants as item
-use Rattle.tree_law.specs.Law.{EachModuleHasATree}
-use Rattle.tree_law.proofs.Lists.{Seen, one_more}
-use Rattle.tree_law.proofs.TypeTrees.{type_tree}
-use Rattle.tree_law.proofs.CodeTrees.{expr_tree, function_tree, declaration_tree, simple_tree}
+use Rattle.full_law.specs.Trees.{EachModuleHasATree}
+use Rattle.full_law.proofs.Lists.{Seen, one_more}
+use Rattle.full_law.proofs.TypeTrees.{type_tree}
+use Rattle.full_law.proofs.CodeTrees.{expr_tree, function_tree, declaration_tree, simple_tree}
 
 imported_tree : (n : g.Imported) → Seen imported_view n
 imported_tree (g.imported f e r n) = (record { first = f; end = e; renamed = r; name = n }, refl)
