@@ -25,7 +25,8 @@ use Rattle.typing.specs.Typing.{read, read_function, read_stmt, read_stmts, read
 use Rattle.check_moves.specs.declared.state.State.{State}
 use Rattle.check_moves.specs.declared.state.Read.{Read}
 use Rattle.check_moves.specs.View.{around, scope, now, env, told}
-use Rattle.check_expr.specs.Bodies.{bound_env, block_body, value_body}
+use Rattle.check_expr.specs.Bodies.{block_body, value_body}
+use Rattle.statement_moves.specs.Bodies.{bound_env}
 use Rattle.check_expr.specs.Runs.{either_type, side_out}
 use Rattle.check_expr.proofs.Entering.{block_told}
 use Rattle.check_expr.proofs.Branching.{stmt_as}

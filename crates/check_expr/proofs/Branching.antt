@@ -22,10 +22,10 @@ use Rattle.fact_ways.specs.declared.fork.Fork.{Fork}
 use Rattle.fact_ways.specs.Ways.{way_of, ways_of, all_joined}
 use Rattle.check_moves.specs.declared.state.State.{State}
 use Rattle.check_moves.specs.declared.state.Read.{Read}
-use Rattle.check_moves.specs.declared.branches.Chosen.{Chosen}
+use Rattle.expression_moves.specs.declared.branches.Chosen.{Chosen}
 use Rattle.check_moves.specs.View.{around, scope, now, env, told, broken_facts}
 use Rattle.check_moves.specs.Follows.{Follows, Leaves}
-use Rattle.check_moves.specs.Moves.{chosen_view, choices_left}
+use Rattle.expression_moves.specs.Moves.{chosen_view, choices_left}
 use Rattle.check_expr.specs.Tests.{Tested}
 use Rattle.check_expr.proofs.Tests.{conditional_told, if_env, while_env}
 use Rattle.check_expr.proofs.Views.{conditional_expr_is, if_statement_is, while_statement_is}

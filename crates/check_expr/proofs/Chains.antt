@@ -27,7 +27,7 @@ use Rattle.check_moves.specs.declared.state.State.{State}
 use Rattle.check_moves.specs.declared.state.Read.{Read}
 use Rattle.check_moves.specs.View.{around, scope, now, told}
 use Rattle.check_moves.specs.Follows.{Follows}
-use Rattle.check_moves.specs.Moves.{goes_on, leaving, met}
+use Rattle.expression_moves.specs.Moves.{goes_on, leaving, met}
 use Rattle.check_moves.proofs.Following.{heights_twice, follows_through}
 use Rattle.check_expr.specs.Runs.{run_of, is_run, are_run, side_out}
 use Rattle.check_expr.proofs.Lists.{operands_more, operands_none, operands_all}

@@ -23,10 +23,10 @@ use Rattle.fact_ways.proofs.Joins.{all_joined_last}
 use Rattle.fact_ways.proofs.Marks.{goes_through}
 use Rattle.fact_ways.proofs.Nests.{nested_on, ways_on, outermost_on}
 use Rattle.check_moves.specs.declared.state.State.{State}
-use Rattle.check_moves.specs.declared.branches.Chosen.{Chosen}
+use Rattle.expression_moves.specs.declared.branches.Chosen.{Chosen}
 use Rattle.check_moves.specs.View.{around, scope, now, env}
 use Rattle.check_moves.specs.Follows.{Follows, Leaves}
-use Rattle.check_moves.specs.Moves.{chosen_view}
+use Rattle.expression_moves.specs.Moves.{chosen_view}
 use Rattle.check_moves.proofs.Following.{heights_twice, leaves_nothing, follows_nothing, follows_through}
 use Rattle.binders.proofs.InOrder.{more_from}
 use Rattle.check_expr.proofs.Lists.{arms_more, arms_none, arms_all, branches_more, branches_none, branches_all, stmts_all}

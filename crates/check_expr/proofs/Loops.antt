@@ -15,10 +15,10 @@ use Rattle.fact_ways.specs.Ways as facts
 use Rattle.fact_ways.specs.Ways.{Fits, AreNested, outermost, ways_of, all_joined}
 use Rattle.check_moves.specs.declared.state.State.{State}
 use Rattle.check_moves.specs.declared.state.Read.{Read}
-use Rattle.check_moves.specs.declared.branches.Chosen.{Chosen}
+use Rattle.expression_moves.specs.declared.branches.Chosen.{Chosen}
 use Rattle.check_moves.specs.View.{around, scope, now, env, told}
 use Rattle.check_moves.specs.Follows.{Follows, Leaves}
-use Rattle.check_moves.specs.Moves.{chosen_view, met}
+use Rattle.expression_moves.specs.Moves.{chosen_view, met}
 
 -- nothing but the facts and the notes is other than before
 pub record Goes (from : Option Fork) (a : State) (to : Option Fork) (b : State) : Type 0 where

@@ -8,7 +8,7 @@ use Rattle.typing.specs.States.{World, Out, no_of, noted_out}
 use Rattle.typing.specs.Forms.{right_now, and_out, or_out}
 use Rattle.fact_ways.specs.Ways.{all_joined}
 use Rattle.fact_ways.proofs.Joins.{all_joined_last}
-use Rattle.check_moves.specs.Moves.{goes_on, leaving, met}
+use Rattle.expression_moves.specs.Moves.{goes_on, leaving, met}
 use Rattle.check_expr.specs.Runs.{either_type}
 
 -- what a chain gives so far, where it is left on some ways

@@ -25,7 +25,7 @@ use Rattle.check_moves.proofs.Following.{heights_twice}
 use Rattle.check_moves.specs.declared.state.State.{State}
 use Rattle.check_moves.specs.declared.state.Read.{Read}
 use Rattle.check_moves.specs.View.{around, scope, now, told}
-use Rattle.check_moves.specs.Moves.{is_plain}
+use Rattle.expression_moves.specs.Moves.{is_plain}
 use Rattle.check_expr.specs.Runs.{run_of, side_out}
 use Rattle.check_expr.proofs.Views.{operand_is, operand_form_as, operand_form_right}
 

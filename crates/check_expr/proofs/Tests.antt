@@ -20,10 +20,10 @@ use Rattle.fact_ways.proofs.Joins.{all_joined_last}
 use Rattle.fact_ways.proofs.Nests.{fits_stands}
 use Rattle.check_moves.specs.declared.state.State.{State}
 use Rattle.check_moves.specs.declared.state.Read.{Read}
-use Rattle.check_moves.specs.declared.branches.Chosen.{Chosen}
+use Rattle.expression_moves.specs.declared.branches.Chosen.{Chosen}
 use Rattle.check_moves.specs.View.{around, scope, now, env, told, broken_facts}
 use Rattle.check_moves.specs.Follows.{Follows, Leaves}
-use Rattle.check_moves.specs.Moves.{chosen_view, choices_left}
+use Rattle.expression_moves.specs.Moves.{chosen_view, choices_left}
 use Rattle.check_moves.proofs.Following.{follows_through, follows_under, way_under, fits_under, ways_left, leaves_on, follows_left}
 use Rattle.check_expr.specs.Tests.{Tested}
 use Rattle.check_expr.proofs.Choices.{chosen_again}

@@ -38,9 +38,3 @@ side_out w is_and (operand f t (right_side op e)) left scope now =
     let b = read w e scope None now in
     record b { ty = either_type w is_and left b.ty }
 side_out w is_and o left scope now = plainly left now
-
--- a part behind which a type stands: the chain begins at a token, and the part ends at another one
-abbrev pub cast_out : World → ℕ → ℕ → Ty → Bool → Out → Out
-cast_out w f at v goes_on a =
-    let now = change_notes (λ notes. cast_asked w f at goes_on (written w v) a.ty (type_read w v notes)) (after a) in
-    plainly (written w v) now

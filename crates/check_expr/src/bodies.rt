@@ -18,9 +18,7 @@ ghost use Rattle.check_expr.specs.Bodies.{block_body, value_body};
 
 use crate::changes::{set_by_plan, set_in_expr};
 use crate::expressions::read;
-use crate::functions::{
-    bind_body, end_body, enter, enter_block, leave, leave_block, own_binding, wanted_result,
-};
+use crate::functions::own_binding;
 use crate::statements::{read_simple, read_statement};
 use check_moves::State;
 use check_world::World;
@@ -28,6 +26,9 @@ use code_plans::{Plan, part, plan_of_statements};
 use code_tree::{ArrowBody, ArrowExpr, Block, Body, Expr, Function, Signature, Statement};
 use flow_values::NoMemory;
 use part_steps::next;
+use statement_moves::{
+    bind_body, end_body, enter, enter_block, leave, leave_block, reach, return_value, wanted_result,
+};
 use type_values::FlowType;
 
 /// A function expression (true) or declaration. Gives its type.
@@ -130,7 +131,7 @@ pub(crate) fn read_returned(
 {
     let want = wanted_result(state)?;
     let value = read(&*world, state, value, want.as_ref())?;
-    state.return_value(value)?;
+    return_value(state, value)?;
     Ok(())
 }
 
@@ -203,7 +204,7 @@ pub(crate) fn read_body(
         Body::Simple(simple) => {
             let end = next(simple.end)?;
             let stopped = state.is_stopped();
-            state.reach(world, simple.first, end)?;
+            reach(world, state, simple.first, end)?;
             read_simple(world, state, simple)?;
             state.set_stopped(stopped);
             Ok(())
@@ -226,7 +227,7 @@ pub(crate) fn read_statements(
     for i in 0..statements.len() {
         let statement = &statements[i];
         let planned = part(plan, i);
-        state.reach(world, statement.first, statement.end)?;
+        reach(world, state, statement.first, statement.end)?;
         read_statement(world, state, statement, planned)?;
     }
     Ok(())

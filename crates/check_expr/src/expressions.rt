@@ -11,19 +11,21 @@ ghost use Rattle.typing.specs.Typing.{read, read_form, read_arms, read_elements,
 ghost use Rattle.check_world.specs.View.{world_view};
 ghost use Rattle.check_moves.specs.View.{around, scope, now, told};
 ghost use Rattle.check_moves.specs.Follows.{Follows, Leaves};
-ghost use Rattle.check_moves.specs.Moves.{chosen_view};
+ghost use Rattle.expression_moves.specs.Moves.{chosen_view};
 ghost use Rattle.typing.specs.Objects.{entries_of};
 ghost use Rattle.check_expr.specs.Tests.{Tested};
 
 use crate::bodies::{read_arrow, read_function};
-use crate::literals::{
-    ask_all, ask_entry, element_want, entries_of, prop_read, whole_array, whole_object,
-};
+use crate::literals::entries_of;
 use crate::operands::{first_want, read_operands};
 use crate::postfixes::read_postfix;
-use check_moves::{Chosen, Read, State};
+use check_moves::{Read, State};
 use check_world::World;
 use code_tree::{Arm, ChainExpr, ConditionalExpr, Expr, ExprForm, Field, FieldForm};
+use expression_moves::{
+    Chosen, ask_all, ask_entry, compare_place, element_want, meet_branches, part, prop_read,
+    read_prefixes, read_truth, read_variable, whole_array, whole_object,
+};
 use fact_ways::Fork;
 use flow_values::{List, NoMemory};
 use literal_reads::{
@@ -106,14 +108,14 @@ fn read_plain(
             let ty = FlowType::StrLit(text.share()?);
             Ok(state.plainly(ty))
         }
-        ExprForm::Truth(value) => state.read_truth(*value),
+        ExprForm::Truth(value) => read_truth(state, *value),
         ExprForm::Null => Ok(state.plainly(FlowType::Null)),
-        ExprForm::Variable(name) => state.read_variable(world, first, end, name),
+        ExprForm::Variable(name) => read_variable(world, state, first, end, name),
         ExprForm::Paren(inner) => read(world, state, inner.get(), None),
         ExprForm::Prefix { marks, operand } => {
             let operand = operand.get();
             let read = read(world, state, operand, None)?;
-            let marked = state.read_prefixes(world, marks.as_slice(), operand.first, end, read)?;
+            let marked = read_prefixes(world, state, marks.as_slice(), operand.first, end, read)?;
             Ok(marked)
         }
         ExprForm::Chain(e) => read_chain(world, state, e, first),
@@ -155,7 +157,7 @@ fn read_chain(
     let place = place_in(&state.scope, left)?;
     let first_part = read(&*world, state, left, want.as_ref())?;
     let chain = read_operands(world, state, operands, first, place, first_part)?;
-    let compared = state.compare_place(world, comparison, chain)?;
+    let compared = compare_place(world, state, comparison, chain)?;
     Ok(compared)
 }
 
@@ -174,7 +176,7 @@ fn read_conditional<'t>(
 {
     let chosen = read_arms(world, state, e.arms.as_slice(), want)?;
     let last = read(world, state, e.last.get(), want)?;
-    let met = state.meet_branches(world, chosen, end, last)?;
+    let met = meet_branches(world, state, chosen, end, last)?;
     Ok(met)
 }
 
@@ -206,7 +208,7 @@ pub(crate) fn read_test(world: &World<'_>, state: &mut State, test: &Expr) -> Re
     ensures { IfOk result (λ k. Tested (read (world_view world.now) (expr_view test.now) (scope state.old) None (now state.old)) state.old k state.new) }
 {
     let test = read(world, state, test, None)?;
-    let way = state.part(true, test.fork)?;
+    let way = part(state, true, test.fork)?;
     Ok(way)
 }
 
@@ -347,7 +349,7 @@ fn read_field<'t>(
         FieldForm::Shorthand(name) => {
             let first = field.first;
             let end = next(first)?;
-            let variable = state.read_variable(world, first, end, name)?;
+            let variable = read_variable(world, state, first, end, name)?;
             let asked = state.against(world, first, end, want, variable)?;
             let noted = state.noted(world, first, end, asked)?;
             Ok(noted)

@@ -2,7 +2,6 @@
 //! call does is the definition of `typing`.
 #![tactic(auto)]
 
-mod annotations;
 mod bodies;
 mod changes;
 mod expressions;

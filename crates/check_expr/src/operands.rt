@@ -15,11 +15,13 @@ ghost use Rattle.check_moves.specs.View.{around, scope, now, told};
 ghost use Rattle.check_moves.specs.Follows.{Follows};
 ghost use Rattle.check_expr.specs.Runs.{run_of, are_run, side_out};
 
-use crate::annotations::read_cast;
 use crate::expressions::read;
 use check_moves::{Read, State};
 use check_world::World;
 use code_tree::{Expr, Operand, OperandForm, Operator};
+use expression_moves::{
+    begin_nullish, either_type, end_nullish, meet_left, part, read_cast, read_operator,
+};
 use flow_facts::Place;
 use flow_values::NoMemory;
 use type_values::FlowType;
@@ -130,14 +132,14 @@ fn read_run(
     let mut ways = Vec::new(world.alloc);
     for i in 0..operands.len() {
         let operand = &operands[i];
-        let way = state.part(is_and, fork)?;
+        let way = part(state, is_and, fork)?;
         ways.push(way)?;
         let side = read_side(world, state, operand, is_and, ty)?;
         let chain = state.noted(world, first, operand.end, side)?;
         ty = chain.ty;
         fork = chain.fork;
     }
-    let met = state.meet_left(is_and, fork, ways)?;
+    let met = meet_left(state, is_and, fork, ways)?;
     Ok(Read { ty, fork: met })
 }
 
@@ -158,7 +160,7 @@ fn read_side(
     match &operand.form {
         OperandForm::Right { operator: _, side } => {
             let right = read(world, state, side, None)?;
-            let ty = state.either_type(world, is_and, &left, right.ty)?;
+            let ty = either_type(world, state, is_and, &left, right.ty)?;
             Ok(Read {
                 ty,
                 fork: right.fork,
@@ -214,7 +216,7 @@ fn read_operand(
                 let left = state.after(left)?;
                 let right = read(world, state, side, None)?;
                 let tokens = (first, operand.first, operand.end);
-                let both = state.read_operator(world, *operator, tokens, &left, right)?;
+                let both = read_operator(world, state, *operator, tokens, &left, right)?;
                 Ok(both)
             }
         },
@@ -243,8 +245,8 @@ fn read_nullish(
     ensures around { OnOk result (around state.new ≡ around state.old) }
     ensures follows { IfOk result (λ r. Follows left.fork state.old r.fork state.new) }
 {
-    let (left, fork) = state.begin_nullish(world, place, left)?;
+    let (left, fork) = begin_nullish(world, state, place, left)?;
     let right = read(world, state, side, None)?;
-    let both = state.end_nullish(world, &left, fork, right)?;
+    let both = end_nullish(world, state, &left, fork, right)?;
     Ok(both)
 }

@@ -17,6 +17,7 @@ use crate::expressions::read;
 use check_moves::{Read, State};
 use check_world::World;
 use code_tree::{Expr, Link, LinkForm, PostfixExpr};
+use expression_moves::{read_called, read_element, read_member};
 use flow_facts::Place;
 use flow_values::{List, NoMemory};
 use member_steps::{Argument, one_function, param_at};
@@ -84,11 +85,11 @@ fn read_link(
 {
     let tokens = (first, link.first, link.end);
     match &link.form {
-        LinkForm::Member(key) => state.read_member(world, tokens, key, place, object),
+        LinkForm::Member(key) => read_member(world, state, tokens, key, place, object),
         LinkForm::Index(index) => {
             let object_type = state.after(object)?;
             let index = read(world, state, index, None)?;
-            let element = state.read_element(world, tokens, &object_type, index)?;
+            let element = read_element(world, state, tokens, &object_type, index)?;
             Ok(element)
         }
         LinkForm::Call {
@@ -97,7 +98,7 @@ fn read_link(
         } => {
             let callee_type = state.after(object)?;
             let given = read_called_with(&*world, state, arguments.as_slice(), &callee_type)?;
-            let called = state.read_called(world, tokens, &callee_type, given.as_slice())?;
+            let called = read_called(world, state, tokens, &callee_type, given.as_slice())?;
             Ok(called)
         }
     }

@@ -21,10 +21,8 @@ ghost use Rattle.check_moves.specs.View.{around, scope, env, now, told};
 ghost use Rattle.check_moves.specs.Follows.{Follows, Leaves};
 ghost use Rattle.check_expr.specs.Targets.{link_aim, aim, aim_goal, aim_now};
 
-use crate::annotations::read_annotated;
 use crate::bodies::{read_body, read_function, read_inner_block, read_returned};
 use crate::expressions::{read, read_test};
-use crate::functions::read_variable_goal;
 use crate::postfixes::read_links;
 use check_moves::{Read, State};
 use check_world::World;
@@ -33,11 +31,15 @@ use code_tree::{
     Assignment, Branch, Declaration, Else, Expr, ExprForm, IfStatement, Link, LinkForm,
     PostfixExpr, Simple, SimpleForm, Statement, StatementForm, WhileStatement,
 };
+use expression_moves::read_annotated;
 use fact_ways::Fork;
 use flow_facts::Place;
 use flow_values::NoMemory;
 use part_steps::{Goal, element_goal, next, property_goal};
 use place_tests::{step_place, variable_in};
+use statement_moves::{
+    assigned, break_loop, declare, enter_loop, leave_loop, read_variable_goal, return_bare,
+};
 
 /// A statement.
 #[cycle(reading)]
@@ -81,7 +83,7 @@ pub fn read_declaration(
     let want = read_annotated(world, state, &declaration.annotation)?;
     let value = read(&*world, state, &declaration.value, want.as_ref())?;
     let token = next(declaration.first)?;
-    state.declare(world, token, declaration.binder, want, value)?;
+    declare(world, state, token, declaration.binder, want, value)?;
     Ok(())
 }
 
@@ -96,7 +98,7 @@ pub fn read_simple(world: &World<'_>, state: &mut State, simple: &Simple) -> Res
     ensures follows { OnOk result (Follows None state.old None state.new) }
 {
     match &simple.form {
-        SimpleForm::Return => state.return_bare(world, simple.first, simple.end),
+        SimpleForm::Return => return_bare(world, state, simple.first, simple.end),
         SimpleForm::ReturnValue(value) => read_returned(world, state, value),
         SimpleForm::Throw(value) => {
             let value = read(world, state, value, None)?;
@@ -104,7 +106,7 @@ pub fn read_simple(world: &World<'_>, state: &mut State, simple: &Simple) -> Res
             state.die();
             Ok(())
         }
-        SimpleForm::Break => state.break_loop(),
+        SimpleForm::Break => break_loop(state),
         SimpleForm::Continue => {
             state.die();
             Ok(())
@@ -132,7 +134,7 @@ fn read_assignment(
     };
     let value = &assignment.value;
     let read = read(&*world, state, value, goal.want())?;
-    state.assigned(world, (value.first, value.end), goal, read)?;
+    assigned(world, state, (value.first, value.end), goal, read)?;
     Ok(())
 }
 
@@ -330,9 +332,9 @@ fn read_loop(
     ensures env { (first end : ℕ) → OnOk result (env state.new ≡ read_stmt (world_view world.now) first end (while_statement_view statement.now) (env state.old)) }
     ensures follows { OnOk result (Follows None state.old None state.new) }
 {
-    let outer = state.enter_loop(plan.changes.as_slice())?;
+    let outer = enter_loop(state, plan.changes.as_slice())?;
     let fork = read_test(world, state, &statement.test)?;
     read_body(world, state, &statement.body, part(Some(plan), 0))?;
-    state.leave_loop(fork, outer)?;
+    leave_loop(state, fork, outer)?;
     Ok(())
 }

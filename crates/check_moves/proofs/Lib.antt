@@ -1,11 +1,4 @@
 pub mod Following
 pub mod Ways
-pub mod Sequels
-pub mod Outsides
-pub mod Meeting
-pub mod Rounds
-pub mod Choosing
-pub mod Operating
-pub mod Stepping
-pub mod Prefixing
+pub mod Returning
 pub mod Wanted

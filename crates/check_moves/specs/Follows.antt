@@ -1,12 +1,10 @@
 -- What stays behind a state: the marks, and the heights of its names.
 use Rattle.std.specs.Prelude.{◌≡◌, List, Option, None}
-use Rattle.refine_flow.specs.Standing.{EntersMark}
 use Rattle.scopes.specs.View.{IsTop, KeepsHeights}
 use Rattle.fact_ways.specs.declared.fork.Fork.{Fork}
 use Rattle.fact_ways.specs.Ways.{Fits, Goes, Leads, AreNested, outermost}
 use Rattle.check_moves.specs.View.{now}
 use Rattle.check_moves.specs.declared.state.State.{State}
-use Rattle.check_moves.specs.declared.functions.Outside.{Outside}
 
 -- from ways to others, which stand
 pub record Follows (from : Option Fork) (old : State) (to : Option Fork) (new : State) : Type 0 where
@@ -19,14 +17,3 @@ pub record Leaves (before : State) (left : List Fork) (inner : Option Fork) (s :
   pub fits : Fits inner s.facts
   pub goes : Goes None before.facts (outermost left inner) s.facts
   pub heights : KeepsHeights before.scope s.scope
-
--- what stands around a function is that of a state before, whose facts stand at the mark
-pub record IsOutside (o : Outside) (before : State) (s : State) : Type 0 where
-  pub heights : KeepsHeights before.scope s.scope
-  pub marks : EntersMark o.mark before.facts s.facts
-  pub height : IsTop o.height before.scope
-  pub depth : o.depth ≡ before.scope.depth
-  pub result : o.result ≡ before.scope.result
-  pub returned : o.returned ≡ before.returned
-  pub breaks : o.breaks ≡ before.breaks
-  pub stopped : o.stopped ≡ (now before).notes.stopped

@@ -17,63 +17,7 @@ use Rattle.fact_ways.specs.Ways.{all_joined, way_of}
 use Rattle.refine_flow.specs.declared.facts.Facts.{Facts}
 use Rattle.check_moves.specs.declared.branches.Chosen.{Chosen}
 
--- an operator whose sides are both read whatever the left one is
-abbrev pub is_plain : Operator → Bool
-is_plain nullish = false
-is_plain or = false
-is_plain and = false
-is_plain op = true
-
 -- a type is below what it is read against, if that is told
 abbrev pub is_met : World → Want → FlowType → Bool
 is_met w None ty = true
 is_met w (Some want) ty = w.below ty want
-
--- what the right side of `&&` (true) or `||` is read from
-abbrev pub goes_on : Bool → Out → Now
-goes_on true o = on_yes o
-goes_on false o = on_no o
-
--- the facts where the right side of `&&` (true) or `||` is not read
-abbrev pub leaving : Bool → Out → Known
-leaving true o = no_of o
-leaving false o = o.yes
-
--- what a chain of `&&` (true) or `||` gives whose last operand was read, with the ways that left it before, the last one first
-abbrev pub met : Bool → List Known → Out → Out
-met true ways o = record o { no = Some (all_joined ways (no_of o)) }
-met false ways o = record o { yes = all_joined ways o.yes; no = Some (no_of o) }
-
--- what the right side of `??` is read from, by the type of the left one and what stands behind it
-abbrev pub nullish_from : World → Option Place → FlowType → Now → Now
-nullish_from w None ty now = now
-nullish_from w (Some p) ty now = change_facts (assume w test.Nullish p ty) now
-
--- The facts where a test of a comparison holds of a place, be it one with a literal or not.
-abbrev pub assume_by : World → Bool → Place → Test → Known → Known
-assume_by w is_literal p t facts =
-    let narrowed = assume w t p made.Any facts in if is_literal then assume_on_property w t p.binding p.prop narrowed else narrowed
-
--- a branch of a conditional, by facts at which its way stands
-abbrev pub chosen_view : Facts → Chosen → forms.Chosen
-chosen_view f c = record { first = c.first; ty = c.ty; facts = way_of f c.fork }
-
--- the names and the depth of a function that is entered
-abbrev pub entered_env : Option Binding → Option FlowType → Env → Env
-entered_env own output env = record env {
-  scope = record { names = option_to_list own ++ env.scope.names; depth = suc env.scope.depth; result = output };
-}
-
--- Before a function's own names are bound: it sees its own name, if it is an expression with one, and is to return a type.
-abbrev pub function_env : Option Binding → Bool → Option FlowType → Env → Env
-function_env own keeps output env = record env {
-  scope = record { names = option_to_list own ++ env.scope.names; depth = suc env.scope.depth; result = output };
-  facts = kept_facts keeps env.facts;
-  returned = [];
-  breaks = None;
-}
-
--- the branches of a conditional that ends at a token, the last one first, and all that follows them
-abbrev pub choices_left : World → ℕ → List forms.Chosen → Out → Out
-choices_left w t [] o = o
-choices_left w t (c ∷ chosen) o = choices_left w t chosen (forms.choices_out w t (c ∷ []) o)

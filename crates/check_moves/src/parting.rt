@@ -7,7 +7,7 @@ ghost use Rattle.refine_flow.specs.Standing.{known};
 ghost use Rattle.fact_ways.specs.Ways.{Fits, AreNested, outermost, way_of, ways_of, yes_of, all_joined};
 
 use crate::state::State;
-use fact_ways::{Fork, meet, meet_all, meet_same, split, stand, swap, take};
+use fact_ways::{Fork, meet, meet_all, meet_arms, meet_same, split, stand, swap, take};
 use flow_values::NoMemory;
 use refine_flow::Joins;
 
@@ -17,7 +17,7 @@ impl State {
 
     // Two ways from here, which are the same so far.
     #[tactic(auto, using(crate::proofs::Following::follows_facts), unfolding(crate::specs::View::around, crate::specs::View::now))]
-    pub(crate) fn stand(&mut self) -> Result<Fork, NoMemory>
+    pub fn stand(&mut self) -> Result<Fork, NoMemory>
         ensures now { OnOk result (now self.new ≡ now self.old) }
         ensures arm { IfOk result (λ k. way_of self.new.facts k ≡ known self.old.facts) }
         ensures around { OnOk result (around self.new ≡ around self.old) }
@@ -28,7 +28,7 @@ impl State {
 
     // The two ways behind an expression, also where they are the same.
     #[tactic(auto, using(crate::proofs::Following::follows_facts), unfolding(crate::specs::View::around, crate::specs::View::now))]
-    pub(crate) fn split(&mut self, fork: Option<Fork>) -> Result<Fork, NoMemory>
+    pub fn split(&mut self, fork: Option<Fork>) -> Result<Fork, NoMemory>
         requires { Fits fork self.old.facts }
         ensures now { OnOk result (now self.new ≡ now self.old) }
         ensures arm { IfOk result (λ k. way_of self.new.facts k ≡ yes_of fork self.old.facts) }
@@ -56,7 +56,7 @@ impl State {
 
     // Goes on with the way of the arm alone.
     #[tactic(auto, using(crate::proofs::Following::follows_facts), unfolding(crate::specs::View::around, crate::specs::View::now))]
-    pub(crate) fn take(&mut self, fork: Fork) -> Result<(), NoMemory>
+    pub fn take(&mut self, fork: Fork) -> Result<(), NoMemory>
         requires { Fits (Some fork) self.old.facts }
         ensures now { OnOk result (now self.new ≡ record (now self.old) { facts = way_of self.old.facts fork }) }
         ensures around { OnOk result (around self.new ≡ around self.old) }
@@ -67,7 +67,7 @@ impl State {
 
     // The way of the arm meets the one that went on. Joins may wait for those with a way around.
     #[tactic(auto, using(crate::proofs::Following::follows_facts), unfolding(crate::specs::View::around, crate::specs::View::now))]
-    pub(crate) fn meet(&mut self, fork: Fork, joins: Joins) -> Result<(), NoMemory>
+    pub fn meet(&mut self, fork: Fork, joins: Joins) -> Result<(), NoMemory>
         requires { Fits (Some fork) self.old.facts }
         ensures now { OnOk result (now self.new ≡ record (now self.old) { facts = joined (way_of self.old.facts fork) (known self.old.facts) }) }
         ensures around { OnOk result (around self.new ≡ around self.old) }
@@ -78,7 +78,7 @@ impl State {
 
     // The facts meet themselves, as two ways do that are the same.
     #[tactic(auto, using(crate::proofs::Following::follows_facts), unfolding(crate::specs::View::around, crate::specs::View::now))]
-    pub(crate) fn meet_same(&mut self) -> Result<(), NoMemory>
+    pub fn meet_same(&mut self) -> Result<(), NoMemory>
         ensures now { OnOk result (now self.new ≡ record (now self.old) { facts = joined (known self.old.facts) (known self.old.facts) }) }
         ensures around { OnOk result (around self.new ≡ around self.old) }
         ensures follows { OnOk result (Follows None self.old None self.new) }
@@ -88,7 +88,7 @@ impl State {
 
     // The ways behind an expression meet, be they the same or not.
     #[tactic(auto, unfolding(crate::specs::View::around, crate::specs::View::now))]
-    pub(crate) fn meet_both(&mut self, fork: Option<Fork>) -> Result<(), NoMemory>
+    pub fn meet_both(&mut self, fork: Option<Fork>) -> Result<(), NoMemory>
         requires { Fits fork self.old.facts }
         ensures now { OnOk result (now self.new ≡ record (now self.old) { facts = joined (yes_of fork self.old.facts) (known self.old.facts) }) }
         ensures around { OnOk result (around self.new ≡ around self.old) }
@@ -102,7 +102,7 @@ impl State {
 
     // Ways that left before all meet the one that went on, the last one first; the arm stays what it is.
     #[tactic(auto, using(crate::proofs::Following::follows_facts), unfolding(crate::specs::View::around, crate::specs::View::now))]
-    pub(crate) fn meet_ways(&mut self, last: Fork, left: Vec<Fork>) -> Result<Fork, NoMemory>
+    pub fn meet_ways(&mut self, last: Fork, left: Vec<Fork>) -> Result<Fork, NoMemory>
         requires last { Fits (Some last) self.old.facts }
         requires left { AreNested (reverse left.items) (Some last) self.old.facts }
         ensures now { OnOk result (now self.new ≡ record (now self.old) { facts = all_joined (ways_of self.old.facts (reverse left.items)) (known self.old.facts) }) }
@@ -111,5 +111,20 @@ impl State {
         ensures follows { IfOk result (λ k. Follows (outermost (reverse left.items) (Some last)) self.old (Some k) self.new) }
     {
         meet_all(&mut self.facts, last, left)
+    }
+
+    /// The ways behind the arms of an `if`, the last one first, meet all that follows them.
+    ///
+    /// # Errors
+    ///
+    /// `NoMemory` where memory is refused.
+    #[tactic(auto, using(crate::proofs::Following::follows_facts), unfolding(crate::specs::View::around, crate::specs::View::now, crate::specs::View::told))]
+    pub fn meet_arms(&mut self, arms: Vec<Fork>) -> Result<(), NoMemory>
+        requires { AreNested (reverse arms.items) None self.old.facts }
+        ensures now { OnOk result (now self.new ≡ record (now self.old) { facts = all_joined (ways_of self.old.facts (reverse arms.items)) (known self.old.facts) }) }
+        ensures around { OnOk result (around self.new ≡ around self.old) }
+        ensures follows { OnOk result (Follows (outermost (reverse arms.items) None) self.old None self.new) }
+    {
+        meet_arms(&mut self.facts, arms)
     }
 }

@@ -144,4 +144,56 @@ impl State {
         self.notes.ask_want(world, first, end, want, &read.ty)?;
         Ok(read)
     }
+
+    /// Whether the code cannot be reached.
+    pub fn is_stopped(&self) -> bool
+        ensures { result ≡ (now self.now).notes.stopped }
+    {
+        self.notes.is_stopped()
+    }
+
+    /// Says whether the code cannot be reached.
+    #[tactic(auto, using(crate::proofs::Following::follows_notes), unfolding(crate::specs::View::around, crate::specs::View::now, crate::specs::View::told))]
+    pub fn set_stopped(&mut self, stopped: bool)
+        ensures now { now self.new ≡ change_notes (λ notes. record notes { stopped = stopped }) (now self.old) }
+        ensures around { around self.new ≡ around self.old }
+        ensures follows { Follows None self.old None self.new }
+    {
+        self.notes.set_stopped(stopped);
+    }
+
+    /// Behind this nothing is reached.
+    #[tactic(auto, using(crate::proofs::Following::follows_kept), unfolding(crate::specs::View::around, crate::specs::View::now, crate::specs::View::told))]
+    pub fn die(&mut self)
+        ensures env { env self.new ≡ dead (env self.old) }
+        ensures follows { Follows None self.old None self.new }
+    {
+        self.facts.die();
+    }
+
+    /// A type that is returned.
+    ///
+    /// # Errors
+    ///
+    /// `NoMemory` where memory is refused.
+    #[tactic(auto, using(crate::proofs::Returning::returns_stopped, crate::proofs::Returning::returns_live, crate::proofs::Following::follows_nothing), unfolding(crate::specs::View::around, crate::specs::View::now, crate::specs::View::told))]
+    pub fn returns(&mut self, ty: FlowType) -> Result<(), NoMemory>
+        ensures env { OnOk result (env self.new ≡ returns ty (env self.old)) }
+        ensures follows { OnOk result (Follows None self.old None self.new) }
+    {
+        if self.notes.is_stopped() {
+            return Ok(());
+        }
+        self.returned.push(ty)
+    }
+
+    // What is known of properties is forgotten, since a call may change them.
+    #[tactic(auto, using(crate::proofs::Following::follows_kept), unfolding(crate::specs::View::around, crate::specs::View::now, crate::specs::View::told))]
+    pub fn forget_properties(&mut self)
+        ensures now { now self.new ≡ change_facts (live without_properties) (now self.old) }
+        ensures around { around self.new ≡ around self.old }
+        ensures follows { Follows None self.old None self.new }
+    {
+        self.facts.call();
+    }
 }

@@ -2,7 +2,7 @@ use Rattle.std.proofs.Common.{List, None, take, drop, ◌+◌, ◌-◌, Ok, Opti
 use Rattle.std.specs.Option.{option_copied, option_map}
 use Rattle.check_moves.proofs.Following.{follows_through}
 use Rattle.check_moves.specs.View.{around, env, now, scope, told}
-use Rattle.check_moves.specs.declared.branches.Chosen.{Chosen}
+use Rattle.expression_moves.specs.declared.branches.Chosen.{Chosen}
 use Rattle.check_world.specs.View.{world_view}
 use Rattle.code_changes.specs.View.{changes_view}
 use Rattle.code_tree.specs.Flat.{operator_view, signature_view}
@@ -46,7 +46,8 @@ use Rattle.check_expr.proofs.Bodied.{block_body_told, block_form_told, evaluate_
 use Rattle.check_expr.proofs.Branching.{conditional_form_told, if_told, stmt_as, while_told}
 use Rattle.check_expr.proofs.Chains.{operands_all_read, operands_begin, operands_next, operands_run, place_gone, run_at, run_cut, run_here, run_begin, run_follows, run_met, run_next}
 use Rattle.check_expr.proofs.Choices.{arms_begin, arms_chosen, arms_next, arms_now, branches_arms, branches_begin, branches_env, branches_next, statements_all, statements_begin, statements_next}
-use Rattle.check_expr.proofs.Entering.{arrow_block_told, arrow_value_told, function_told, inside_on, made, outside_on}
+use Rattle.check_expr.proofs.Entering.{arrow_block_told, arrow_value_told, function_told, inside_on, outside_on}
+use Rattle.statement_moves.proofs.Entering.{made}
 use Rattle.check_expr.proofs.Leaving.{simple_told}
 use Rattle.check_expr.proofs.Parts.{most_at, most_part}
 use Rattle.check_expr.proofs.Other.{last_some, no_target, plain_form, same_now}
@@ -108,7 +109,7 @@ pub expressions::read_plain-returns-in_ok-marked-in-Prefix-clause-told : goal.ex
 expressions::read_plain-returns-in_ok-marked-in-Prefix-clause-told t c = c.in_ok-marked-in-Prefix.ensures.told ∙ prefix_told (world_view c.args.world.now) c.args.first c.args.end c.args.form.now c.in-Prefix.marks c.as_slice.result.now c.in-Prefix.operand c.get-operand.result.now _ (scope c.args.state.now) (now c.args.state.now) c.in-Prefix.is c.as_slice.ensures c.get-operand.ensures c.in_ok-read-in-Prefix.ensures.told
 
 pub expressions::read_plain-returns-in_ok-marked-in-Prefix-clause-follows : goal.expressions::read_plain-returns-in_ok-marked-in-Prefix-clause-follows
-expressions::read_plain-returns-in_ok-marked-in-Prefix-clause-follows t c = follows_through None c.in_ok-read-in-Prefix.read.fork c.in_ok-marked-in-Prefix.marked.fork c.args.state.now c.read-in-Prefix.new.state c.read_prefixes.new.self c.in_ok-read-in-Prefix.ensures.follows c.in_ok-marked-in-Prefix.ensures.follows
+expressions::read_plain-returns-in_ok-marked-in-Prefix-clause-follows t c = follows_through None c.in_ok-read-in-Prefix.read.fork c.in_ok-marked-in-Prefix.marked.fork c.args.state.now c.read-in-Prefix.new.state c.read_prefixes.new.state c.in_ok-read-in-Prefix.ensures.follows c.in_ok-marked-in-Prefix.ensures.follows
 
 pub expressions::read_plain-returns-in-Chain-clause-told : goal.expressions::read_plain-returns-in-Chain-clause-told
 expressions::read_plain-returns-in-Chain-clause-told t c = told_on c.read_chain.result c.read_chain.new.state _ _ (c.read_chain.ensures.told c.args.end) (sym (read_as (world_view c.args.world.now) c.args.first c.args.end (expr_form_view c.args.form.now) _ (scope c.args.state.now) None (now c.args.state.now) (expr_form_chain c.args.form.now c.in-Chain.e c.in-Chain.is)))
@@ -145,17 +146,17 @@ expressions::read_chain-returns-clause-told t c =
     c.get-left.ensures (c.as_ref.ensures.value ∙ c.in_ok-want.ensures ∙ ap (λ (os : List Operand). first_want (world_view c.args.world.now) (operands_view os)) c.as_slice-operands.ensures) (c.in_ok-comparison.ensures ∙ ap (λ (os : List Operand). compared (scope_view c.args.state.now.scope) (expr_view c.get-left.result.now) (operands_view os)) c.as_slice-operands.ensures) c.in_ok-place.ensures c.in_ok-first_part.ensures.told c.in_ok-first_part.ensures.around (c.in_ok-chain.ensures.told ∙ ap (λ (os : List Operand). read_operands (world_view c.args.world.now) c.args.first (operands_view os) c.in_ok-place.place (scope c.read.new.state) (told c.in_ok-first_part.first_part c.read.new.state)) c.as_slice-operands.ensures)
 
 pub expressions::read_chain-returns-clause-follows : goal.expressions::read_chain-returns-clause-follows
-expressions::read_chain-returns-clause-follows t c = follows_through None c.in_ok-chain.chain.fork c.in_ok-compared.compared.fork c.args.state.now c.read_operands.new.state c.compare_place.new.self (follows_through None c.in_ok-first_part.first_part.fork c.in_ok-chain.chain.fork c.args.state.now c.read.new.state c.read_operands.new.state c.in_ok-first_part.ensures.follows c.in_ok-chain.ensures.follows) c.in_ok-compared.ensures.follows
+expressions::read_chain-returns-clause-follows t c = follows_through None c.in_ok-chain.chain.fork c.in_ok-compared.compared.fork c.args.state.now c.read_operands.new.state c.compare_place.new.state (follows_through None c.in_ok-first_part.first_part.fork c.in_ok-chain.chain.fork c.args.state.now c.read.new.state c.read_operands.new.state c.in_ok-first_part.ensures.follows c.in_ok-chain.ensures.follows) c.in_ok-compared.ensures.follows
 
 pub expressions::read_conditional-meet_branches-requires-clause-nested : goal.expressions::read_conditional-meet_branches-requires-clause-nested
 expressions::read_conditional-meet_branches-requires-clause-nested t c = conditional_fits (map (λ (k : Chosen). k.fork) (reverse c.in_ok-chosen.chosen.items)) c.in_ok-last.last.fork c.args.state.now c.read_arms.new.state c.read.new.state c.in_ok-chosen.ensures.leaves c.in_ok-last.ensures.follows
 
 pub expressions::read_conditional-returns-clause-told : goal.expressions::read_conditional-returns-clause-told
 expressions::read_conditional-returns-clause-told t c =
-    λ first. conditional_form_told (world_view c.args.world.now) first c.args.end c.args.e.now c.as_slice.result.now c.get.result.now (option_copied c.args.want) c.in_ok-chosen.chosen.items c.in_ok-last.last c.in_ok-met.met c.args.state.now c.read_arms.new.state c.read.new.state c.meet_branches.new.self c.as_slice.ensures c.get.ensures c.in_ok-chosen.ensures.now c.in_ok-chosen.ensures.chosen c.in_ok-chosen.ensures.around c.in_ok-chosen.ensures.leaves c.in_ok-last.ensures.told c.in_ok-last.ensures.follows c.in_ok-met.ensures.told
+    λ first. conditional_form_told (world_view c.args.world.now) first c.args.end c.args.e.now c.as_slice.result.now c.get.result.now (option_copied c.args.want) c.in_ok-chosen.chosen.items c.in_ok-last.last c.in_ok-met.met c.args.state.now c.read_arms.new.state c.read.new.state c.meet_branches.new.state c.as_slice.ensures c.get.ensures c.in_ok-chosen.ensures.now c.in_ok-chosen.ensures.chosen c.in_ok-chosen.ensures.around c.in_ok-chosen.ensures.leaves c.in_ok-last.ensures.told c.in_ok-last.ensures.follows c.in_ok-met.ensures.told
 
 pub expressions::read_conditional-returns-clause-follows : goal.expressions::read_conditional-returns-clause-follows
-expressions::read_conditional-returns-clause-follows t c = conditional_follows (map (λ (k : Chosen). k.fork) (reverse c.in_ok-chosen.chosen.items)) c.in_ok-last.last.fork c.in_ok-met.met.fork c.args.state.now c.read_arms.new.state c.read.new.state c.meet_branches.new.self c.in_ok-chosen.ensures.leaves c.in_ok-last.ensures.follows c.in_ok-met.ensures.follows
+expressions::read_conditional-returns-clause-follows t c = conditional_follows (map (λ (k : Chosen). k.fork) (reverse c.in_ok-chosen.chosen.items)) c.in_ok-last.last.fork c.in_ok-met.met.fork c.args.state.now c.read_arms.new.state c.read.new.state c.meet_branches.new.state c.in_ok-chosen.ensures.leaves c.in_ok-last.ensures.follows c.in_ok-met.ensures.follows
 
 pub expressions::read_arms-loop-i-init : goal.expressions::read_arms-loop-i-init
 expressions::read_arms-loop-i-init t c = arms_begin (world_view c.args.world.now) c.args.arms.now (option_copied c.args.want) c.args.state.now _ (search rules)
@@ -175,7 +176,7 @@ expressions::read_arms-returns t c =
     }
 
 pub expressions::read_test-returns : goal.expressions::read_test-returns
-expressions::read_test-returns t c = test_read _ c.in_ok-test.test c.in_ok-way.way c.args.state.now c.read.new.state c.part.new.self c.in_ok-test.ensures.told c.in_ok-test.ensures.around c.in_ok-test.ensures.follows (c.in_ok-way.ensures.now c.in_ok-test.test.ty) (c.in_ok-way.ensures.arm c.in_ok-test.test.ty) c.in_ok-way.ensures.around c.in_ok-way.ensures.follows
+expressions::read_test-returns t c = test_read _ c.in_ok-test.test c.in_ok-way.way c.args.state.now c.read.new.state c.part.new.state c.in_ok-test.ensures.told c.in_ok-test.ensures.around c.in_ok-test.ensures.follows (c.in_ok-way.ensures.now c.in_ok-test.test.ty) (c.in_ok-way.ensures.arm c.in_ok-test.test.ty) c.in_ok-way.ensures.around c.in_ok-way.ensures.follows
 
 pub expressions::read_arm-turn-requires : goal.expressions::read_arm-turn-requires
 expressions::read_arm-turn-requires t c = turned_fits (arm_out (world_view c.args.world.now) c.args.arm.now c.args.state.now) c.in_ok-fork.fork c.args.state.now c.read_test.new.state c.after.new.self c.in_ok-fork.ensures (follows_through None c.in_ok-branch.branch.fork None c.read_test.new.state c.read.new.state c.after.new.self c.in_ok-branch.ensures.follows c.in_ok-ty.ensures.follows)
@@ -242,12 +243,12 @@ expressions::read_fields-bounds-rows-i t c = omega (arith, rows_length c.args.fi
 
 pub expressions::read_field-returns-in_ok-noted-in-Shorthand-clause-told : goal.expressions::read_field-returns-in_ok-noted-in-Shorthand-clause-told
 expressions::read_field-returns-in_ok-noted-in-Shorthand-clause-told t c =
-    c.in_ok-noted-in-Shorthand.ensures.told ∙ shorthand_told (world_view c.args.world.now) (out-Field c.args.field.now).first c.in_ok-end-in-Shorthand.end c.in-Shorthand.name (option_copied c.args.want) c.in_ok-variable-in-Shorthand.variable c.in_ok-asked-in-Shorthand.asked c.args.state.now c.read_variable.new.self c.against.new.self c.in_ok-end-in-Shorthand.ensures c.in_ok-variable-in-Shorthand.ensures.told c.in_ok-asked-in-Shorthand.ensures.told
+    c.in_ok-noted-in-Shorthand.ensures.told ∙ shorthand_told (world_view c.args.world.now) (out-Field c.args.field.now).first c.in_ok-end-in-Shorthand.end c.in-Shorthand.name (option_copied c.args.want) c.in_ok-variable-in-Shorthand.variable c.in_ok-asked-in-Shorthand.asked c.args.state.now c.read_variable.new.state c.against.new.self c.in_ok-end-in-Shorthand.ensures c.in_ok-variable-in-Shorthand.ensures.told c.in_ok-asked-in-Shorthand.ensures.told
     ∙ sym (ap (λ (v : FieldForm). read_field (world_view c.args.world.now) (out-Field c.args.field.now).first v (scope c.args.state.now) (option_copied c.args.want) (now c.args.state.now)) (field_form_shorthand (out-Field c.args.field.now).form c.in-Shorthand.name c.in-Shorthand.is))
 
 pub expressions::read_field-returns-in_ok-noted-in-Shorthand-clause-follows : goal.expressions::read_field-returns-in_ok-noted-in-Shorthand-clause-follows
 expressions::read_field-returns-in_ok-noted-in-Shorthand-clause-follows t c =
-    follows_through None c.in_ok-asked-in-Shorthand.asked.fork c.in_ok-noted-in-Shorthand.noted.fork c.args.state.now c.against.new.self c.noted.new.self (follows_through None c.in_ok-variable-in-Shorthand.variable.fork c.in_ok-asked-in-Shorthand.asked.fork c.args.state.now c.read_variable.new.self c.against.new.self c.in_ok-variable-in-Shorthand.ensures.follows c.in_ok-asked-in-Shorthand.ensures.follows) c.in_ok-noted-in-Shorthand.ensures.follows
+    follows_through None c.in_ok-asked-in-Shorthand.asked.fork c.in_ok-noted-in-Shorthand.noted.fork c.args.state.now c.against.new.self c.noted.new.self (follows_through None c.in_ok-variable-in-Shorthand.variable.fork c.in_ok-asked-in-Shorthand.asked.fork c.args.state.now c.read_variable.new.state c.against.new.self c.in_ok-variable-in-Shorthand.ensures.follows c.in_ok-asked-in-Shorthand.ensures.follows) c.in_ok-noted-in-Shorthand.ensures.follows
 
 pub postfixes::read_postfix-returns-clause-told : goal.postfixes::read_postfix-returns-clause-told
 postfixes::read_postfix-returns-clause-told t c =
@@ -280,7 +281,7 @@ postfixes::read_link-returns-in_ok-element-in-Index-clause-told t c =
 
 pub postfixes::read_link-returns-in_ok-element-in-Index-clause-follows : goal.postfixes::read_link-returns-in_ok-element-in-Index-clause-follows
 postfixes::read_link-returns-in_ok-element-in-Index-clause-follows t c =
-    follows_through c.args.object.fork c.in_ok-index-in-Index.index.fork c.in_ok-element-in-Index.element.fork c.args.state.now c.read.new.state c.read_element.new.self (follows_through c.args.object.fork None c.in_ok-index-in-Index.index.fork c.args.state.now c.after.new.self c.read.new.state c.in_ok-object_type-in-Index.ensures.follows c.in_ok-index-in-Index.ensures.follows) c.in_ok-element-in-Index.ensures.follows
+    follows_through c.args.object.fork c.in_ok-index-in-Index.index.fork c.in_ok-element-in-Index.element.fork c.args.state.now c.read.new.state c.read_element.new.state (follows_through c.args.object.fork None c.in_ok-index-in-Index.index.fork c.args.state.now c.after.new.self c.read.new.state c.in_ok-object_type-in-Index.ensures.follows c.in_ok-index-in-Index.ensures.follows) c.in_ok-element-in-Index.ensures.follows
 
 pub postfixes::read_link-returns-in_ok-called-in-Call-clause-told : goal.postfixes::read_link-returns-in_ok-called-in-Call-clause-told
 postfixes::read_link-returns-in_ok-called-in-Call-clause-told t c =
@@ -291,7 +292,7 @@ postfixes::read_link-returns-in_ok-called-in-Call-clause-told t c =
 
 pub postfixes::read_link-returns-in_ok-called-in-Call-clause-follows : goal.postfixes::read_link-returns-in_ok-called-in-Call-clause-follows
 postfixes::read_link-returns-in_ok-called-in-Call-clause-follows t c =
-    follows_through c.args.object.fork None c.in_ok-called-in-Call.called.fork c.args.state.now c.read_called_with.new.state c.read_called.new.self (follows_through c.args.object.fork None None c.args.state.now c.after-in-Call.new.self c.read_called_with.new.state c.in_ok-callee_type-in-Call.ensures.follows c.in_ok-given-in-Call.ensures.follows) c.in_ok-called-in-Call.ensures.follows
+    follows_through c.args.object.fork None c.in_ok-called-in-Call.called.fork c.args.state.now c.read_called_with.new.state c.read_called.new.state (follows_through c.args.object.fork None None c.args.state.now c.after-in-Call.new.self c.read_called_with.new.state c.in_ok-callee_type-in-Call.ensures.follows c.in_ok-given-in-Call.ensures.follows) c.in_ok-called-in-Call.ensures.follows
 
 pub postfixes::read_called_with-returns-clause-read : goal.postfixes::read_called_with-returns-clause-read
 postfixes::read_called_with-returns-clause-read t c = c.in_ok-given.ensures.read ∙ ap (λ (ps : Option (List Param)). read_args (world_view c.args.world.now) (exprs_view c.args.arguments.now) (scope c.args.state.now) ps (now c.args.state.now)) (c.one_function-params.ensures ∙ ap one_function (search rules))
@@ -355,7 +356,7 @@ pub operands::read_run-loop-i-preserved : goal.operands::read_run-loop-i-preserv
 operands::read_run-loop-i-preserved t c =
     record {
       count = search rules;
-      read = run_next (world_view c.args.world.now) c.args.first c.args.operands.now c.loop-i.i c.index-operands-i.result c.args.is_and c.args.left c.loop-i.ways.items c.push.new.self.items c.loop-i.ty c.loop-i.fork c.in_ok-way.way c.in_ok-side.side c.in_ok-chain.chain c.args.state.now c.loop-i.state c.part.new.self c.read_side.new.state c.noted.new.self
+      read = run_next (world_view c.args.world.now) c.args.first c.args.operands.now c.loop-i.i c.index-operands-i.result c.args.is_and c.args.left c.loop-i.ways.items c.push.new.self.items c.loop-i.ty c.loop-i.fork c.in_ok-way.way c.in_ok-side.side c.in_ok-chain.chain c.args.state.now c.loop-i.state c.part.new.state c.read_side.new.state c.noted.new.self
           (omega arith) c.index-operands-i.is (run_at c.args.operands.now c.loop-i.i c.index-operands-i.result c.args.is_and c.requires.run (omega arith) c.index-operands-i.is) c.loop-i.invariant.read (c.in_ok-way.ensures.now c.loop-i.ty) (c.in_ok-way.ensures.arm c.loop-i.ty) c.in_ok-way.ensures.around c.in_ok-way.ensures.follows
           c.in_ok-side.ensures.told c.in_ok-side.ensures.around c.in_ok-side.ensures.follows c.in_ok-chain.ensures.told c.in_ok-chain.ensures.around c.in_ok-chain.ensures.follows (search rules);
     }
@@ -368,13 +369,13 @@ pub operands::read_run-meet_left-requires-clause-left : goal.operands::read_run-
 operands::read_run-meet_left-requires-clause-left t c = c.loop-i.invariant.read.nested
 
 pub operands::read_run-returns-clause-told : goal.operands::read_run-returns-clause-told
-operands::read_run-returns-clause-told t c = λ place. run_met (world_view c.args.world.now) c.args.first c.args.operands.now c.loop-i.i c.args.is_and c.args.left c.loop-i.ways.items c.loop-i.ty c.loop-i.fork c.in_ok-met.met c.args.state.now c.loop-i.state c.meet_left.new.self place (omega arith) c.requires.some c.loop-i.invariant.read (omega (arith, c.loop-i.invariant.count)) (c.in_ok-met.ensures.told c.loop-i.ty)
+operands::read_run-returns-clause-told t c = λ place. run_met (world_view c.args.world.now) c.args.first c.args.operands.now c.loop-i.i c.args.is_and c.args.left c.loop-i.ways.items c.loop-i.ty c.loop-i.fork c.in_ok-met.met c.args.state.now c.loop-i.state c.meet_left.new.state place (omega arith) c.requires.some c.loop-i.invariant.read (omega (arith, c.loop-i.invariant.count)) (c.in_ok-met.ensures.told c.loop-i.ty)
 
 pub operands::read_run-returns-clause-around : goal.operands::read_run-returns-clause-around
 operands::read_run-returns-clause-around t c = c.in_ok-met.ensures.around ∙ c.loop-i.invariant.read.same
 
 pub operands::read_run-returns-clause-follows : goal.operands::read_run-returns-clause-follows
-operands::read_run-returns-clause-follows t c = run_follows c.args.left.fork c.loop-i.fork c.in_ok-met.met c.loop-i.ways.items c.args.state.now c.loop-i.state c.meet_left.new.self c.loop-i.invariant.read.goes c.loop-i.invariant.read.heights c.in_ok-met.ensures.follows
+operands::read_run-returns-clause-follows t c = run_follows c.args.left.fork c.loop-i.fork c.in_ok-met.met c.loop-i.ways.items c.args.state.now c.loop-i.state c.meet_left.new.state c.loop-i.invariant.read.goes c.loop-i.invariant.read.heights c.in_ok-met.ensures.follows
 
 pub operands::read_more-returns-clause-told : goal.operands::read_more-returns-clause-told
 operands::read_more-returns-clause-told t c = λ place goes. c.in_ok-noted.ensures.told ∙ ap (noted_out (world_view c.args.world.now) c.args.first (out-Operand c.args.operand.now).end) (c.in_ok-read.ensures.told place goes)
@@ -390,27 +391,27 @@ operands::read_operand-returns-in_ok-both-in_default-clause-told t c =
 
 pub operands::read_operand-returns-in_ok-both-in_default-clause-follows : goal.operands::read_operand-returns-in_ok-both-in_default-clause-follows
 operands::read_operand-returns-in_ok-both-in_default-clause-follows t c =
-    follows_through c.args.left.fork c.in_ok-right-in_default.right.fork c.in_ok-both-in_default.both.fork c.args.state.now c.read.new.state c.read_operator.new.self (follows_through c.args.left.fork None c.in_ok-right-in_default.right.fork c.args.state.now c.after.new.self c.read.new.state c.in_ok-left-in_default.ensures.follows c.in_ok-right-in_default.ensures.follows) c.in_ok-both-in_default.ensures.follows
+    follows_through c.args.left.fork c.in_ok-right-in_default.right.fork c.in_ok-both-in_default.both.fork c.args.state.now c.read.new.state c.read_operator.new.state (follows_through c.args.left.fork None c.in_ok-right-in_default.right.fork c.args.state.now c.after.new.self c.read.new.state c.in_ok-left-in_default.ensures.follows c.in_ok-right-in_default.ensures.follows) c.in_ok-both-in_default.ensures.follows
 
 pub operands::read_nullish-returns-clause-told : goal.operands::read_nullish-returns-clause-told
 operands::read_nullish-returns-clause-told t c =
-    c.in_ok-both.ensures.told (told c.args.left c.args.state.now) (told_ty c.args.left c.args.state.now ∙ sym c.in_ok-left.ensures.ty) (sym (nullish_way c.args.left.fork c.in_ok-right.right.fork c.in_ok-left.fork c.args.state.now c.begin_nullish.new.self c.read.new.state c.in_ok-left.ensures.follows c.in_ok-right.ensures.follows ∙ c.in_ok-left.ensures.arm))
-    ∙ nullish_told (world_view c.args.world.now) c.args.place (expr_view c.args.side.now) c.args.left c.in_ok-right.right c.args.state.now c.begin_nullish.new.self c.read.new.state c.in_ok-left.ensures.now c.in_ok-left.ensures.around c.in_ok-right.ensures.told
+    c.in_ok-both.ensures.told (told c.args.left c.args.state.now) (told_ty c.args.left c.args.state.now ∙ sym c.in_ok-left.ensures.ty) (sym (nullish_way c.args.left.fork c.in_ok-right.right.fork c.in_ok-left.fork c.args.state.now c.begin_nullish.new.state c.read.new.state c.in_ok-left.ensures.follows c.in_ok-right.ensures.follows ∙ c.in_ok-left.ensures.arm))
+    ∙ nullish_told (world_view c.args.world.now) c.args.place (expr_view c.args.side.now) c.args.left c.in_ok-right.right c.args.state.now c.begin_nullish.new.state c.read.new.state c.in_ok-left.ensures.now c.in_ok-left.ensures.around c.in_ok-right.ensures.told
 
 pub operands::read_nullish-end_nullish-requires-clause-left : goal.operands::read_nullish-end_nullish-requires-clause-left
-operands::read_nullish-end_nullish-requires-clause-left t c = nullish_nested c.args.left.fork c.in_ok-right.right.fork c.in_ok-left.fork c.args.state.now c.begin_nullish.new.self c.read.new.state c.in_ok-left.ensures.follows c.in_ok-right.ensures.follows
+operands::read_nullish-end_nullish-requires-clause-left t c = nullish_nested c.args.left.fork c.in_ok-right.right.fork c.in_ok-left.fork c.args.state.now c.begin_nullish.new.state c.read.new.state c.in_ok-left.ensures.follows c.in_ok-right.ensures.follows
 
 pub statements::read_declaration-returns-clause-env : goal.statements::read_declaration-returns-clause-env
 statements::read_declaration-returns-clause-env t c =
-    declared_told {E = Unit {0}} (Ok tt) (world_view c.args.world.now) c.args.declaration.now c.in_ok-token.token c.in_ok-want.want c.in_ok-value.value c.args.state.now c.read_annotated.new.state c.read.new.state c.declare.new.self
+    declared_told {E = Unit {0}} (Ok tt) (world_view c.args.world.now) c.args.declaration.now c.in_ok-token.token c.in_ok-want.want c.in_ok-value.value c.args.state.now c.read_annotated.new.state c.read.new.state c.declare.new.state
     c.in_ok-want.ensures.ty c.in_ok-want.ensures.now c.in_ok-want.ensures.around c.in_ok-token.ensures (c.in_ok-value.ensures.told ∙ ap (λ (v : Option FlowType). read (world_view c.args.world.now) (expr_view (out-Declaration c.args.declaration.now).value) (scope c.read_annotated.new.state) v (now c.read_annotated.new.state)) c.as_ref.ensures.value) c.in_ok-value.ensures.around c.in_ok-declare.ensures.env
 
 pub statements::read_declaration-returns-clause-follows : goal.statements::read_declaration-returns-clause-follows
-statements::read_declaration-returns-clause-follows t c = follows_through None c.in_ok-value.value.fork None c.args.state.now c.read.new.state c.declare.new.self (follows_through None None c.in_ok-value.value.fork c.args.state.now c.read_annotated.new.state c.read.new.state c.in_ok-want.ensures.follows c.in_ok-value.ensures.follows) c.in_ok-declare.ensures.follows
+statements::read_declaration-returns-clause-follows t c = follows_through None c.in_ok-value.value.fork None c.args.state.now c.read.new.state c.declare.new.state (follows_through None None c.in_ok-value.value.fork c.args.state.now c.read_annotated.new.state c.read.new.state c.in_ok-want.ensures.follows c.in_ok-value.ensures.follows) c.in_ok-declare.ensures.follows
 
 pub statements::read_assignment-returns-clause-env : goal.statements::read_assignment-returns-clause-env
 statements::read_assignment-returns-clause-env t c =
-    λ first end. assigned_told {E = Unit {0}} (Ok tt) (world_view c.args.world.now) first end c.args.assignment.now c.in-Some.goal (option_copied c.want.result) c.in_ok-read.read c.args.state.now c.read_target.new.state c.read.new.state c.assigned.new.self
+    λ first end. assigned_told {E = Unit {0}} (Ok tt) (world_view c.args.world.now) first end c.args.assignment.now c.in-Some.goal (option_copied c.want.result) c.in_ok-read.read c.args.state.now c.read_target.new.state c.read.new.state c.assigned.new.state
     (sym (ap (option_map goal_view) c.in-Some.is) ∙ c.in_ok-goal.ensures.goal) c.in_ok-goal.ensures.now c.in_ok-goal.ensures.around c.want.ensures c.in_ok-read.ensures.told c.in_ok-read.ensures.around c.in_ok-assigned.ensures.env
 
 pub statements::read_if-meet_arms-requires : goal.statements::read_if-meet_arms-requires
@@ -450,39 +451,39 @@ pub statements::read_branch-returns-clause-leaves : goal.statements::read_branch
 statements::read_branch-returns-clause-leaves t c = turned_leaves (read (world_view c.args.world.now) (expr_view (out-Branch c.args.branch.now).test) (scope c.args.state.now) None (now c.args.state.now)) c.in_ok-fork.fork c.in_ok-way.way c.args.state.now c.read_test.new.state c.read_body.new.state c.turn.new.self c.in_ok-fork.ensures c.in_ok-read_body.ensures.follows c.in_ok-way.ensures.follows
 
 pub statements::read_loop-leave_loop-requires : goal.statements::read_loop-leave_loop-requires
-statements::read_loop-leave_loop-requires t c = turned_fits (read (world_view c.args.world.now) (expr_view (out-WhileStatement c.args.statement.now).test) (scope c.enter_loop.new.self) None (now c.enter_loop.new.self)) c.in_ok-fork.fork c.enter_loop.new.self c.read_test.new.state c.read_body.new.state c.in_ok-fork.ensures c.in_ok-read_body.ensures.follows
+statements::read_loop-leave_loop-requires t c = turned_fits (read (world_view c.args.world.now) (expr_view (out-WhileStatement c.args.statement.now).test) (scope c.enter_loop.new.state) None (now c.enter_loop.new.state)) c.in_ok-fork.fork c.enter_loop.new.state c.read_test.new.state c.read_body.new.state c.in_ok-fork.ensures c.in_ok-read_body.ensures.follows
 
 pub statements::read_loop-returns-clause-env : goal.statements::read_loop-returns-clause-env
 statements::read_loop-returns-clause-env t c =
-    λ first end. while_told (world_view c.args.world.now) first end c.args.statement.now (changes_view c.as_slice.result.now) c.in_ok-outer.outer c.in_ok-fork.fork c.args.state.now c.enter_loop.new.self c.read_test.new.state c.read_body.new.state c.leave_loop.new.self
+    λ first end. while_told (world_view c.args.world.now) first end c.args.statement.now (changes_view c.as_slice.result.now) c.in_ok-outer.outer c.in_ok-fork.fork c.args.state.now c.enter_loop.new.state c.read_test.new.state c.read_body.new.state c.leave_loop.new.state
     (loop_planned c.args.statement.now c.args.plan.now c.as_slice.result.now c.as_slice.ensures c.requires) c.in_ok-outer.ensures.env c.in_ok-outer.ensures.outer c.in_ok-fork.ensures c.in_ok-read_body.ensures.env c.in_ok-read_body.ensures.follows c.in_ok-leave_loop.ensures.env
 
 pub statements::read_loop-returns-clause-follows : goal.statements::read_loop-returns-clause-follows
 statements::read_loop-returns-clause-follows t c =
-    while_follows (read (world_view c.args.world.now) (expr_view (out-WhileStatement c.args.statement.now).test) (scope c.enter_loop.new.self) None (now c.enter_loop.new.self)) c.in_ok-fork.fork c.args.state.now c.enter_loop.new.self c.read_test.new.state c.read_body.new.state c.leave_loop.new.self c.in_ok-outer.ensures.follows c.in_ok-fork.ensures c.in_ok-read_body.ensures.follows c.in_ok-leave_loop.ensures.follows
+    while_follows (read (world_view c.args.world.now) (expr_view (out-WhileStatement c.args.statement.now).test) (scope c.enter_loop.new.state) None (now c.enter_loop.new.state)) c.in_ok-fork.fork c.args.state.now c.enter_loop.new.state c.read_test.new.state c.read_body.new.state c.leave_loop.new.state c.in_ok-outer.ensures.follows c.in_ok-fork.ensures c.in_ok-read_body.ensures.follows c.in_ok-leave_loop.ensures.follows
 
 pub bodies::read_statements-loop-i-init : goal.bodies::read_statements-loop-i-init
 bodies::read_statements-loop-i-init t c = statements_begin (world_view c.args.world.now) c.args.statements.now c.args.state.now
 
 pub bodies::read_statements-loop-i-preserved : goal.bodies::read_statements-loop-i-preserved
-bodies::read_statements-loop-i-preserved t c = statements_next (world_view c.args.world.now) c.args.statements.now c.loop-i.i c.index-statements-i.result c.args.state.now c.loop-i.state c.reach.new.self c.read_statement.new.state (omega arith) c.index-statements-i.is c.loop-i.invariant c.in_ok-reach.ensures.env c.in_ok-reach.ensures.follows c.in_ok-read_statement.ensures.env c.in_ok-read_statement.ensures.follows
+bodies::read_statements-loop-i-preserved t c = statements_next (world_view c.args.world.now) c.args.statements.now c.loop-i.i c.index-statements-i.result c.args.state.now c.loop-i.state c.reach.new.state c.read_statement.new.state (omega arith) c.index-statements-i.is c.loop-i.invariant c.in_ok-reach.ensures.env c.in_ok-reach.ensures.follows c.in_ok-read_statement.ensures.env c.in_ok-read_statement.ensures.follows
 
 pub bodies::read_statements-returns : goal.bodies::read_statements-returns
 bodies::read_statements-returns t c = record { env = statements_all (world_view c.args.world.now) c.args.statements.now c.loop-i.i c.args.state.now c.loop-i.state (omega arith) c.loop-i.invariant; follows = c.loop-i.invariant.follows }
 
 pub bodies::read_returned-returns-clause-env : goal.bodies::read_returned-returns-clause-env
-bodies::read_returned-returns-clause-env t c = returned_told {E = Unit {0}} (Ok tt) (world_view c.args.world.now) (expr_view c.args.value.now) (option_copied c.as_ref.result) c.in_ok-value.value c.args.state.now c.read.new.state c.return_value.new.self (c.as_ref.ensures.value ∙ c.in_ok-want.ensures) c.in_ok-value.ensures.told c.in_ok-value.ensures.around c.in_ok-return_value.ensures.env
+bodies::read_returned-returns-clause-env t c = returned_told {E = Unit {0}} (Ok tt) (world_view c.args.world.now) (expr_view c.args.value.now) (option_copied c.as_ref.result) c.in_ok-value.value c.args.state.now c.read.new.state c.return_value.new.state (c.as_ref.ensures.value ∙ c.in_ok-want.ensures) c.in_ok-value.ensures.told c.in_ok-value.ensures.around c.in_ok-return_value.ensures.env
 
 pub bodies::read_returned-returns-clause-follows : goal.bodies::read_returned-returns-clause-follows
-bodies::read_returned-returns-clause-follows t c = follows_through None c.in_ok-value.value.fork None c.args.state.now c.read.new.state c.return_value.new.self c.in_ok-value.ensures.follows c.in_ok-return_value.ensures.follows
+bodies::read_returned-returns-clause-follows t c = follows_through None c.in_ok-value.value.fork None c.args.state.now c.read.new.state c.return_value.new.state c.in_ok-value.ensures.follows c.in_ok-return_value.ensures.follows
 
 pub bodies::read_body-returns-in_ok-read_simple-in-Simple-clause-env : goal.bodies::read_body-returns-in_ok-read_simple-in-Simple-clause-env
 bodies::read_body-returns-in_ok-read_simple-in-Simple-clause-env t c =
-    simple_told (world_view c.args.world.now) c.in-Simple.simple c.in_ok-end-in-Simple.end c.is_stopped-stopped.result c.args.state.now c.reach.new.self c.read_simple.new.state c.set_stopped.new.self c.in_ok-end-in-Simple.ensures c.is_stopped-stopped.ensures c.in_ok-reach-in-Simple.ensures.env c.in_ok-read_simple-in-Simple.ensures.env c.set_stopped.ensures.now c.set_stopped.ensures.around
+    simple_told (world_view c.args.world.now) c.in-Simple.simple c.in_ok-end-in-Simple.end c.is_stopped-stopped.result c.args.state.now c.reach.new.state c.read_simple.new.state c.set_stopped.new.self c.in_ok-end-in-Simple.ensures c.is_stopped-stopped.ensures c.in_ok-reach-in-Simple.ensures.env c.in_ok-read_simple-in-Simple.ensures.env c.set_stopped.ensures.now c.set_stopped.ensures.around
     ∙ sym (ap (λ (v : Body). read_body (world_view c.args.world.now) v (env c.args.state.now)) (body_simple c.args.body.now c.in-Simple.simple c.in-Simple.is))
 
 pub bodies::read_body-returns-in_ok-read_simple-in-Simple-clause-follows : goal.bodies::read_body-returns-in_ok-read_simple-in-Simple-clause-follows
-bodies::read_body-returns-in_ok-read_simple-in-Simple-clause-follows t c = follows_through None None None c.args.state.now c.read_simple.new.state c.set_stopped.new.self (follows_through None None None c.args.state.now c.reach.new.self c.read_simple.new.state c.in_ok-reach-in-Simple.ensures.follows c.in_ok-read_simple-in-Simple.ensures.follows) c.set_stopped.ensures.follows
+bodies::read_body-returns-in_ok-read_simple-in-Simple-clause-follows t c = follows_through None None None c.args.state.now c.read_simple.new.state c.set_stopped.new.self (follows_through None None None c.args.state.now c.reach.new.state c.read_simple.new.state c.in_ok-reach-in-Simple.ensures.follows c.in_ok-read_simple-in-Simple.ensures.follows) c.set_stopped.ensures.follows
 
 pub expressions::read_object-returns-clause-told : goal.expressions::read_object-returns-clause-told
 expressions::read_object-returns-clause-told t c =
@@ -499,7 +500,7 @@ pub operands::read_side-returns-in_ok-ty-in-Right-clause-told : goal.operands::r
 operands::read_side-returns-in_ok-ty-in-Right-clause-told t c = side_told (world_view c.args.world.now) c.args.is_and c.args.operand.now c.in-Right.operator c.in-Right.side c.args.left c.in_ok-ty-in-Right.ty c.in_ok-right-in-Right.right c.args.state.now c.read.new.state c.in-Right.is c.in_ok-right-in-Right.ensures.told c.in_ok-ty-in-Right.ensures
 
 pub operands::read_nullish-returns-clause-follows : goal.operands::read_nullish-returns-clause-follows
-operands::read_nullish-returns-clause-follows t c = nullish_follows c.args.left.fork c.in_ok-right.right.fork c.in_ok-both.both.fork c.in_ok-left.fork c.args.state.now c.begin_nullish.new.self c.read.new.state c.end_nullish.new.self c.in_ok-left.ensures.follows c.in_ok-right.ensures.follows c.in_ok-both.ensures.follows
+operands::read_nullish-returns-clause-follows t c = nullish_follows c.args.left.fork c.in_ok-right.right.fork c.in_ok-both.both.fork c.in_ok-left.fork c.args.state.now c.begin_nullish.new.state c.read.new.state c.end_nullish.new.state c.in_ok-left.ensures.follows c.in_ok-right.ensures.follows c.in_ok-both.ensures.follows
 
 pub statements::read_statement-returns-in-Declaration-clause-env : goal.statements::read_statement-returns-in-Declaration-clause-env
 statements::read_statement-returns-in-Declaration-clause-env t c =
@@ -526,13 +527,13 @@ statements::read_statement-returns-in_ok-read_function-in-Function-clause-env t 
     function_stmt_told (world_view c.args.world.now) (out-Statement c.args.statement.now).first (out-Statement c.args.statement.now).end (out-Statement c.args.statement.now).form c.in-Function.function c.in_ok-read_function-in-Function.field-0 c.args.state.now c.read_function.new.state c.in-Function.is c.in_ok-read_function-in-Function.ensures.made c.in_ok-read_function-in-Function.ensures.around
 
 pub statements::read_simple-returns-in-Return-clause-env : goal.statements::read_simple-returns-in-Return-clause-env
-statements::read_simple-returns-in-Return-clause-env t c = env_on c.return_bare.result c.return_bare.new.self _ _ (c.return_bare.ensures.env) (sym (simple_as (world_view c.args.world.now) (out-Simple c.args.simple.now).first (out-Simple c.args.simple.now).end (simple_form_view (out-Simple c.args.simple.now).form) _ (env c.args.state.now) (simple_form_return (out-Simple c.args.simple.now).form c.in-Return.is)))
+statements::read_simple-returns-in-Return-clause-env t c = env_on c.return_bare.result c.return_bare.new.state _ _ (c.return_bare.ensures.env) (sym (simple_as (world_view c.args.world.now) (out-Simple c.args.simple.now).first (out-Simple c.args.simple.now).end (simple_form_view (out-Simple c.args.simple.now).form) _ (env c.args.state.now) (simple_form_return (out-Simple c.args.simple.now).form c.in-Return.is)))
 
 pub statements::read_simple-returns-in-ReturnValue-clause-env : goal.statements::read_simple-returns-in-ReturnValue-clause-env
 statements::read_simple-returns-in-ReturnValue-clause-env t c = env_on c.read_returned.result c.read_returned.new.state _ _ (c.read_returned.ensures.env) (sym (simple_as (world_view c.args.world.now) (out-Simple c.args.simple.now).first (out-Simple c.args.simple.now).end (simple_form_view (out-Simple c.args.simple.now).form) _ (env c.args.state.now) (simple_form_return_value (out-Simple c.args.simple.now).form c.in-ReturnValue.value c.in-ReturnValue.is)))
 
 pub statements::read_simple-returns-in-Break-clause-env : goal.statements::read_simple-returns-in-Break-clause-env
-statements::read_simple-returns-in-Break-clause-env t c = env_on c.break_loop.result c.break_loop.new.self _ _ (c.break_loop.ensures.env) (sym (simple_as (world_view c.args.world.now) (out-Simple c.args.simple.now).first (out-Simple c.args.simple.now).end (simple_form_view (out-Simple c.args.simple.now).form) _ (env c.args.state.now) (simple_form_break (out-Simple c.args.simple.now).form c.in-Break.is)))
+statements::read_simple-returns-in-Break-clause-env t c = env_on c.break_loop.result c.break_loop.new.state _ _ (c.break_loop.ensures.env) (sym (simple_as (world_view c.args.world.now) (out-Simple c.args.simple.now).first (out-Simple c.args.simple.now).end (simple_form_view (out-Simple c.args.simple.now).form) _ (env c.args.state.now) (simple_form_break (out-Simple c.args.simple.now).form c.in-Break.is)))
 
 pub statements::read_simple-returns-in-Assign-clause-env : goal.statements::read_simple-returns-in-Assign-clause-env
 statements::read_simple-returns-in-Assign-clause-env t c = env_on c.read_assignment.result c.read_assignment.new.state _ _ (c.read_assignment.ensures.env (out-Simple c.args.simple.now).first (out-Simple c.args.simple.now).end) (sym (simple_as (world_view c.args.world.now) (out-Simple c.args.simple.now).first (out-Simple c.args.simple.now).end (simple_form_view (out-Simple c.args.simple.now).form) _ (env c.args.state.now) (simple_form_assign (out-Simple c.args.simple.now).form c.in-Assign.assignment c.in-Assign.is)))
@@ -555,7 +556,7 @@ pub statements::read_simple-returns-in_ok-after-in-Evaluate-clause-follows : goa
 statements::read_simple-returns-in_ok-after-in-Evaluate-clause-follows t c = follows_through None c.in_ok-value-in-Evaluate.value.fork None c.args.state.now c.read-in-Evaluate.new.state c.after-in-Evaluate.new.self c.in_ok-value-in-Evaluate.ensures.follows c.in_ok-after-in-Evaluate.ensures.follows
 
 pub statements::read_assignment-returns-clause-follows : goal.statements::read_assignment-returns-clause-follows
-statements::read_assignment-returns-clause-follows t c = follows_through None c.in_ok-read.read.fork None c.args.state.now c.read.new.state c.assigned.new.self (follows_through None None c.in_ok-read.read.fork c.args.state.now c.read_target.new.state c.read.new.state c.in_ok-goal.ensures.follows c.in_ok-read.ensures.follows) c.in_ok-assigned.ensures.follows
+statements::read_assignment-returns-clause-follows t c = follows_through None c.in_ok-read.read.fork None c.args.state.now c.read.new.state c.assigned.new.state (follows_through None None c.in_ok-read.read.fork c.args.state.now c.read_target.new.state c.read.new.state c.in_ok-goal.ensures.follows c.in_ok-read.ensures.follows) c.in_ok-assigned.ensures.follows
 
 pub statements::read_assignment-returns-in_default-clause-env : goal.statements::read_assignment-returns-in_default-clause-env
 statements::read_assignment-returns-in_default-clause-env t c = λ first end. assigned_nothing (world_view c.args.world.now) first end c.args.assignment.now c.args.state.now c.read_target.new.state (sym (ap (option_map goal_view) c.in_default.is) ∙ c.in_ok-goal.ensures.goal) c.in_ok-goal.ensures.now c.in_ok-goal.ensures.around
@@ -641,10 +642,10 @@ pub bodies::read_arrow-returns-in_ok-ty-in-Value-clause-follows : goal.bodies::r
 bodies::read_arrow-returns-in_ok-ty-in-Value-clause-follows t c = c.in_ok-ty-in-Value.ensures.follows c.args.state.now (outside_on c.in_ok-outside.outside c.args.state.now c.enter.new.state c.read_value_body.new.state c.in_ok-outside.ensures.outside c.in_ok-read_value_body-in-Value.ensures.follows)
 
 pub expressions::read_plain-returns-in-Truth-clause-told : goal.expressions::read_plain-returns-in-Truth-clause-told
-expressions::read_plain-returns-in-Truth-clause-told t c = told_on c.read_truth.result c.read_truth.new.self _ _ (c.read_truth.ensures.told) (sym (read_as (world_view c.args.world.now) c.args.first c.args.end (expr_form_view c.args.form.now) _ (scope c.args.state.now) None (now c.args.state.now) (expr_form_truth c.args.form.now c.in-Truth.value c.in-Truth.is)))
+expressions::read_plain-returns-in-Truth-clause-told t c = told_on c.read_truth.result c.read_truth.new.state _ _ (c.read_truth.ensures.told) (sym (read_as (world_view c.args.world.now) c.args.first c.args.end (expr_form_view c.args.form.now) _ (scope c.args.state.now) None (now c.args.state.now) (expr_form_truth c.args.form.now c.in-Truth.value c.in-Truth.is)))
 
 pub expressions::read_plain-returns-in-Variable-clause-told : goal.expressions::read_plain-returns-in-Variable-clause-told
-expressions::read_plain-returns-in-Variable-clause-told t c = told_on c.read_variable.result c.read_variable.new.self _ _ (c.read_variable.ensures.told) (sym (read_as (world_view c.args.world.now) c.args.first c.args.end (expr_form_view c.args.form.now) _ (scope c.args.state.now) None (now c.args.state.now) (expr_form_variable c.args.form.now c.in-Variable.name c.in-Variable.is)))
+expressions::read_plain-returns-in-Variable-clause-told t c = told_on c.read_variable.result c.read_variable.new.state _ _ (c.read_variable.ensures.told) (sym (read_as (world_view c.args.world.now) c.args.first c.args.end (expr_form_view c.args.form.now) _ (scope c.args.state.now) None (now c.args.state.now) (expr_form_variable c.args.form.now c.in-Variable.name c.in-Variable.is)))
 
 pub expressions::read_plain-returns-in-Null-clause-told : goal.expressions::read_plain-returns-in-Null-clause-told
 expressions::read_plain-returns-in-Null-clause-told t c = c.plainly-in-Null.ensures.told ∙ sym (read_as (world_view c.args.world.now) c.args.first c.args.end (expr_form_view c.args.form.now) _ (scope c.args.state.now) None (now c.args.state.now) (expr_form_null c.args.form.now c.in-Null.is))
@@ -653,7 +654,7 @@ pub expressions::read_field-returns-in-Valued-clause-told : goal.expressions::re
 expressions::read_field-returns-in-Valued-clause-told t c = told_on c.read.result c.read.new.state _ _ (c.read.ensures.told) (sym (ap (λ (v : FieldForm). read_field (world_view c.args.world.now) (out-Field c.args.field.now).first v (scope c.args.state.now) (option_copied c.args.want) (now c.args.state.now)) (field_form_valued (out-Field c.args.field.now).form c.in-Valued.key c.in-Valued.value c.in-Valued.is)))
 
 pub postfixes::read_link-returns-in-Member-clause-told : goal.postfixes::read_link-returns-in-Member-clause-told
-postfixes::read_link-returns-in-Member-clause-told t c = told_on c.read_member.result c.read_member.new.self _ _ (c.read_member.ensures.told) (sym (ap (λ (v : LinkForm). read_link (world_view c.args.world.now) c.args.first (out-Link c.args.link.now).first (out-Link c.args.link.now).end v c.args.place (scope c.args.state.now) (told c.args.object c.args.state.now)) (link_form_member (out-Link c.args.link.now).form c.in-Member.key c.in-Member.is)))
+postfixes::read_link-returns-in-Member-clause-told t c = told_on c.read_member.result c.read_member.new.state _ _ (c.read_member.ensures.told) (sym (ap (λ (v : LinkForm). read_link (world_view c.args.world.now) c.args.first (out-Link c.args.link.now).first (out-Link c.args.link.now).end v c.args.place (scope c.args.state.now) (told c.args.object c.args.state.now)) (link_form_member (out-Link c.args.link.now).form c.in-Member.key c.in-Member.is)))
 
 pub operands::read_operand-returns-in-As-clause-told : goal.operands::read_operand-returns-in-As-clause-told
 operands::read_operand-returns-in-As-clause-told t c =

@@ -1,0 +1,3 @@
+pub mod Sequels
+pub mod Outsides
+pub mod Entering
