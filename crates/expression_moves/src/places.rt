@@ -142,8 +142,8 @@ pub fn read_variable(
 {
     match state.scope.meaning(name)? {
         Meaning::Variable(variable, declared) => read_place(
-            state,
             world,
+            state,
             place_of(variable),
             declared,
         ),
