@@ -1,50 +1,27 @@
 -- Functions and blocks, before and after their statements.
-use Rattle.std.proofs.Common.{◌≡◌, ◌↔◌, ℕ, suc, arith, rules, IsTrue, Bool, true, false, List, [], ◌++◌, Option, Some, None, refl, sym, ap, ◌∙◌, subst}
+use Rattle.std.proofs.Common.{◌≡◌, ℕ, suc, Bool, true, false, Option, Some, None, refl, sym, ap, ◌∙◌}
 use Rattle.js_grammar.specs.Code as g
-use Rattle.js_grammar.specs.Code.{Ex, Sig, sig, Stmts, function, block, arrow_block, arrow_value}
+use Rattle.js_grammar.specs.Code.{Ex, Sig, Stmts, function, block, arrow_block, arrow_value}
 use Rattle.check_values.specs.Rows.{Bytes}
 use Rattle.code_tree.specs.Flat.{signature_view}
 use Rattle.code_tree.specs.View.{function_view, block_view, statements_view}
 use Rattle.code_tree.specs.declared.types.Function.{Function, out-Function}
 use Rattle.code_tree.specs.declared.types.Block.{Block as TreeBlock, out-Block}
-use Rattle.type_values.specs.declared.types.FlowType.{FlowType}
-use Rattle.type_terms.specs.Join.{join_of}
-use Rattle.type_values.specs.declared.types.FlowType as made_type
-use Rattle.flow_facts.specs.Known.{Known, Map}
-use Rattle.std.specs.Option.{option_map}
-use Rattle.js_grammar.specs.Code.{Parameters}
-use Rattle.js_grammar.specs.Types.{Ty, ty}
-use Rattle.code_tree.specs.Flat.{parameters_view}
-use Rattle.type_tree.specs.View.{type_view}
-use Rattle.type_tree.specs.declared.types.BaseForm.{the_lemmas}
-use Rattle.type_tree.specs.declared.types.TypeTree.{TypeTree, out-TypeTree}
-use Rattle.code_tree.specs.declared.types.Signature.{Signature}
-use Rattle.typing.specs.TypeFaults.{written}
-use Rattle.refine_flow.specs.Standing.{known, EntersMark}
-use Rattle.refine_flow.specs.declared.facts.Facts.{Facts}
-use Rattle.check_world.specs.View.{notes_view}
-use Rattle.check_world.specs.declared.notes.Notes.{Notes}
-use Rattle.scopes.specs.View.{scope_view, names_in, names_at, names_since, IsHeight, IsTop, KeepsHeights}
-use Rattle.scopes.specs.declared.row.Height.{Height}
-use Rattle.scopes.specs.declared.scope.Scope.{Scope}
 use Rattle.typing.specs.Names.{Binding}
-use Rattle.typing.specs.Changes.{Change, changes_of_stmts}
+use Rattle.typing.specs.Changes.{changes_of_stmts}
 use Rattle.typing.specs.States as typing
-use Rattle.typing.specs.States.{World, Env, asked, returns}
-use Rattle.typing.specs.Functions.{function_binding, Bound, bind_sig, bind_stmts, enter_block, sig_read, result_of, function_type, end_asked, ended}
+use Rattle.typing.specs.States.{World, Env}
+use Rattle.typing.specs.Functions.{function_binding, enter_block}
 use Rattle.typing.specs.Typing.{Made, made_from, read_function, read_arrow, read_block, read_stmts}
-use Rattle.binders.specs.View.{bound_since, Binds}
-use Rattle.fact_ways.specs.Ways.{Leads, Goes}
-use Rattle.fact_ways.proofs.Marks.{goes_nowhere, enters_on}
+use Rattle.fact_ways.proofs.Marks.{enters_on}
 use Rattle.check_moves.specs.declared.state.State.{State}
 use Rattle.statement_moves.specs.declared.functions.Outside.{Outside}
-use Rattle.check_moves.specs.View.{around, scope, now, env, broken_facts}
+use Rattle.check_moves.specs.View.{around, scope, now, env}
 use Rattle.check_moves.specs.Follows.{Follows}
-use Rattle.statement_moves.specs.Outside.{IsOutside, function_env}
+use Rattle.statement_moves.specs.Outside.{IsOutside}
 use Rattle.check_moves.proofs.Following.{heights_twice}
-use Rattle.statement_moves.proofs.Outsides.{kept_names}
 use Rattle.statement_moves.specs.declared.bodies.Outer.{Outer}
-use Rattle.statement_moves.specs.Bodies.{bound_env, entered_env, IsInside}
+use Rattle.statement_moves.specs.Bodies.{entered_env, IsInside}
 use Rattle.check_expr.specs.Bodies.{own_of, block_body, value_body}
 use Rattle.check_expr.proofs.Scopes.{Keeps, stmts_keep}
 use Rattle.check_expr.proofs.Views.{function_is as function_is_tree, block_is}

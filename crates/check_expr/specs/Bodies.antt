@@ -1,5 +1,5 @@
 -- The bodies of functions.
-use Rattle.std.specs.Prelude.{ℕ, suc, Bool, true, List, Option, Some, None}
+use Rattle.std.specs.Prelude.{ℕ, suc, Bool, true, Option, Some, None}
 use Rattle.js_grammar.specs.Code.{Ex, Function, function, Sig, Stmts, no_stmt}
 use Rattle.typing.specs.Names.{Binding}
 use Rattle.typing.specs.Changes.{changes_of_ex, changes_of_stmts}

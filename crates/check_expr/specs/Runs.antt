@@ -1,15 +1,12 @@
 -- Operands of one chain, and what each gives on parts that were read.
-use Rattle.std.specs.Prelude.{ℕ, ◌&&◌, Bool, true, false, List, [], ◌∷◌, Option, Some, None, if◌then◌else◌}
+use Rattle.std.specs.Prelude.{◌&&◌, Bool, true, false, List, [], ◌∷◌, Option, Some, None, if◌then◌else◌}
 use Rattle.js_grammar.specs.Code.{or, and, Operand, operand, right_side}
-use Rattle.js_grammar.specs.Types.{Ty}
 use Rattle.type_values.specs.declared.types.FlowType.{FlowType}
 use Rattle.type_terms.specs.Join.{join_of}
 use Rattle.flow_facts.specs.Narrowing.{narrowed}
 use Rattle.flow_facts.specs.declared.test.Test as test
 use Rattle.typing.specs.Names.{Scope}
-use Rattle.typing.specs.States.{World, Now, Out, after, plainly, change_notes}
-use Rattle.typing.specs.TypeFaults.{written, type_read}
-use Rattle.typing.specs.Forms.{cast_asked}
+use Rattle.typing.specs.States.{World, Now, Out, plainly}
 use Rattle.typing.specs.Typing.{read}
 
 -- whether an operand goes on a chain of `&&` (true) or of `||` (false), or of neither

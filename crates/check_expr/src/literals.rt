@@ -2,7 +2,6 @@
 #![tactic(auto, unfolding(code_tree::specs::View::field_view, code_tree::specs::View::field_form_view))]
 
 ghost use Rattle.std.specs.Prelude.{◌≡◌, IfOk};
-ghost use Rattle.type_tree.specs.View.{key_view};
 ghost use Rattle.tree_types.specs.TreeTypes.{key_text};
 ghost use Rattle.code_tree.specs.View.{fields_view, field_form_view};
 ghost use Rattle.code_tree.specs.declared.types.Field.{out-Field};

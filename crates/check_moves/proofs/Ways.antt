@@ -1,21 +1,16 @@
 -- What ways are, in the words of the definition of typing.
-use Rattle.std.proofs.Common.{◌≡◌, Bool, true, false, List, ◌∷◌, Option, Some, None, refl, sym, ap, ◌∙◌, subst}
+use Rattle.std.proofs.Common.{◌≡◌, Option, Some, None, refl, sym, ap, ◌∙◌}
 use Rattle.type_values.specs.declared.types.FlowType.{FlowType}
-use Rattle.type_values.specs.declared.types.FlowType as made
 use Rattle.flow_facts.specs.Known.{Known, joined}
 use Rattle.refine_flow.specs.declared.facts.Facts.{Facts}
 use Rattle.refine_flow.specs.Standing.{known}
 use Rattle.check_world.specs.View.{notes_view}
-use Rattle.typing.specs.States.{Notes, Now, Out, Env, no_of as falsy, after, on_yes, on_no, plainly, change_facts, dead}
-use Rattle.typing.specs.Forms.{swapped}
-use Rattle.typing.specs.Typing.{truth_out}
+use Rattle.typing.specs.States.{Notes, Out, no_of as falsy, after}
 use Rattle.fact_ways.specs.declared.fork.Fork.{Fork}
-use Rattle.fact_ways.specs.Ways.{Fits, yes_of, no_of, way_of, ways_of, all_joined}
-use Rattle.fact_ways.proofs.Joins.{all_joined_last}
+use Rattle.fact_ways.specs.Ways.{yes_of, no_of}
 use Rattle.check_moves.specs.declared.state.State.{State}
 use Rattle.check_moves.specs.declared.state.Read.{Read}
-use Rattle.check_moves.specs.View.{now, told, env}
-use Rattle.check_moves.specs.Follows.{Follows}
+use Rattle.check_moves.specs.View.{now, told}
 
 -- what was read, with these ways
 abbrev pub read_out : FlowType → Option Fork → Facts → Notes → Out

@@ -1,9 +1,8 @@
 -- What stays behind a state: the marks, and the heights of its names.
-use Rattle.std.specs.Prelude.{◌≡◌, List, Option, None}
-use Rattle.scopes.specs.View.{IsTop, KeepsHeights}
+use Rattle.std.specs.Prelude.{List, Option, None}
+use Rattle.scopes.specs.View.{KeepsHeights}
 use Rattle.fact_ways.specs.declared.fork.Fork.{Fork}
 use Rattle.fact_ways.specs.Ways.{Fits, Goes, Leads, AreNested, outermost}
-use Rattle.check_moves.specs.View.{now}
 use Rattle.check_moves.specs.declared.state.State.{State}
 
 -- from ways to others, which stand

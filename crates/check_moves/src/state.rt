@@ -4,9 +4,9 @@
 ghost use Rattle.std.specs.Prelude.{◌≡◌, [], false, None, Some, OnOk, IfOk};
 ghost use Rattle.std.specs.Option.{option_copied};
 ghost use Rattle.check_world.specs.View.{world_view};
-ghost use Rattle.flow_facts.specs.Known.{no_facts};
+ghost use Rattle.flow_facts.specs.Known.{no_facts, live, without_properties};
 ghost use Rattle.refine_flow.specs.Standing.{open_marks};
-ghost use Rattle.typing.specs.States.{after, plainly, against, noted_out};
+ghost use Rattle.typing.specs.States.{after, plainly, against, noted_out, change_facts, change_notes, dead, returns};
 ghost use Rattle.fact_ways.specs.Ways.{Fits};
 ghost use Rattle.check_moves.specs.Moves.{is_met};
 

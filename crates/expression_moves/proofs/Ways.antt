@@ -6,7 +6,7 @@ use Rattle.flow_facts.specs.Known.{Known, joined}
 use Rattle.refine_flow.specs.declared.facts.Facts.{Facts}
 use Rattle.refine_flow.specs.Standing.{known}
 use Rattle.check_world.specs.View.{notes_view}
-use Rattle.typing.specs.States.{Notes, Now, Out, Env, no_of as falsy, after, on_yes, on_no, plainly, change_facts, dead}
+use Rattle.typing.specs.States.{Now, Env, no_of as falsy, on_yes, on_no, plainly, change_facts, dead}
 use Rattle.typing.specs.Forms.{swapped}
 use Rattle.typing.specs.Typing.{truth_out}
 use Rattle.fact_ways.specs.declared.fork.Fork.{Fork}

@@ -2,11 +2,10 @@
 #![tactic(auto, unfolding(check_moves::specs::View::around, check_moves::specs::View::now, check_moves::specs::View::told))]
 
 ghost use Rattle.std.specs.Prelude.{◌≡◌, ◌∷◌, [], None, Some, OnOk, IfOk, map, reverse};
-ghost use Rattle.refine_flow.specs.Standing.{known};
 ghost use Rattle.type_terms.specs.Join.{join_of};
 ghost use Rattle.typing.specs.Forms.{choices_out};
 ghost use Rattle.check_world.specs.View.{world_view};
-ghost use Rattle.fact_ways.specs.Ways.{Fits, AreNested, outermost, ways_of, all_joined};
+ghost use Rattle.fact_ways.specs.Ways.{Fits, AreNested, outermost};
 ghost use Rattle.check_moves.specs.View.{around, now, told};
 ghost use Rattle.check_moves.specs.Follows.{Follows};
 ghost use Rattle.expression_moves.specs.Moves.{chosen_view, choices_left};

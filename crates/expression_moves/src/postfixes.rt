@@ -3,8 +3,7 @@
 
 ghost use Rattle.std.specs.Prelude.{◌≡◌, None, OnOk, IfOk};
 ghost use Rattle.member_steps.specs.View.{arguments_view};
-ghost use Rattle.flow_facts.specs.Known.{live, without_properties};
-ghost use Rattle.typing.specs.States.{Out, change_facts};
+ghost use Rattle.typing.specs.States.{Out};
 ghost use Rattle.typing.specs.Forms.{property_out, index_out, call_out};
 ghost use Rattle.check_world.specs.View.{world_view};
 ghost use Rattle.fact_ways.specs.Ways.{Fits};

@@ -1,12 +1,7 @@
 -- Functions and blocks, before and after their statements.
-use Rattle.std.proofs.Common.{◌≡◌, ◌↔◌, ℕ, suc, arith, rules, IsTrue, Bool, true, false, List, [], ◌++◌, Option, Some, None, refl, sym, ap, ◌∙◌, subst}
-use Rattle.js_grammar.specs.Code as g
-use Rattle.js_grammar.specs.Code.{Ex, Sig, sig, Stmts, function, block, arrow_block, arrow_value}
-use Rattle.check_values.specs.Rows.{Bytes}
+use Rattle.std.proofs.Common.{◌≡◌, ◌↔◌, ℕ, arith, rules, IsTrue, Bool, true, false, List, [], ◌++◌, Option, Some, None, refl, sym, ap, ◌∙◌, subst}
+use Rattle.js_grammar.specs.Code.{Sig, sig, Stmts}
 use Rattle.code_tree.specs.Flat.{signature_view}
-use Rattle.code_tree.specs.View.{function_view, block_view, statements_view}
-use Rattle.code_tree.specs.declared.types.Function.{Function, out-Function}
-use Rattle.code_tree.specs.declared.types.Block.{Block as TreeBlock, out-Block}
 use Rattle.type_values.specs.declared.types.FlowType.{FlowType}
 use Rattle.type_terms.specs.Join.{join_of}
 use Rattle.type_values.specs.declared.types.FlowType as made_type
@@ -28,14 +23,14 @@ use Rattle.scopes.specs.View.{scope_view, names_in, names_at, names_since, IsHei
 use Rattle.scopes.specs.declared.row.Height.{Height}
 use Rattle.scopes.specs.declared.scope.Scope.{Scope}
 use Rattle.typing.specs.Names.{Binding}
-use Rattle.typing.specs.Changes.{Change, changes_of_stmts}
+use Rattle.typing.specs.Changes.{Change}
 use Rattle.typing.specs.States as typing
 use Rattle.typing.specs.States.{World, Env, asked, returns}
-use Rattle.typing.specs.Functions.{function_binding, Bound, bind_sig, bind_stmts, enter_block, sig_read, result_of, function_type, end_asked, ended}
-use Rattle.typing.specs.Typing.{Made, made_from, read_function, read_arrow, read_block, read_stmts}
+use Rattle.typing.specs.Functions.{Bound, bind_sig, bind_stmts, enter_block, sig_read, result_of, function_type, end_asked, ended}
+use Rattle.typing.specs.Typing.{made_from}
 use Rattle.binders.specs.View.{bound_since, Binds}
 use Rattle.fact_ways.specs.Ways.{Leads, Goes}
-use Rattle.fact_ways.proofs.Marks.{goes_nowhere, enters_on}
+use Rattle.fact_ways.proofs.Marks.{goes_nowhere}
 use Rattle.check_moves.specs.declared.state.State.{State}
 use Rattle.statement_moves.specs.declared.functions.Outside.{Outside}
 use Rattle.check_moves.specs.View.{around, scope, now, env, broken_facts}

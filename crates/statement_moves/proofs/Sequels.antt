@@ -1,5 +1,5 @@
 -- What statements do to what is passed on between them.
-use Rattle.std.proofs.Common.{◌≡◌, ◌↔◌, ℕ, suc, Bool, true, false, IsTrue, List, [], ◌∷◌, ◌++◌, Option, Some, None, cond, refl, sym, ap, ◌∙◌}
+use Rattle.std.proofs.Common.{◌≡◌, ◌↔◌, ℕ, suc, Bool, true, false, IsTrue, List, [], ◌∷◌, Option, Some, None, cond, refl, sym, ap, ◌∙◌}
 use Rattle.check_values.specs.Rows.{Bytes}
 use Rattle.check_values.specs.declared.codes.Code.TheVariants.{UnreachableCode}
 use Rattle.type_values.specs.declared.types.FlowType.{FlowType}

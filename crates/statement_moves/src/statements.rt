@@ -6,7 +6,7 @@ ghost use Rattle.js_grammar.specs.Code.{Ex};
 ghost use Rattle.flow_facts.specs.Known.{joined, live, assigned, without, is_named};
 ghost use Rattle.code_tree.specs.Flat.{binder_view};
 ghost use Rattle.typing.specs.Names.{declares_type};
-ghost use Rattle.typing.specs.States.{Env, change_facts, change_notes, reach, dead, returns};
+ghost use Rattle.typing.specs.States.{Env, change_facts, reach};
 ghost use Rattle.typing.specs.Statements.{binder_type, declared_env, declared_facts, returned_bare, returned_value, broken, loop_env, first_of, end_of, assigned_env, target_set};
 ghost use Rattle.check_world.specs.View.{world_view};
 ghost use Rattle.fact_ways.specs.Ways.{Fits, way_of};
