@@ -1,6 +1,7 @@
 -- Moves that the definition of typing has no words for.
 use Rattle.std.specs.Prelude.{ℕ, Bool, true, false, List, [], ◌∷◌, Option, Some, None, if◌then◌else◌}
 use Rattle.js_grammar.specs.Code.{Operator, nullish, or, and}
+use Rattle.js_grammar.specs.Types.{Ty}
 use Rattle.type_values.specs.declared.types.FlowType.{FlowType}
 use Rattle.flow_facts.specs.declared.place.Place.{Place}
 use Rattle.type_values.specs.declared.types.FlowType as made
@@ -8,8 +9,10 @@ use Rattle.flow_facts.specs.declared.test.Test.{Test}
 use Rattle.flow_facts.specs.declared.test.Test as test
 use Rattle.typing.specs.Tests.{assume_on_property}
 use Rattle.flow_facts.specs.Known.{Known}
-use Rattle.typing.specs.States.{World, Now, Out, no_of, on_yes, on_no, change_facts, assume}
+use Rattle.typing.specs.States.{World, Now, Out, no_of, on_yes, on_no, after, plainly, change_facts, change_notes, assume}
+use Rattle.typing.specs.TypeFaults.{written, type_read}
 use Rattle.typing.specs.Forms as forms
+use Rattle.typing.specs.Forms.{cast_asked}
 use Rattle.fact_ways.specs.Ways.{all_joined, way_of}
 use Rattle.refine_flow.specs.declared.facts.Facts.{Facts}
 use Rattle.expression_moves.specs.declared.branches.Chosen.{Chosen}

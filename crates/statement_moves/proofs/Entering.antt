@@ -33,7 +33,7 @@ use Rattle.fact_ways.specs.Ways.{Leads, Goes}
 use Rattle.fact_ways.proofs.Marks.{goes_nowhere}
 use Rattle.check_moves.specs.declared.state.State.{State}
 use Rattle.statement_moves.specs.declared.functions.Outside.{Outside}
-use Rattle.check_moves.specs.View.{around, scope, now, env, broken_facts}
+use Rattle.check_moves.specs.View.{around, now, env, broken_facts}
 use Rattle.check_moves.specs.Follows.{Follows}
 use Rattle.statement_moves.specs.Outside.{IsOutside, function_env}
 use Rattle.check_moves.proofs.Following.{heights_twice}
