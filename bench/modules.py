@@ -4,7 +4,8 @@
     bench/modules.py                       300 and 1,000 generated modules, and 300 dense ones of about 180 lines
     bench/modules.py SHAPE COUNT..         modules of one shape alone; SHAPE is generated, dense, shared, chain, ring or star
     bench/modules.py --workers N,.. [SHAPE COUNT..]     with so many workers each, as 1,2,4, in turn: by itself 300 dense modules,
-                                           4,096 and 30 generated ones
+                                           4,096 and 30 generated ones; beside it, what as many programs with one worker
+                                           each come to at once, which is what the machine has for that many
     bench/modules.py top SHAPE COUNT [N]   the ten functions of flowd that take most time, by perf, with N workers
     bench/modules.py write FOLDER SHAPE COUNT [ts]      writes the modules, for TypeScript where ts is said
 
@@ -161,6 +162,15 @@ def spent(words, wanted, **how):
     return seconds, usage.ru_utime + usage.ru_stime, usage.ru_maxrss / 1024
 
 
+def at_once(words, count):
+    """The seconds that so many of a program take at once."""
+    begin = time.monotonic()
+    children = [subprocess.Popen(words, stdin=subprocess.DEVNULL, stdout=subprocess.DEVNULL) for _ in range(count)]
+    if any([child.wait() for child in children]):
+        sys.exit(f"{words[0]} failed beside others")
+    return time.monotonic() - begin
+
+
 def said(who, taken):
     print(f"  {who:15} {taken[0]:7.2f} s {taken[1]:7.2f} s of processors {taken[2]:6.0f} MB", flush=True)
 
@@ -188,7 +198,10 @@ def compare(shape, count, start, workers=(None,)):
         print(f"{shape}: {count} modules, {lines} lines, {size / 1e6:.2f} MB")
         told, rounds = b"recheck 1: %d parsed, %d checked, 0 errors\n" % (count, count), ROUNDS[count <= SMALL] if workers[0] else 1
         # (in turn, since a processor may be faster at one time than at another)
-        loads = [{n: spent([FLOWD, *words_of(count, n), f"{room}/js"], told) for n in workers} for _ in range(rounds)]
+        loads, others = [], []
+        for _ in range(rounds):
+            loads.append({n: spent([FLOWD, *words_of(count, n), f"{room}/js"], told) for n in workers})
+            others.append({n: at_once([FLOWD, *words_of(count, 1), f"{room}/js"], n) for n in workers[1:]})
         ours = {n: min(load[n] for load in loads) for n in workers}
         for n in workers:
             said(f"flowd, {n} worker{'s' * (n > 1)}" if n else "flowd", ours[n])
@@ -199,6 +212,8 @@ def compare(shape, count, start, workers=(None,)):
             times = statistics.median(load[first][0] for load in loads), statistics.median(load[n][0] for load in loads)
             least = f"{ours[first][0] / ours[n][0]:.2f} by the least time of each"
             print(f"  {n} workers: {times[0] / times[1]:.2f} times as fast as {first} by the medians ({times[0]:.2f} and {times[1]:.2f} s), {least}", flush=True)
+            machine = n * times[0] / statistics.median(other[n] for other in others)
+            print(f"  {n} programs with one worker each at once: {machine:.2f} times as much in the time of one", flush=True)
         best = ours[workers[-1]]
         parts = best[0] / theirs[0], best[1] / theirs[1], best[1] / (theirs[1] - start[1]), best[2] / theirs[2]
         print("  of TypeScript's: %.3f of the time, %.3f of processors, %.3f without its start, %.3f of the memory" % parts, flush=True)
