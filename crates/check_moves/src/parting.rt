@@ -15,7 +15,11 @@ impl State {
     ghost use Rattle.check_moves.specs.View.{around, now};
     ghost use Rattle.check_moves.specs.Follows.{Follows};
 
-    // Two ways from here, which are the same so far.
+    /// Two ways from here, which are the same so far: returns the arm, and goes on with the other one.
+    ///
+    /// # Errors
+    ///
+    /// `NoMemory` where memory is refused.
     #[tactic(auto, using(crate::proofs::Following::follows_facts), unfolding(crate::specs::View::around, crate::specs::View::now))]
     pub fn stand(&mut self) -> Result<Fork, NoMemory>
         ensures now { OnOk result (now self.new ≡ now self.old) }
@@ -26,7 +30,12 @@ impl State {
         stand(&mut self.facts)
     }
 
-    // The two ways behind an expression, also where they are the same.
+    /// The two ways behind an expression, also where they are the same (`None`): goes on where it is falsy, and returns the arm, which
+    /// is where it is truthy.
+    ///
+    /// # Errors
+    ///
+    /// `NoMemory` where memory is refused.
     #[tactic(auto, using(crate::proofs::Following::follows_facts), unfolding(crate::specs::View::around, crate::specs::View::now))]
     pub fn split(&mut self, fork: Option<Fork>) -> Result<Fork, NoMemory>
         requires { Fits fork self.old.facts }
@@ -54,7 +63,11 @@ impl State {
         swap(&mut self.facts, fork)
     }
 
-    // Goes on with the way of the arm alone.
+    /// Goes on with the way of the arm alone.
+    ///
+    /// # Errors
+    ///
+    /// `NoMemory` where memory is refused.
     #[tactic(auto, using(crate::proofs::Following::follows_facts), unfolding(crate::specs::View::around, crate::specs::View::now))]
     pub fn take(&mut self, fork: Fork) -> Result<(), NoMemory>
         requires { Fits (Some fork) self.old.facts }
@@ -65,7 +78,12 @@ impl State {
         take(&mut self.facts, fork)
     }
 
-    // The way of the arm meets the one that went on. Joins may wait for those with a way around.
+    /// The way of the arm meets the one that went on. `joins` says whether types of the two are joined at once, or wait for those of a
+    /// loop's way around.
+    ///
+    /// # Errors
+    ///
+    /// `NoMemory` where memory is refused.
     #[tactic(auto, using(crate::proofs::Following::follows_facts), unfolding(crate::specs::View::around, crate::specs::View::now))]
     pub fn meet(&mut self, fork: Fork, joins: Joins) -> Result<(), NoMemory>
         requires { Fits (Some fork) self.old.facts }
@@ -76,7 +94,11 @@ impl State {
         meet(&mut self.facts, fork, joins)
     }
 
-    // The facts meet themselves, as two ways do that are the same.
+    /// The facts meet themselves, as two ways do that are the same.
+    ///
+    /// # Errors
+    ///
+    /// `NoMemory` where memory is refused.
     #[tactic(auto, using(crate::proofs::Following::follows_facts), unfolding(crate::specs::View::around, crate::specs::View::now))]
     pub fn meet_same(&mut self) -> Result<(), NoMemory>
         ensures now { OnOk result (now self.new ≡ record (now self.old) { facts = joined (known self.old.facts) (known self.old.facts) }) }
@@ -86,7 +108,11 @@ impl State {
         meet_same(&mut self.facts)
     }
 
-    // The ways behind an expression meet, be they the same or not.
+    /// The two ways behind an expression meet, also where they are the same (`None`).
+    ///
+    /// # Errors
+    ///
+    /// `NoMemory` where memory is refused.
     #[tactic(auto, unfolding(crate::specs::View::around, crate::specs::View::now))]
     pub fn meet_both(&mut self, fork: Option<Fork>) -> Result<(), NoMemory>
         requires { Fits fork self.old.facts }
@@ -100,7 +126,12 @@ impl State {
         }
     }
 
-    // Ways that left before all meet the one that went on, the last one first; the arm stays what it is.
+    /// The ways of `left`, the last one first, meet the one that went on. The arm `last`, which was made behind them all, stays what it
+    /// is, and is returned.
+    ///
+    /// # Errors
+    ///
+    /// `NoMemory` where memory is refused.
     #[tactic(auto, using(crate::proofs::Following::follows_facts), unfolding(crate::specs::View::around, crate::specs::View::now))]
     pub fn meet_ways(&mut self, last: Fork, left: Vec<Fork>) -> Result<Fork, NoMemory>
         requires last { Fits (Some last) self.old.facts }

@@ -187,7 +187,7 @@ impl State {
         self.returned.push(ty)
     }
 
-    // What is known of properties is forgotten, since a call may change them.
+    /// What is known of properties is forgotten, since a call may change them.
     #[tactic(auto, using(crate::proofs::Following::follows_kept), unfolding(crate::specs::View::around, crate::specs::View::now, crate::specs::View::told))]
     pub fn forget_properties(&mut self)
         ensures now { now self.new ≡ change_facts (live without_properties) (now self.old) }

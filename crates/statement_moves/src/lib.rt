@@ -10,7 +10,7 @@ pub use bodies::{
     Outer, bind_body, end_body, enter, enter_block, leave, leave_block, read_variable_goal,
     wanted_result,
 };
-pub use functions::{Outside, enter_function, leave_function};
+pub use functions::Outside;
 pub use statements::{
     assigned, break_loop, declare, enter_loop, leave_loop, reach, return_bare, return_value,
 };
