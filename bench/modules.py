@@ -32,7 +32,7 @@ FLOWD = os.environ.get("FLOWD", f"{TOP}/crates/flowd/out/flowd")
 TSC = ["tsc", "--noEmit", "--strict", "--target", "es2020", "--lib", "es2020", "--skipLibCheck"]
 PARTS = 10  # of a dense module
 MODULES = 1024  # that flowd takes where no word says more
-SMALL, ROUNDS = 100, (9, 20)  # how often a load is timed: of many modules, and of few
+SMALL, ROUNDS = 100, (25, 20)  # how often a load is timed: of many modules, and of few
 
 
 class Draws:
@@ -171,6 +171,12 @@ def at_once(words, count):
     return time.monotonic() - begin
 
 
+def middle(ratios):
+    """The median of the ratios of all rounds, and between which two the middle half of them lies: what is compared ran in one round."""
+    low, median, high = statistics.quantiles(ratios, n=4)
+    return f"{median:.2f} ({low:.2f} to {high:.2f})"
+
+
 def said(who, taken):
     print(f"  {who:15} {taken[0]:7.2f} s {taken[1]:7.2f} s of processors {taken[2]:6.0f} MB", flush=True)
 
@@ -209,11 +215,11 @@ def compare(shape, count, start, workers=(None,)):
         said("tsc", theirs)
         first = workers[0]
         for n in workers[1:]:
-            times = statistics.median(load[first][0] for load in loads), statistics.median(load[n][0] for load in loads)
+            faster = middle(load[first][0] / load[n][0] for load in loads)
             least = f"{ours[first][0] / ours[n][0]:.2f} by the least time of each"
-            print(f"  {n} workers: {times[0] / times[1]:.2f} times as fast as {first} by the medians ({times[0]:.2f} and {times[1]:.2f} s), {least}", flush=True)
-            machine = n * times[0] / statistics.median(other[n] for other in others)
-            print(f"  {n} programs with one worker each at once: {machine:.2f} times as much in the time of one", flush=True)
+            print(f"  {n} workers: {faster} times as fast as {first}, {least}", flush=True)
+            machine = middle(n * load[first][0] / other[n] for load, other in zip(loads, others))
+            print(f"  {n} programs with one worker each at once: {machine} times as much in the time of one", flush=True)
         best = ours[workers[-1]]
         parts = best[0] / theirs[0], best[1] / theirs[1], best[1] / (theirs[1] - start[1]), best[2] / theirs[2]
         print("  of TypeScript's: %.3f of the time, %.3f of processors, %.3f without its start, %.3f of the memory" % parts, flush=True)
