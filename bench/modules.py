@@ -6,6 +6,8 @@
     bench/modules.py --workers N,.. [SHAPE COUNT..]     with so many workers each, as 1,2,4, in turn: by itself 300 dense modules,
                                            4,096 and 30 generated ones; beside it, what as many programs with one worker
                                            each come to at once, which is what the machine has for that many
+    bench/modules.py shares SHAPE COUNT N,..    how many instructions all threads of a load take, and the one that takes most, with so many
+                                           workers each, by valgrind: what the program leaves to one alone, on whatever machine
     bench/modules.py top SHAPE COUNT [N]   the ten functions of flowd that take most time, by perf, with N workers
     bench/modules.py write FOLDER SHAPE COUNT [ts]      writes the modules, for TypeScript where ts is said
 
@@ -17,9 +19,11 @@ itself fails on a ring of 2,000, which ends the run.
 TypeScript reads the same modules in its own words: `T | null | undefined` for `?T`, `readonly` for `+`. It checks them
 alone: no declarations of a browser, and none of the library's own. What it takes to start is told by an empty module.
 
-FLOWD names another program in the place of crates/flowd/out/flowd, which ./build builds. TypeScript is that of Debian's node-typescript.
+FLOWD names another program in the place of crates/flowd/out/flowd, which ./build builds. TypeScript is that of Debian's node-typescript,
+`top` needs its linux-perf, and `shares` its valgrind.
 """
 
+import glob
 import os
 import statistics
 import subprocess
@@ -234,9 +238,29 @@ def top(shape, count, workers=None):
         print("\n".join([row for row in rows if row.strip()][:10]))
 
 
+def shares(shape, count, workers):
+    """Counts the instructions of a load, thread by thread, with each number of workers."""
+    with tempfile.TemporaryDirectory() as room:
+        write(f"{room}/js", shape, count, False)
+        first = None
+        for n in workers:
+            counted = f"{room}/{n}"
+            tool = ["valgrind", "--tool=callgrind", "--separate-threads=yes", f"--callgrind-out-file={counted}"]
+            subprocess.run([*tool, FLOWD, *words_of(count, n), f"{room}/js"], stdin=subprocess.DEVNULL, capture_output=True, check=True)
+            threads = []
+            for name in glob.glob(f"{counted}-*"):
+                with open(name, encoding="utf-8") as file:
+                    threads += [int(line.split()[1]) for line in file if line.startswith("totals:")]
+            first = first or sum(threads)
+            shown = f"{sum(threads) / 1e6:.0f} million instructions, the most by one thread {max(threads) / 1e6:.0f}"
+            print(f"{n} worker{'s' * (n > 1)}: {shown}, {first / max(threads):.2f} times fewer than {workers[0]} takes", flush=True)
+
+
 def main(words):
     if words[:1] == ["write"]:
         write(words[1], words[2], int(words[3]), words[4:] == ["ts"])
+    elif words[:1] == ["shares"]:
+        shares(words[1], int(words[2]), [int(n) for n in words[3].split(",")])
     elif words[:1] == ["top"]:
         top(words[1], *map(int, words[2:]))
     else:
