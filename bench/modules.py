@@ -245,7 +245,8 @@ def shares(shape, count, workers):
         first = None
         for n in workers:
             counted = f"{room}/{n}"
-            tool = ["valgrind", "--tool=callgrind", "--separate-threads=yes", f"--callgrind-out-file={counted}"]
+            # (without the second word one thread may run long before another has its turn, and takes what the other would have taken)
+            tool = ["valgrind", "--tool=callgrind", "--fair-sched=yes", "--separate-threads=yes", f"--callgrind-out-file={counted}"]
             subprocess.run([*tool, FLOWD, *words_of(count, n), f"{room}/js"], stdin=subprocess.DEVNULL, capture_output=True, check=True)
             threads = []
             for name in glob.glob(f"{counted}-*"):

@@ -2,14 +2,7 @@
 // The edits come as JSON on standard input: {"load": FOLDER, "edits": [{"path", "text"}]}, where no text removes the file.
 const fs = require('fs');
 const path = require('path');
-let ts;
-for (const place of ['typescript', '/usr/share/nodejs/typescript', '/usr/lib/nodejs/typescript']) {
-  try { ts ??= require(place); } catch (e) { /* the next place */ }
-}
-if (!ts) {
-  console.log('no typescript here: apt-get install node-typescript');
-  process.exit(0);
-}
+const ts = require('./node_typescript');
 const { load, edits } = JSON.parse(fs.readFileSync(0, 'utf8'));
 const options = { strict: true, noEmit: true, target: ts.ScriptTarget.ES2020, lib: ['lib.es2020.d.ts'], skipLibCheck: true };
 const files = new Map();

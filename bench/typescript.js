@@ -1,12 +1,5 @@
 // TypeScript's parse of a source (Debian's node-typescript), warm, so many times over: megabytes a second.
-let ts;
-for (const place of ['typescript', '/usr/share/nodejs/typescript', '/usr/lib/nodejs/typescript']) {
-  try { ts ??= require(place); } catch (e) { /* the next place */ }
-}
-if (!ts) {
-  console.log('no typescript here: apt-get install node-typescript');
-  process.exit(0);
-}
+const ts = require('./node_typescript');
 const source = require('fs').readFileSync(process.argv[2], 'utf8');
 const parse = (i) => ts.createSourceFile(`a${i}.ts`, source, ts.ScriptTarget.Latest, false);
 for (let i = 0; i < 10; i++) parse(i);

@@ -11,9 +11,11 @@ import resource
 import subprocess
 import sys
 
-sys.path.insert(0, os.path.dirname(os.path.abspath(__file__)))
+HERE = os.path.dirname(os.path.abspath(__file__))
+sys.path[:0] = [HERE, f"{os.path.dirname(HERE)}/bench"]
 import real_folders
 from hostile import ARENA, ERRORS, RECHECK, STACK, STATUS, command, cut
+from modules import Draws
 from real_folders import CLEAN, FLOWD, write
 
 WORKERS = (1, 4, 64)
@@ -83,15 +85,6 @@ def types_that_are_deep(root):
 # The generator's run.
 
 SEED, MODULES, ROUNDS = 1, 300, 10
-
-
-class Draws:
-    def __init__(self, seed):
-        self.state = seed
-
-    def below(self, bound):
-        self.state = (self.state * 6364136223846793005 + 1442695040888963407) % 2**64
-        return (self.state >> 33) % bound
 
 
 def generated(count, seed):
