@@ -1,5 +1,5 @@
 -- The import edges among some modules.
-use Rattle.std.proofs.Common.{◌≡◌, ℕ, ◌<◌, ◌^◌, List, [], All, map, length, get_or, slice_get, Option, Some, refl, sym, ap, ◌∙◌, subst, arith}
+use Rattle.std.proofs.Common.{◌≡◌, ℕ, ◌<◌, ◌^◌, List, [], All, map, length, get_or, slice_get, Option, Some, sym, ap, ◌∙◌, subst, arith}
 use Rattle.std.proofs.lemmas.List.Elements.{All-from_get_or}
 use Rattle.check_values.specs.declared.root.RootRow.{RootRow}
 use Rattle.flow_base.specs.Program.{Bytes}
@@ -11,7 +11,6 @@ use Rattle.path_numbers.specs.affected_sizes.specs.Polls.{IsImport, AreImports}
 use Rattle.path_numbers.specs.Sets.{paths_at}
 use Rattle.check_phases.specs.Sourced.{paths_in, view_in}
 use Rattle.check_phases.specs.declared.merging.Sources.{Sources}
-use Rattle.check_phases.proofs.Edges.{one_place}
 use Rattle.check_phases.proofs.Lists.{one_value, within_there, value_at, place_at}
 use Rattle.recheck_merging.specs.Inner.{ArePlacesTo, placed, lists_of}
 use Rattle.recheck_merging.specs.Plans.{AreEdgesOf}

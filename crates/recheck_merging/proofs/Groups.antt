@@ -1,21 +1,21 @@
 -- The components of a plan are merged one after the other, and its waves.
-use Rattle.std.proofs.Common.{◌≡◌, ◌≢◌, ◌⊎◌, ℕ, zero, suc, ◌+◌, ◌<◌, ◌≤◌, Bool, true, false, List, [], ◌∷◌, All, map, length, take, get_or, slice_get, Option, Some, None, refl, sym, ap, ◌∙◌, subst, inl, inr, arith}
+use Rattle.std.proofs.Common.{◌≡◌, ◌≢◌, ℕ, ◌+◌, ◌<◌, Bool, true, false, List, [], All, length, take, get_or, slice_get, Option, Some, refl, sym, ap, ◌∙◌, subst, inl, inr, arith}
 use Rattle.std.proofs.lemmas.Bool.{cases_lt}
 use Rattle.heap_core.specs.Meaning.{names}
 use Rattle.heap_core.proofs.Lists.{get_index}
 use Rattle.check_values.specs.declared.signatures.Sig.{Sig}
-use Rattle.graph_search.specs.Cycles.{Has, Edge}
+use Rattle.graph_search.specs.Cycles.{Has}
 use Rattle.graph_search.specs.Components.{AreComponents, StandsIn}
 use Rattle.graph_search.specs.Waves.{AreWaves, DependsOn}
 use Rattle.graph_search.proofs.Lists.{has_more, has_none}
 use Rattle.path_numbers.specs.affected_sizes.specs.Polls.{IsImport}
 use Rattle.check_phases.specs.Sourced.{paths_in, view_in, AreSources}
-use Rattle.check_phases.specs.Merging.{IsMade, AreRight, HasMerged}
+use Rattle.check_phases.specs.Merging.{IsMade, HasMerged}
 use Rattle.check_phases.specs.declared.merging.Sources.{Sources}
 use Rattle.check_phases.proofs.Lists.{one_value, within_there, value_at, place_at, take_whole}
 use Rattle.check_phases.proofs.Waves.{named_has, has_named}
 use Rattle.recheck_merging.specs.Plans.{AreEdgesOf, IsPlan, numbers_at, edges_at}
-use Rattle.recheck_merging.specs.Merging.{IsMember, AreMergedTo, AreMergedIn, IsReady}
+use Rattle.recheck_merging.specs.Merging.{AreMergedTo, AreMergedIn, IsReady}
 use Rattle.recheck_merging.specs.declared.planning.MergePlan.{MergePlan}
 use Rattle.recheck_merging.proofs.Among.{path_at_place}
 use Rattle.recheck_merging.proofs.Imported.{low_path}
@@ -65,7 +65,7 @@ places_within s p k places plan at = has_all (λ (i : ℕ). i < length p.edges.i
 -- ---- a component of the wave that is merged now is ready
 
 -- a number of a group has a place in the plan
-number_place : (s : Sources) (p : MergePlan) → IsPlan s p → (k : ℕ) (places : List ℕ) → slice_get p.components k ≡ Some places → (x : ℕ) → Has (numbers_at p.merged places) x
+pub number_place : (s : Sources) (p : MergePlan) → IsPlan s p → (k : ℕ) (places : List ℕ) → slice_get p.components k ≡ Some places → (x : ℕ) → Has (numbers_at p.merged places) x
     → (i : ℕ) × Has places i × (slice_get p.merged i ≡ Some x)
 number_place s p plan k places at x has =
     let from = mapped_from (λ (i : ℕ). get_or p.merged i 0) places has.0 x has.1 in

@@ -1,6 +1,5 @@
 -- What dependency lists find are the import edges.
-use Rattle.std.proofs.Common.{◌≡◌, ◌⊎◌, ℕ, zero, suc, ◌+◌, ◌<◌, ◌≤◌, Bool, true, false, cond, List, [], ◌∷◌, ◌++◌, map, length, take, get_or, slice_get, Option, Some, None, refl, sym, ap, ◌∙◌, subst, inl, inr, arith, bytes_eq}
-use Rattle.std.specs.List.{AllZip}
+use Rattle.std.proofs.Common.{◌≡◌, ℕ, zero, suc, ◌+◌, ◌<◌, Bool, true, false, cond, List, [], ◌∷◌, ◌++◌, map, length, take, get_or, slice_get, Option, Some, None, refl, sym, ap, ◌∙◌, subst, arith, bytes_eq}
 use Rattle.std.specs.Cmp.Lexicographic.{bytes_decides}
 use Rattle.flow_base.specs.Program.{Bytes, IsRising, paths_of}
 use Rattle.heap_core.proofs.Lists.{get_index, get_there}
@@ -25,7 +24,7 @@ use Rattle.check_phases.proofs.Edges.{length_paths}
 use Rattle.check_phases.proofs.Jobs.{beside_at, zip_at}
 use Rattle.check_phases.proofs.Lists.{one_value, within_there, value_at, same_paths, zip_more, zip_whole, zip_length}
 use Rattle.check_phases.proofs.Merges.{many_parses, many_lists, path_get, known_member}
-use Rattle.recheck_merging.specs.Rows.{IsFoundBy, FollowRows, FollowList, FollowLists}
+use Rattle.recheck_merging.specs.Rows.{FollowRows, FollowList, FollowLists}
 
 -- ---- the rows of a dependency list say what their specifiers find
 

@@ -8,7 +8,6 @@ use Rattle.check_values.specs.Rows.{Rows, row_at, is_among}
 use Rattle.check_values.specs.declared.signatures.Deps.{Deps}
 use Rattle.check_values.specs.declared.signatures.Sig.{Sig}
 use Rattle.heap_core.specs.Meaning.{names}
-use Rattle.graph_search.specs.Cycles.{Has}
 use Rattle.merged_signatures.specs.Chains.{Known, found}
 use Rattle.merged_signatures.specs.Merged.{merged, merged_known}
 use Rattle.merged_signatures.specs.Job.{job_signatures}
@@ -58,6 +57,14 @@ module _ {X : Type 0} where
   all_append P [] ys all more = more
   all_append P (x ∷ xs) ys all more = (all.0, all_append P xs ys all.1 more)
 
+  all_front : (P : Bytes × X → Type 0) (xs ys : Rows X) → AllByRecursion P (xs ++ ys) → AllByRecursion P xs
+  all_front P [] ys all = tt
+  all_front P (x ∷ xs) ys all = (all.0, all_front P xs ys all.1)
+
+  all_behind : (P : Bytes × X → Type 0) (xs ys : Rows X) → AllByRecursion P (xs ++ ys) → AllByRecursion P ys
+  all_behind P [] ys all = all
+  all_behind P (x ∷ xs) ys all = all_behind P xs ys all.1
+
 module _ {A X : Type 0} (f : A → Rows X) where
   -- rows of one of some elements
   some_at : (ks : List A) (i : ℕ) (k : A) (path : Bytes) → slice_get ks i ≡ Some k → IsSome (row_at (f k) path) → IsSome (row_at (flat_map f ks) path)
@@ -65,9 +72,17 @@ module _ {A X : Type 0} (f : A → Rows X) where
   some_at (j ∷ ks) zero k path at some = some_front (f j) (flat_map f ks) path (subst (λ (l : A). IsSome (row_at (f l) path)) (sym (one_value j k at)) some)
   some_at (j ∷ ks) (suc i) k path at some = some_behind (f j) (flat_map f ks) path (some_at ks i k path at some)
 
+  pub all_flat_at : (P : Bytes × X → Type 0) (ks : List A) → ((i : ℕ) (k : A) → slice_get ks i ≡ Some k → AllByRecursion P (f k)) → AllByRecursion P (flat_map f ks)
+  all_flat_at P [] each = tt
+  all_flat_at P (k ∷ ks) each = all_append P (f k) (flat_map f ks) (each 0 k refl) (all_flat_at P ks (λ i l at. each (suc i) l at))
+
   pub all_flat : (P : Bytes × X → Type 0) (ks : List A) → ((k : A) → AllByRecursion P (f k)) → AllByRecursion P (flat_map f ks)
-  all_flat P [] each = tt
-  all_flat P (k ∷ ks) each = all_append P (f k) (flat_map f ks) (each k) (all_flat P ks each)
+  all_flat P ks each = all_flat_at P ks (λ i k at. each k)
+
+  pub all_of_flat : (P : Bytes × X → Type 0) (ks : List A) (i : ℕ) (k : A) → slice_get ks i ≡ Some k → AllByRecursion P (flat_map f ks) → AllByRecursion P (f k)
+  all_of_flat P [] i k at all = absurd (let z : None ≡ Some k = at in cc)
+  all_of_flat P (j ∷ ks) zero k at all = subst (λ (l : A). AllByRecursion P (f l)) (one_value j k at) (all_front P (f j) (flat_map f ks) all)
+  all_of_flat P (j ∷ ks) (suc i) k at all = all_of_flat P ks i k at (all_behind P (f j) (flat_map f ks) all)
 
 place_among : (paths : List Bytes) (path : Bytes) → is_among paths path ≡ true → (y : ℕ) × (slice_get paths y ≡ Some path)
 place_among [] path is = absurd (let z : false ≡ true = is in cc)
@@ -163,7 +178,7 @@ module _ (s : Sources) (made : List (Option Sig)) (group : List ℕ) (edges : Li
       go y false apart x in_x import at j i ys at_i at_j =
           inr (some_at (λ zs. flat_map (made_at s made) zs) edges i ys other at_i (some_at (made_at s made) ys j y other at_j (beyond y other (ready.before x y in_x import apart) at)))
 
-  settled : IsSettled (view_in s) (job_by s made group edges)
+  pub settled : IsSettled (view_in s) (job_by s made group edges)
   settled = record {
     members = all_flat (member_at s) IsSeen group (λ x. one_member x (slice_get (known_rows s) x) refl);
     outside = all_flat (λ ys. flat_map (made_at s made) ys) IsTold edges (λ ys. all_flat (made_at s made) IsTold ys (λ y. one_made y (slice_get (paths_in s) y) (slice_get made y) refl refl));

@@ -1,7 +1,7 @@
 -- Numbers lead along edges where their modules lead by imports.
-use Rattle.std.proofs.Common.{◌≡◌, ℕ, zero, suc, Bool, true, false, cond, List, [], ◌∷◌, slice_get, Option, Some, None, refl, sym, ap, ◌∙◌, subst, bytes_eq}
+use Rattle.std.proofs.Common.{◌≡◌, ℕ, suc, Bool, true, false, cond, List, [], ◌∷◌, slice_get, Some, None, refl, sym, ap, ◌∙◌, subst, bytes_eq}
 use Rattle.std.specs.Cmp.Lexicographic.{bytes_decides}
-use Rattle.flow_base.specs.Program.{Bytes, paths_of}
+use Rattle.flow_base.specs.Program.{Bytes}
 use Rattle.check_values.specs.Rows.{Rows, row_at}
 use Rattle.graph_search.specs.Cycles as graph
 use Rattle.graph_search.specs.Cycles.{Has, Leads, here, along}
@@ -15,10 +15,8 @@ use Rattle.check_phases.specs.Sourced.{program_in, paths_in, view_in, AreSources
 use Rattle.check_phases.specs.declared.merging.Sources.{Sources}
 use Rattle.check_phases.proofs.Edges.{one_place}
 use Rattle.check_phases.proofs.Jobs.{beside_path}
-use Rattle.check_phases.proofs.Lists.{one_value, same_paths, place_at}
+use Rattle.check_phases.proofs.Lists.{one_value, same_paths}
 use Rattle.recheck_merging.specs.Plans.{IsToMerge}
-use Rattle.recheck_merging.proofs.Imported.{as_many}
-use Rattle.recheck_merging.proofs.Mapped.{all_has}
 
 -- ---- what is known is known of a module
 

@@ -16,5 +16,7 @@ pub mod Places
 pub mod Plans
 pub mod Puts
 pub mod Rising
+pub mod OldJobs
+pub mod Unmoved
 pub mod Tells
 pub mod Whole

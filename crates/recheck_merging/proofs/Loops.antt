@@ -1,5 +1,5 @@
 -- Lists that loops make of other lists.
-use Rattle.std.proofs.Common.{◌≡◌, ℕ, ◌+◌, ◌<◌, List, [], ◌∷◌, ◌++◌, map, length, take, get_or, slice_get, Option, Some, None, refl, sym, ap, ◌∙◌}
+use Rattle.std.proofs.Common.{◌≡◌, ℕ, ◌+◌, ◌<◌, List, [], ◌∷◌, ◌++◌, map, length, take, get_or, slice_get, Option, Some, None, sym, ap, ◌∙◌}
 use Rattle.check_values.specs.declared.signatures.Sig.{Sig}
 use Rattle.check_phases.proofs.Lists.{place_at, one_value}
 use Rattle.heap_core.proofs.Lists.{get_index}

@@ -1,11 +1,11 @@
 -- Lists of which each element is made of one of another list, and rising lists of numbers.
-use Rattle.std.proofs.Common.{◌≡◌, ℕ, zero, suc, ◌+◌, ◌<◌, ◌≤◌, List, [], ◌∷◌, ◌++◌, All, map, length, take, get_or, slice_get, Some, None, refl, sym, ap, ◌∙◌, subst, inl, inr, arith, ◌^◌}
+use Rattle.std.proofs.Common.{◌≡◌, ℕ, zero, suc, ◌+◌, ◌<◌, ◌≤◌, List, [], ◌∷◌, ◌++◌, All, map, length, take, get_or, slice_get, Some, None, refl, sym, ap, subst, inl, inr, arith, ◌^◌}
 use Rattle.std.proofs.lemmas.Bool.{cases_lt}
 use Rattle.std.proofs.lemmas.List.Elements.{All-get_or, All-from_get_or}
 use Rattle.graph_search.specs.Cycles.{Has}
 use Rattle.graph_search.specs.Reach.{IsRising}
 use Rattle.heap_core.proofs.Lists.{get_there}
-use Rattle.check_phases.proofs.Lists.{one_value, within_there, value_at, place_at, take_next}
+use Rattle.check_phases.proofs.Lists.{one_value, within_there, value_at, place_at}
 
 module _ {A B : Type 0} (f : A → B) where
   pub get_mapped : (xs : List A) (i : ℕ) (x : A) → slice_get xs i ≡ Some x → slice_get (map f xs) i ≡ Some (f x)

@@ -1,5 +1,5 @@
 -- The components of a wave are merged by their jobs.
-use Rattle.std.proofs.Common.{◌≡◌, ℕ, zero, suc, ◌+◌, ◌<◌, List, [], ◌∷◌, ◌++◌, map, length, take, get_or, slice_get, sum_by, Option, Some, None, refl, sym, ap, ◌∙◌, subst, arith}
+use Rattle.std.proofs.Common.{◌≡◌, ℕ, zero, suc, ◌<◌, List, [], ◌∷◌, ◌++◌, map, length, get_or, slice_get, sum_by, Option, Some, None, refl, sym, ap, ◌∙◌, subst, arith}
 use Rattle.std.proofs.lemmas.List.Sums.{sum_by-cons}
 use Rattle.std.specs.List.{AllZip}
 use Rattle.check_values.specs.declared.signatures.Sig.{Sig}
@@ -13,11 +13,11 @@ use Rattle.check_phases.specs.Sourced.{AreSources}
 use Rattle.check_phases.specs.Merging.{AreRight, HasMerged, put_all}
 use Rattle.check_phases.specs.declared.merging.Sources.{Sources}
 use Rattle.check_phases.proofs.Lists.{one_value, place_at, value_at, zip_length}
-use Rattle.recheck_merging.specs.Plans.{IsPlan, numbers_at, edges_at, size_of, members_in}
+use Rattle.recheck_merging.specs.Plans.{IsPlan, numbers_at, edges_at, size_of, members_of}
 use Rattle.recheck_merging.specs.Merging.{job_by, whole_job_in, job_in, members_at, IsSigAt, AreSigsOf, AreMergedTo}
 use Rattle.recheck_merging.specs.declared.planning.MergePlan.{MergePlan}
 use Rattle.recheck_merging.proofs.Groups.{waved, ready_now, places_low}
-use Rattle.recheck_merging.proofs.Mapped.{length_mapped, mapped_more}
+use Rattle.recheck_merging.proofs.Mapped.{length_mapped}
 use Rattle.recheck_merging.proofs.Outside.{group_within}
 use Rattle.recheck_merging.proofs.Puts.{job_signed, has_merged}
 
@@ -34,14 +34,9 @@ size_here p k n places group at is_group many = many ∙ (ap length is_group ∙
 
 -- ---- all of a wave
 
--- one more, as the loop has it
-pub one_made : {A B : Type 0} (view : A → B) (f : ℕ → B) (ks : List ℕ) (i : ℕ) (x : A) (old new : List A) → i < length ks → view x ≡ f (get_or ks i 0) → map view old ≡ map f (take i ks) → new ≡ old ++ x ∷ [] → map view new ≡ map f (take (i + 1) ks)
-one_made view f ks i x old new low is so_far pushed =
-    ap (map view) pushed ∙ (map_last view old x ∙ ((λ j. so_far j ++ is j ∷ []) ∙ sym (mapped_more f ks i (get_or ks i 0) (place_at ks i 0 low))))
-  where
-    map_last : {A B : Type 0} (view : A → B) (xs : List A) (x : A) → map view (xs ++ x ∷ []) ≡ map view xs ++ view x ∷ []
-    map_last view [] x = refl
-    map_last view (y ∷ xs) x = ap (λ (l : List _). view y ∷ l) (map_last view xs x)
+pub map_last : {A B : Type 0} (view : A → B) (xs : List A) (x : A) → map view (xs ++ x ∷ []) ≡ map view xs ++ view x ∷ []
+map_last view [] x = refl
+map_last view (y ∷ xs) x = ap (λ (l : List _). view y ∷ l) (map_last view xs x)
 
 zip_mapped : {A B : Type 0} (R : A → B → Type 0) (g : A → B) (xs : List A) → ((n : ℕ) (x : A) → slice_get xs n ≡ Some x → R x (g x)) → AllZip R xs (map g xs)
 zip_mapped R g [] each = tt
@@ -51,30 +46,32 @@ map_twice : {A B C : Type 0} (g : B → C) (f : A → B) (xs : List A) → map (
 map_twice g f [] = refl
 map_twice {A} {B} {C} g f (x ∷ xs) = ap (λ (l : List C). g (f x) ∷ l) (map_twice g f xs)
 
--- the signatures that the jobs of a wave tell
-pub wave_signed : AJobTellsTheProgram → AskedJobsTellTheSame → (s : Sources) (p : MergePlan) (wave : ℕ) (made : List (Option Sig)) (jobs : List MergeJob) (all : List (List Sig)) → AreSources s → IsPlan s p → wave < length p.waves → AreMergedTo s p wave made
-    → map job_view jobs ≡ map (job_in s p made) (get_or p.waves wave []) → all ≡ map (λ (job : MergeJob). job_signatures (job_view job)) jobs → AllZip (AreSigsOf s p) (get_or p.waves wave []) all
-wave_signed tells enough s p wave made jobs all sources plan low merged of_jobs told =
-    subst (λ (l : List (List Sig)). AllZip (AreSigsOf s p) ks l) (sym (told ∙ (map_twice job_signatures job_view jobs ∙ (ap (map job_signatures) of_jobs ∙ sym (map_twice job_signatures (job_in s p made) ks)))))
-    (zip_mapped (AreSigsOf s p) (λ (k : ℕ). job_signatures (job_in s p made k)) ks one)
+-- the signatures that the jobs of some components of a wave tell
+pub wave_signed : AJobTellsTheProgram → AskedJobsTellTheSame → (s : Sources) (p : MergePlan) (wave : ℕ) (some : List ℕ) (made : List (Option Sig)) (jobs : List MergeJob) (all : List (List Sig)) → AreSources s → IsPlan s p → wave < length p.waves → AreMergedTo s p wave made
+    → ((n k : ℕ) → slice_get some n ≡ Some k → (i : ℕ) × (slice_get (get_or p.waves wave []) i ≡ Some k))
+    → map job_view jobs ≡ map (job_in s p made) some → all ≡ map (λ (job : MergeJob). job_signatures (job_view job)) jobs → AllZip (AreSigsOf s p) some all
+wave_signed tells enough s p wave some made jobs all sources plan low merged inside of_jobs told =
+    subst (λ (l : List (List Sig)). AllZip (AreSigsOf s p) some l) (sym (told ∙ (map_twice job_signatures job_view jobs ∙ (ap (map job_signatures) of_jobs ∙ sym (map_twice job_signatures (job_in s p made) some)))))
+    (zip_mapped (AreSigsOf s p) (λ (k : ℕ). job_signatures (job_in s p made k)) some one)
   where
     ks : List ℕ
     ks = get_or p.waves wave []
 
-    one : (n k : ℕ) → slice_get ks n ≡ Some k → AreSigsOf s p k (job_signatures (job_in s p made k))
+    one : (n k : ℕ) → slice_get some n ≡ Some k → AreSigsOf s p k (job_signatures (job_in s p made k))
     one n k at =
+        let i = inside n k at in
         let at_wave = place_at p.waves wave [] low in
-        let at_places = place_at p.components k [] ((waved s p plan).within wave k (ks, at_wave, (n, at))) in
-        let whole = job_signed tells s made (members_at p k) (edges_at p.edges.items (get_or p.components k [])) sources merged.right (ready_now s p wave n k ks (get_or p.components k []) made sources plan at_wave at at_places merged) in
+        let at_places = place_at p.components k [] ((waved s p plan).within wave k (ks, at_wave, i)) in
+        let whole = job_signed tells s made (members_at p k) (edges_at p.edges.items (get_or p.components k [])) sources merged.right (ready_now s p wave i.0 k ks (get_or p.components k []) made sources plan at_wave i.1 at_places merged) in
         subst (AreSigsOf s p k) (sym (enough (whole_job_in s p made k))) whole
 
--- the members of all jobs of a wave
+-- the members of all jobs
 sum_mapped : {A : Type 0} (f : A → ℕ) (xs : List A) → sum_by f xs ≡ sum_by (λ n. n) (map f xs)
 sum_mapped f [] = refl
 sum_mapped f (x ∷ xs) = let rest = sum_mapped f xs in omega (arith, sum_by-cons f x xs, sum_by-cons (λ (n : ℕ). n) (f x) (map f xs))
 
-pub members_summed : (p : MergePlan) (wave : ℕ) (jobs : List MergeJob) → map (λ (job : MergeJob). length job.members) jobs ≡ map (size_of p) (get_or p.waves wave []) → sum_by (λ (job : MergeJob). length job.members) jobs ≡ members_in p wave
-members_summed p wave jobs same = sum_mapped (λ (job : MergeJob). length job.members) jobs ∙ (ap (sum_by (λ (n : ℕ). n)) same ∙ sym (sum_mapped (size_of p) (get_or p.waves wave [])))
+pub members_summed : (p : MergePlan) (ks : List ℕ) (jobs : List MergeJob) → map (λ (job : MergeJob). length job.members) jobs ≡ map (size_of p) ks → sum_by (λ (job : MergeJob). length job.members) jobs ≡ members_of p ks
+members_summed p ks jobs same = sum_mapped (λ (job : MergeJob). length job.members) jobs ∙ (ap (sum_by (λ (n : ℕ). n)) same ∙ sym (sum_mapped (size_of p) ks))
 
 -- ---- and kept
 

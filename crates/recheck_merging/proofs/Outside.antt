@@ -1,14 +1,13 @@
 -- What stands outside of a group, and where the numbers of a group lie.
-use Rattle.std.proofs.Common.{◌≡◌, ℕ, ◌+◌, ◌<◌, List, [], ◌∷◌, ◌++◌, All, map, length, take, get_or, slice_get, Option, Some, None, refl, sym, ap, ◌∙◌, subst, arith, append-nil, append_assoc}
+use Rattle.std.proofs.Common.{◌≡◌, ℕ, ◌+◌, ◌<◌, List, [], ◌∷◌, ◌++◌, All, map, length, take, get_or, slice_get, Option, Some, sym, ap, ◌∙◌, subst, arith, append-nil, append_assoc}
 use Rattle.std.specs.List.{flat_map}
 use Rattle.std.proofs.lemmas.List.Elements.{All-get_or}
 use Rattle.check_values.specs.Rows.{Rows}
 use Rattle.check_values.specs.declared.signatures.Sig.{Sig}
-use Rattle.graph_search.specs.Cycles.{Has}
 use Rattle.check_phases.specs.Merging.{made_at}
 use Rattle.check_phases.specs.declared.merging.Sources.{Sources}
 use Rattle.check_phases.proofs.Lists.{place_at, value_at}
-use Rattle.recheck_merging.specs.Plans.{AreEdgesOf, IsPlan, numbers_at, edges_at}
+use Rattle.recheck_merging.specs.Plans.{IsPlan, numbers_at, edges_at}
 use Rattle.recheck_merging.specs.Merging.{outside_by}
 use Rattle.recheck_merging.specs.declared.planning.MergePlan.{MergePlan}
 use Rattle.recheck_merging.proofs.Among.{all_low}

@@ -1,7 +1,6 @@
 -- The places of numbers, in slots of theirs.
 use Rattle.std.proofs.Common.{◌≡◌, ◌≢◌, ℕ, zero, suc, ◌+◌, ◌<◌, ◌≤◌, List, [], ◌∷◌, ◌++◌, All, length, take, set, replicate, get_or, slice_get, Option, Some, None, refl, sym, ap, ◌∙◌, subst, inl, inr, arith}
 use Rattle.std.specs.Prelude.{option_to_list}
-use Rattle.std.specs.List.{flat_map}
 use Rattle.std.proofs.lemmas.Bool.{cases_lt}
 use mathlib.Core.Logic.{dite}
 use native.Mathlib.Decide.{ℕ_discrete}
@@ -10,7 +9,7 @@ use Rattle.named_rows.proofs.Lists.{flat_more}
 use Rattle.graph_search.specs.Cycles.{Has}
 use Rattle.graph_search.specs.Reach.{IsRising}
 use Rattle.graph_search.proofs.Lists.{has_none}
-use Rattle.check_phases.proofs.Lists.{one_value, place_at, within_there}
+use Rattle.check_phases.proofs.Lists.{one_value, place_at}
 use Rattle.recheck_merging.specs.Inner.{ArePlacesTo, placed}
 use Rattle.recheck_merging.proofs.Mapped.{all_has}
 

@@ -1,14 +1,14 @@
 -- Plans.
-use Rattle.std.proofs.Common.{◌≡◌, ℕ, ◌<◌, ◌^◌, List, [], All, length, slice_get, Some, None, refl, sym, ap, ◌∙◌, subst, arith}
+use Rattle.std.proofs.Common.{◌≡◌, ℕ, ◌<◌, List, [], All, length, refl, sym, ap, ◌∙◌, subst, arith}
 use Rattle.flow_base.specs.Program.{Bytes}
-use Rattle.graph_search.specs.Cycles.{Has, Edge}
+use Rattle.graph_search.specs.Cycles.{Has}
 use Rattle.graph_search.specs.Reach.{IsRising}
 use Rattle.graph_search.specs.Components.{AreComponents}
 use Rattle.graph_search.specs.Waves.{AreWaves}
 use Rattle.graph_search.proofs.Lists.{has_none, none_some}
 use Rattle.graph_search.proofs.Rising.{rising_none}
 use Rattle.merged_signatures.specs.Chains.{View}
-use Rattle.path_numbers.specs.affected_sizes.specs.Polls.{IsImport, AreImports}
+use Rattle.path_numbers.specs.affected_sizes.specs.Polls.{AreImports}
 use Rattle.path_numbers.specs.Sets.{paths_at}
 use Rattle.recheck_plan.specs.Affected.{AreExactly, LeadsToTouched}
 use Rattle.check_phases.specs.Sourced.{paths_in, view_in, AreSources}

@@ -1,5 +1,5 @@
 -- The signatures of a group are put into their slots.
-use Rattle.std.proofs.Common.{◌≡◌, ◌≢◌, ℕ, zero, suc, ◌<◌, true, false, List, [], ◌∷◌, ◌++◌, All, map, length, set, slice_get, Option, Some, None, refl, sym, ap, ◌∙◌, subst, arith, length-set}
+use Rattle.std.proofs.Common.{◌≡◌, ◌≢◌, ℕ, ◌<◌, true, false, List, [], ◌∷◌, ◌++◌, All, map, length, set, slice_get, Option, Some, sym, ap, ◌∙◌, subst, arith, length-set}
 use Rattle.std.specs.Prelude.{option_to_list}
 use Rattle.std.specs.Option.{option_map}
 use Rattle.std.specs.List.{AllZip, flat_map}
@@ -15,7 +15,7 @@ use Rattle.merged_signatures.specs.Merged.{merged, merged_known}
 use Rattle.merged_signatures.specs.Job.{job_signatures}
 use Rattle.merged_signatures.specs.Settled.{AJobTellsTheProgram}
 use Rattle.check_phases.specs.Sourced.{paths_in, view_in, AreSources}
-use Rattle.check_phases.specs.Merging.{IsMade, AreRight, known_rows, member_at, put_all, HasMerged}
+use Rattle.check_phases.specs.Merging.{IsMade, AreRight, member_at, put_all, HasMerged}
 use Rattle.check_phases.specs.declared.merging.Sources.{Sources}
 use Rattle.check_phases.proofs.Lists.{one_value, within_there, zip_length}
 use Rattle.check_phases.proofs.Waves.{length_put, named_has}

@@ -1,13 +1,12 @@
 -- The plan of what differs is that of the paths that an edit affects.
-use Rattle.std.proofs.Common.{◌≡◌, ℕ, List, slice_get, Some, refl, sym, ap, ◌∙◌, subst}
-use Rattle.flow_base.specs.Program.{Bytes, Program, paths_of}
+use Rattle.std.proofs.Common.{◌≡◌, ℕ, List, slice_get, Some, sym, ap, ◌∙◌, subst}
+use Rattle.flow_base.specs.Program.{Bytes, Program}
 use Rattle.graph_search.specs.Cycles.{Has}
 use Rattle.merged_signatures.specs.Chains.{View}
 use Rattle.merged_signatures.specs.Imports.{Imports}
 use Rattle.check_phases.specs.program_check.specs.Full as full
 use Rattle.check_phases.specs.program_check.specs.Full.{Results}
 use Rattle.path_numbers.specs.affected_law.specs.Affected.{IsPathOf, Differs, Merged}
-use Rattle.path_numbers.specs.affected_sizes.specs.Paths.{HasPath}
 use Rattle.path_numbers.specs.affected_sizes.specs.Polls.{AreWavesAmong}
 use Rattle.path_numbers.specs.Sets.{paths_at, ArePlaces}
 use Rattle.path_numbers.proofs.Sets.{are_paths}

@@ -1,5 +1,5 @@
 -- Behind the last wave all signatures are made.
-use Rattle.std.proofs.Common.{◌≡◌, ℕ, ◌<◌, Bool, true, false, List, map, length, Option, Some, refl, sym, ◌∙◌, arith}
+use Rattle.std.proofs.Common.{◌≡◌, Bool, true, false, List, length, Option, refl, sym, ◌∙◌, arith}
 use Rattle.heap_core.specs.Meaning.{names}
 use Rattle.check_values.specs.declared.signatures.Sig.{Sig}
 use Rattle.check_phases.specs.Merging.{IsMade}

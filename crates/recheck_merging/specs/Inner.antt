@@ -1,5 +1,5 @@
 -- Edges between numbers, as edges between the places of some of the numbers.
-use Rattle.std.specs.Prelude.{◌≡◌, ◌<◌, ℕ, List, [], ◌∷◌, map, length, get_or, slice_get, Option, Some, None, option_to_list}
+use Rattle.std.specs.Prelude.{◌≡◌, ◌<◌, ℕ, List, [], map, get_or, slice_get, Option, Some, None, option_to_list}
 use Rattle.std.specs.List.{flat_map}
 
 -- the place of a number stands in its slot, for the first places

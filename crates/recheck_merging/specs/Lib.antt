@@ -16,4 +16,5 @@ pub mod Plans
 pub mod Merging
 pub mod Clearing
 pub mod Keeping
+pub mod Still
 pub mod Affected

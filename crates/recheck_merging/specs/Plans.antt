@@ -1,5 +1,5 @@
 -- Which modules are merged anew, and in which order.
-use Rattle.std.specs.Prelude.{◌≡◌, ◌<◌, ℕ, List, [], All, map, length, get_or, slice_get, sum_by, Option, Some}
+use Rattle.std.specs.Prelude.{◌≡◌, ◌<◌, ℕ, List, [], All, map, length, get_or, slice_get, sum_by, Some}
 use Rattle.flow_base.specs.Program.{Bytes}
 use Rattle.graph_search.specs.Cycles.{Has, Edge}
 use Rattle.graph_search.specs.Reach.{IsRising}

@@ -12,8 +12,11 @@ use std::alloc::Global;
 /// The merged signature of each module, where it is known.
 pub type Slots = Vec<Option<Shared<Sig>>>;
 
-// The old signature of a number, if one is given.
-fn kept(was: &[Shared<Sig>], number: Option<u32>) -> Result<Option<Shared<Sig>>, NoMemory>
+/// The old signature of a number, if one is given.
+pub(crate) fn kept(
+    was: &[Shared<Sig>],
+    number: Option<u32>,
+) -> Result<Option<Shared<Sig>>, NoMemory>
     ensures { IfOk result (λ slot. slot ≡ kept_in was.now number) }
 {
     let Some(number) = number else {

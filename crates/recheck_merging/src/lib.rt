@@ -7,6 +7,7 @@ mod keeping;
 mod laws;
 mod merging;
 mod planning;
+mod still;
 
 pub use check_phases;
 pub use check_phases::{analyst, check_job, source_front};
@@ -16,5 +17,6 @@ pub use laws::{kept_are_right, members_add_up, plans_are_of_merged, waves_make_a
 pub use merging::merge_wave;
 pub use path_numbers::{affected_sizes, recheck_law};
 pub use planning::{MergePlan, nothing_to_merge, plan_of};
+pub use still::Edit;
 pub use work_totals;
 pub use worker_jobs;

@@ -1,5 +1,5 @@
 -- Which merged signatures are new or differ.
-use Rattle.std.proofs.Common.{◌≡◌, ◌≢◌, ◌↔◌, ℕ, ◌+◌, ◌<◌, ◌≤◌, Bool, true, false, not, IsTrue, List, All, length, set, replicate, get_or, slice_get, Option, Some, None, refl, sym, ap, ◌∙◌, subst, inl, inr, arith, length-set}
+use Rattle.std.proofs.Common.{◌≡◌, ◌≢◌, ◌↔◌, ℕ, ◌+◌, ◌<◌, ◌≤◌, Bool, true, false, not, IsTrue, List, All, map, length, set, replicate, get_or, slice_get, Option, Some, None, refl, sym, ap, ◌∙◌, subst, inl, inr, arith, length-set}
 use Rattle.std.proofs.lemmas.Bool.{cases_lt}
 use Rattle.std.proofs.lemmas.List.{length-replicate}
 use mathlib.Core.Logic.{dite}
@@ -8,11 +8,27 @@ use Rattle.heap_core.proofs.Lists.{put_here, put_else, get_index}
 use Rattle.check_values.specs.declared.signatures.Sig.{Sig}
 use Rattle.graph_search.proofs.Fills.{get-replicate}
 use Rattle.recheck_merging.specs.check_phases.proofs.Lists.{one_value, within_there, place_at}
-use Rattle.recheck_merging.proofs.Mapped.{all_has}
+use Rattle.recheck_merging.proofs.Mapped.{all_has, get_mapped, length_mapped}
 use Rattle.recheck_sources.specs.Parts.{TellsOthers}
+use Rattle.recheck_merging.specs.Keeping.{kept_in}
+use Rattle.recheck_merging.specs.Still.{AreOld}
 use Rattle.recheck_reach.specs.Moved.{IsAsBefore, IsSameOutside, IsOld, AreTold}
 
 -- ---- one signature
+
+pub known_old : (was : List Sig) (number : Option ℕ) (sig : Sig) (b : Bool) → b ≡ true → (b ≡ true → IsOld was number sig) → (false ≡ false) ↔ IsOld was number sig
+known_old was number sig b on known = (λ e. known on, λ old. refl)
+
+-- what a flag says of it
+pub said_old : (was : List Sig) (from : List (Option ℕ)) (now : List Sig) (same : List Bool) (x : ℕ) (sig mine : Sig) → AreOld was from (map Some now) same → x < length now → sig ≡ get_or now x sig → mine ≡ sig → get_or same x false ≡ true → IsOld was (get_or from x None) mine
+said_old was from now same x sig mine old low is_sig is on = go (get_or from x None) (old.old x mine (place_at same x false small ∙ ap Some on) (get_mapped Some now x mine (get_index now x sig low is_sig ∙ ap Some (sym is))))
+  where
+    small : x < length same
+    small = (let many = old.many in let all = length_mapped Some now in omega arith)
+
+    go : (n : Option ℕ) → kept_in was n ≡ Some mine → IsOld was n mine
+    go None none = absurd (let z : None ≡ Some mine = none in cc)
+    go (Some o) there = (o, refl, there)
 
 pub never_old : (was : List Sig) (number : Option ℕ) (sig : Sig) → number ≡ None → (true ≡ false) ↔ IsOld was number sig
 never_old was number sig none = (λ bad. absurd (let z : true ≡ false = bad in cc), λ old. absurd (let z : None ≡ Some old.0 = sym none ∙ old.1 in cc))

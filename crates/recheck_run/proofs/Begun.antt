@@ -20,6 +20,7 @@ use Rattle.recheck_reach.specs.Law.{RestIsSame, CheckedAreOfChecked, DiffersAreT
 use Rattle.recheck_checking.specs.Keeping as errors
 use Rattle.recheck_checking.specs.Full.{MadeIsFull}
 use Rattle.recheck_checking.specs.Right.{KeptErrorsAreRight}
+use Rattle.recheck_reach.specs.recheck_merging.specs.Still.{AreOld}
 use Rattle.recheck_run.specs.Stages.{IsBase, IsMerging, AreAffected, KeepsErrors, IsChecking}
 use Rattle.recheck_run.specs.declared.stages.Base.{Base}
 use Rattle.recheck_run.specs.declared.stages.Merging.{Merging}
@@ -57,6 +58,12 @@ module _ (b : Base) (m : Merging) (base : IsBase b) (is : IsMerging b m) (past :
         subst (λ (w : List Sig). IsSameOutside w from merged all) (sym is_was)
         (subst (λ (f : List (Option ℕ)). IsSameOutside b.was.signatures.items f merged all) (sym is_from)
         (subst (λ (l : List ℕ). IsSameOutside b.was.signatures.items b.from.items l all) (sym is_merged) (outside_same b m base is past law make all mine rest)))
+
+    pub same_here : (was : List Sig) (flags : List Bool) → was ≡ b.was.signatures.items → flags ≡ m.same.items → AreOld was from (map Some all) flags
+    same_here was flags is_was is_flags =
+        subst (λ (w : List Sig). AreOld w from (map Some all) flags) (sym is_was)
+        (subst (λ (f : List (Option ℕ)). AreOld b.was.signatures.items f (map Some all) flags) (sym is_from)
+        (subst (λ (l : List (Option Sig)). AreOld b.was.signatures.items b.from.items l flags) (sym mine) (subst (λ (g : List Bool). AreOld b.was.signatures.items b.from.items m.slots.items g) (sym is_flags) is.same)))
 
     module _ (was : List Sig) (is_was : was ≡ b.was.signatures.items) (moved : List Bool) (tells : TellsOthers was from all moved) where
       tells_here : TellsOthers b.was.signatures.items b.from.items all moved

@@ -20,7 +20,7 @@ use Rattle.committed_results.specs.program_check.specs.Full.{IsFull}
 use Rattle.committed_results.specs.program_check.specs.Status.{error_count}
 use Rattle.recheck_checking.specs.affected_law.specs.Affected.{results_at, Merged, Checked}
 use Rattle.recheck_checking.specs.affected_law.specs.Law.{SignaturesStay}
-use Rattle.recheck_reach.specs.analyst.specs.Work.{Work, risen, done, RisesWithin, IsCounted}
+use Rattle.recheck_reach.specs.analyst.specs.Work.{Work, risen, RisesWithin, IsCounted}
 use Rattle.recheck_checking.specs.payloads.specs.Entities.{parse_entity, deps_entity, signature_entity, errors_entity}
 use Rattle.recheck_checking.specs.payloads.specs.State.{program_of, IsRoot, fits}
 use Rattle.recheck_checking.specs.payloads.specs.declared.payload.Payload.{Payload}
@@ -45,7 +45,7 @@ use Rattle.committed_results.specs.recheck_staging.specs.Staging.{changes_of, st
 use Rattle.recheck_reach.specs.Law.{SeenAsChecked, SignedAsChecked}
 use Rattle.recheck_checking.specs.Full.{results_of, MadeIsFull}
 use Rattle.recheck_run.specs.Extent.{Extent, polls}
-use Rattle.recheck_run.specs.Recheck.{RecheckState, Commits, HasRoom, Edits, WorkedTo, whole_work, IsDone, IsCancelled, IsRefused}
+use Rattle.recheck_run.specs.Recheck.{RecheckState, Commits, HasRoom, Edits, WorkedTo, HasWorked, whole_work, IsDone, IsCancelled, IsRefused}
 use Rattle.recheck_run.specs.Stages.{old_of, IsBaseIn}
 use Rattle.recheck_run.specs.Steps.{AffectsIn, IsReady}
 use Rattle.recheck_run.specs.Ends.{HasEnded, HasHalted, counted_in, IsStaged, Halts, IsHalted, IsUnreadHalt, IsStop}
@@ -146,11 +146,11 @@ told_state before mid after m now same is told =
 late : (p k : ℕ) → k < p → nat_le p k ≡ false
 late p k low = grind (arith, nat_tests)
 
-pub worked_to_end : (n : Extent) (before now : Work) → IsCounted before → n.checked ≤ 64 * n.batches → now ≡ done before (whole_work n) → WorkedTo n (polls n) before now
-worked_to_end n before now low enough is = record {
-  fronts = ap (λ (w : Work). w.fronts) is ∙ ap (risen before.fronts) (sym (ap (λ (b : Bool). cond b 0 n.parsed) (late (polls n) 1 (omega arith))));
-  merges = subst (λ (k : ℕ). RisesWithin before.merges now.merges k) (sym (ap (λ (b : Bool). cond b 0 n.merged) (late (polls n) 3 (omega arith)))) (let c = low.merges in let e = ap (λ (w : Work). w.merges) is in (omega (arith, c, e), omega (arith, e)));
-  checks = ap (λ (w : Work). w.checks) is ∙ ap (risen before.checks) (let e : n.checked ≡ min n.checked (64 * (polls n - (3 + n.waves))) = omega (arith, enough) in e);
+pub worked_to_end : (n : Extent) (before now : Work) → n.checked ≤ 64 * n.batches → HasWorked before now (whole_work n) → WorkedTo n (polls n) before now
+worked_to_end n before now enough is = record {
+  fronts = is.fronts ∙ ap (risen before.fronts) (sym (ap (λ (b : Bool). cond b 0 n.parsed) (late (polls n) 1 (omega arith))));
+  merges = subst (λ (k : ℕ). RisesWithin before.merges now.merges k) (sym (ap (λ (b : Bool). cond b 0 n.merged) (late (polls n) 3 (omega arith)))) is.merges;
+  checks = is.checks ∙ ap (risen before.checks) (let e : n.checked ≡ min n.checked (64 * (polls n - (3 + n.waves))) = omega (arith, enough) in e);
 }
 
 -- ---- nothing is staged

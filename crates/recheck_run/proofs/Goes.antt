@@ -9,7 +9,7 @@ use Rattle.merged_signatures.specs.Chains.{View}
 use Rattle.committed_results.specs.program_check.specs.Full as full
 use Rattle.committed_results.specs.program_check.specs.Law.{OneFull}
 use Rattle.recheck_checking.specs.affected_law.specs.Affected.{Differs}
-use Rattle.recheck_reach.specs.analyst.specs.Work.{Work, work_of, fronts_of, merging, checks_of, done, IsWithin, IsCounted}
+use Rattle.recheck_reach.specs.analyst.specs.Work.{Work, work_of, fronts_of, merging, checks_of, done, IsWithin}
 use Rattle.recheck_checking.specs.payloads.specs.State.{program_of}
 use Rattle.recheck_reach.specs.path_numbers.specs.Sets.{paths_at, ArePlaces}
 use Rattle.check_values.specs.Rows.{Rows}
@@ -19,14 +19,13 @@ use Rattle.check_values.specs.declared.root.Root.{Root}
 use Rattle.recheck_reach.specs.check_phases.specs.Sourced.{program_in, paths_in, view_in, AreSources}
 use Rattle.recheck_reach.specs.check_phases.specs.Checking.{batch_after}
 use Rattle.recheck_reach.specs.check_phases.specs.declared.merging.Sources.{Sources}
-use Rattle.recheck_reach.specs.check_phases.proofs.Works.{worked_more, within_all, within_more}
 use Rattle.recheck_reach.specs.recheck_merging.specs.Affected.{PlansAreOfMerged}
 use Rattle.recheck_reach.specs.recheck_merging.specs.Plans.{members_of, members_in, MembersAddUp, IsPlanOf}
 use Rattle.recheck_reach.specs.recheck_merging.specs.declared.planning.MergePlan.{MergePlan}
 use Rattle.recheck_reach.specs.Law.{ParsedAreFresh, SeenAsChecked}
 use Rattle.recheck_checking.specs.Checking.{TellsAll, AreCheckedTo}
 use Rattle.recheck_run.specs.Extent.{Extent, Affects}
-use Rattle.recheck_run.specs.Recheck.{whole_work}
+use Rattle.recheck_run.specs.Recheck.{HasWorked, whole_work}
 use Rattle.recheck_run.specs.Stages.{old_of, IsBase, IsMerging, AreAffected}
 use Rattle.recheck_run.specs.Steps.{AffectsIn, merged_to, Stands, OfEach, LeadsOn, IsAlso}
 use Rattle.recheck_run.specs.declared.stages.Base.{Base}
@@ -38,16 +37,7 @@ use Rattle.recheck_run.specs.declared.stages.Staged.{Staged}
 use Rattle.recheck_run.specs.declared.stages.Next.{Next}
 use Rattle.recheck_run.specs.declared.stages.Next.TheVariants as next
 use Rattle.recheck_run.proofs.Extents.{parsed_is, merged_is, checked_is, waves_are}
-
--- the work of two parts
-more_work : (before mid now : Work) (a b c : ℕ) (p q r : ℕ) (x y z : ℕ) → mid ≡ done before (work_of a b c) → now ≡ done mid (work_of p q r) → x ≡ a + p → y ≡ b + q → z ≡ c + r → now ≡ done before (work_of x y z)
-more_work before mid now a b c p q r x y z first then e f g = worked_more before mid now (work_of a b c) (work_of p q r) (work_of x y z) first then (λ j. work_of (e j) (f j) (g j))
-
--- less than all of it, and then some of the rest
-part_work : (before mid now : Work) (a b c : ℕ) (p q r : ℕ) (n : Extent) → IsCounted before → mid ≡ done before (work_of a b c) → IsWithin mid now (work_of p q r) → a + p ≤ n.parsed → b + q ≤ n.merged → c + r ≤ n.checked
-    → IsWithin before now (whole_work n)
-part_work before mid now a b c p q r n low first rest e f g =
-    within_more before mid now (work_of a b c) (work_of p q r) (whole_work n) low first rest (record { fronts = e; merges = f; checks = g })
+use Rattle.recheck_run.proofs.Works.{more_work, more_merges, part_work, idle}
 
 -- ---- the sources are read
 
@@ -65,17 +55,14 @@ fronts_read law b parses now mid base did n poll before a low reached =
     let c = fresh_is law b n base a in
     let first = reached.1 in
     let place = reached.0 in
-    (((let e : poll + 1 ≡ 2 = omega (arith, place) in e), more_work before mid now 0 0 0 (count_by (λ on. on) b.fresh.items) 0 0 n.parsed 0 0 first did (omega (arith, c)) refl refl), tt)
+    (((let e : poll + 1 ≡ 2 = omega (arith, place) in e), more_work before mid now 0 0 0 first (count_by (λ on. on) b.fresh.items) 0 0 n.parsed 0 0 did (omega (arith, c)) refl refl), tt)
 
 pub fronts_failed : ParsedAreFresh → (b : Base) (now mid : Work) → IsBase b → IsWithin mid now (fronts_of (count_by (λ on. on) b.fresh.items)) → OfEach b stage.Fronts mid (λ n poll before. IsWithin before now (whole_work n))
 fronts_failed law b now mid base did n poll before a low reached =
     let c = fresh_is law b n base a in
-    part_work before mid now 0 0 0 (count_by (λ on. on) b.fresh.items) 0 0 n low reached.1 did (omega (arith, c)) (omega arith) (omega arith)
+    part_work before mid now 0 0 0 reached.1 (count_by (λ on. on) b.fresh.items) 0 0 n low did (omega (arith, c)) (omega arith) (omega arith)
 
 -- ---- nothing is done
-
-idle : (n : Extent) (before now : Work) (a b c : ℕ) → IsCounted before → now ≡ done before (work_of a b c) → a ≤ n.parsed → b ≤ n.merged → c ≤ n.checked → IsWithin before now (whole_work n)
-idle n before now a b c low is e f g = within_all before now (work_of a b c) (whole_work n) low is (record { fronts = e; merges = f; checks = g })
 
 pub lists_failed : (b : Base) (parses : Vec Parse) (mid : Work) → OfEach b (stage.Lists parses) mid (λ n poll before. IsWithin before mid (whole_work n))
 lists_failed b parses mid n poll before a low reached = idle n before mid n.parsed 0 0 low reached.1 (omega arith) (omega arith) (omega arith)
@@ -119,7 +106,7 @@ lists_made one sees of_merged b m parses mid base is none n poll before a low re
     let waves = planned_waves one sees of_merged b s m.plan m.listed.touched base is.listed.root is.listed.sources is.touched is.plan n a in
     let two = reached.0 in
     let nothing : merged_to m.plan m.wave ≡ 0 = ap (merged_to m.plan) none in
-    (((merged, waves, (let e : poll + 1 ≡ 3 + m.wave = omega (arith, two, none) in e)), reached.1 ∙ ap (done before) (λ j. work_of n.parsed (sym nothing j) 0)), tt)
+    (((merged, waves, (let e : poll + 1 ≡ 3 + m.wave = omega (arith, two, none) in e)), subst (λ (k : ℕ). HasWorked before mid (work_of n.parsed k 0)) (sym nothing) reached.1), tt)
 
 -- ---- a wave is merged
 
@@ -130,7 +117,7 @@ module _ (adds : MembersAddUp) (b : Base) (m : Merging) (is : IsMerging b m) whe
   pub most_members : (wave : ℕ) → merged_to m.plan wave ≤ length m.plan.merged
   most_members wave = (let all = adds m.listed.sources m.plan is.plan.plan in let most = sum_by-take-le (members_of m.plan) m.plan.waves wave in omega (arith, all, most))
 
-  pub wave_goes : (new : Merging) (mid now : Work) → m.wave < length m.plan.waves → new.plan ≡ m.plan → new.wave ≡ m.wave + 1 → now ≡ done mid (merging (members_in m.plan m.wave))
+  pub wave_goes : (new : Merging) (mid now : Work) → m.wave < length m.plan.waves → new.plan ≡ m.plan → new.wave ≡ m.wave + 1 → IsWithin mid now (merging (members_in m.plan m.wave))
       → OfEach b (stage.Merges m) mid (λ n poll before. Stands n (next.GoesTo (stage.Merges new)) (poll + 1) before now)
   wave_goes new mid now low same following did n poll before a counted reached =
       let at = reached.0 in
@@ -141,7 +128,7 @@ module _ (adds : MembersAddUp) (b : Base) (m : Merging) (is : IsMerging b m) whe
       let step = next_members low in (
         (
           ((let e : n.merged ≡ length new.plan.merged = omega (arith, at_merged, merged) in e), (let e : n.waves ≡ length new.plan.waves = omega (arith, at_waves, waves) in e), (let e : poll + 1 ≡ 3 + new.wave = omega (arith, at_poll, following) in e)),
-          more_work before mid now n.parsed (merged_to m.plan m.wave) 0 0 (members_in m.plan m.wave) 0 n.parsed (merged_to new.plan new.wave) 0 reached.1 did (omega arith) (omega (arith, mine, step)) refl,
+          more_merges before mid now n.parsed (merged_to m.plan m.wave) 0 reached.1 (members_in m.plan m.wave) (merged_to new.plan new.wave) did (omega (arith, mine, step)),
         ),
         tt,
       )
@@ -151,7 +138,7 @@ module _ (adds : MembersAddUp) (b : Base) (m : Merging) (is : IsMerging b m) whe
       let step = next_members low in
       let most = most_members (m.wave + 1) in
       let merged = reached.0.0 in
-      part_work before mid now n.parsed (merged_to m.plan m.wave) 0 0 (members_in m.plan m.wave) 0 n counted reached.1 did (omega arith) (omega (arith, step, most, merged)) (omega arith)
+      part_work before mid now n.parsed (merged_to m.plan m.wave) 0 reached.1 0 (members_in m.plan m.wave) 0 n counted did (omega arith) (omega (arith, step, most, merged)) (omega arith)
 
   pub merges_idle : (mid : Work) → OfEach b (stage.Merges m) mid (λ n poll before. IsWithin before mid (whole_work n))
   merges_idle mid n poll before a counted reached =
@@ -172,7 +159,7 @@ module _ (adds : MembersAddUp) (b : Base) (m : Merging) (is : IsMerging b m) whe
       let whole : merged_to m.plan m.wave ≡ n.merged =
       ap (λ (l : List (List ℕ)). sum_by (members_of m.plan) l) (take_whole m.plan.waves m.wave past) ∙ (adds m.listed.sources m.plan is.plan.plan ∙ sym at_merged) in (
         (checked, 0, (let e : 0 ≤ n.batches = omega arith in e), (let e : poll ≡ 3 + n.waves + 0 = omega (arith, at_poll, at_waves, past, low) in e), (let e : c.done ≡ min n.checked (64 * 0) = omega (arith, none) in e)),
-        reached.1 ∙ ap (done before) (λ j. work_of n.parsed (whole j) (sym none j)),
+        subst (λ (w : Work). HasWorked before mid w) (λ j. work_of n.parsed (whole j) (sym none j)) reached.1,
       )
 
 -- ---- a batch is checked
@@ -188,7 +175,7 @@ module _ (b : Base) (c : Checking) where
       let many = ap length numbers in (
         (
           (omega (arith, size, many), k + 1, omega (arith, size, so, low, enough, fits, few), omega (arith, at_poll), omega (arith, size, is, so, low)),
-          more_work before mid now n.parsed n.merged c.done 0 0 (batch_after c.done (length c.checked) - c.done) n.parsed n.merged new.done reached.1 did (omega arith) (omega arith) (omega (arith, is, low)),
+          more_work before mid now n.parsed n.merged c.done reached.1 0 0 (batch_after c.done (length c.checked) - c.done) n.parsed n.merged new.done did (omega arith) (omega arith) (omega (arith, is, low)),
         ),
         omega (arith, at_poll),
       )
@@ -196,7 +183,7 @@ module _ (b : Base) (c : Checking) where
   pub batch_failed : (mid now : Work) → c.done < length c.checked → IsWithin mid now (checks_of (batch_after c.done (length c.checked) - c.done)) → OfEach b (stage.Checks c) mid (λ n poll before. IsWithin before now (whole_work n))
   batch_failed mid now low did n poll before a counted reached =
       let size = reached.0.0 in
-      part_work before mid now n.parsed n.merged c.done 0 0 (batch_after c.done (length c.checked) - c.done) n counted reached.1 did (omega arith) (omega arith) (omega (arith, size, low))
+      part_work before mid now n.parsed n.merged c.done reached.1 0 0 (batch_after c.done (length c.checked) - c.done) n counted did (omega arith) (omega arith) (omega (arith, size, low))
 
   -- as the code has them
   pub batch_goes_on : (numbers : List ℕ) (new : Checking) (mid now : Work) → numbers ≡ c.checked → c.done < length c.checked → new.checked ≡ c.checked → new.done ≡ batch_after c.done (length numbers)
@@ -222,7 +209,7 @@ module _ (b : Base) (c : Checking) where
       let fits = a.are_batches.few in
       let all : c.done ≡ n.checked = omega (arith, size, past, so) in
       let every : k ≡ n.batches = omega (arith, size, past, so, few, enough, fits) in
-      ((omega (arith, at_poll, every)), reached.1 ∙ ap (λ (d : ℕ). done before (work_of n.parsed n.merged d)) all, parsed ∙ parsed_count law b n base a, checked ∙ sym size)
+      ((omega (arith, at_poll, every)), subst (λ (d : ℕ). HasWorked before mid (work_of n.parsed n.merged d)) all reached.1, parsed ∙ parsed_count law b n base a, checked ∙ sym size)
 
 -- the numbers as the code has them
 pub numbers_low : (s : Sources) (numbers checked : List ℕ) → numbers ≡ checked → All (λ x. x < length s.root.modules) checked → All (λ x. x < length s.root.modules) numbers

@@ -1,5 +1,6 @@
 pub mod Counting
 pub mod Extents
+pub mod Works
 pub mod Goes
 pub mod Planned
 pub mod Listing

@@ -25,6 +25,8 @@ use Rattle.recheck_reach.specs.Law.{DiffersAreTouched}
 use Rattle.recheck_run.specs.Stages.{old_of, IsBase, AreListed, IsMerging}
 use Rattle.recheck_run.specs.declared.stages.Base.{Base}
 use Rattle.recheck_run.specs.declared.stages.Merging.{Merging}
+use Rattle.recheck_plan.specs.Marks.{AreMarksOf}
+use Rattle.recheck_reach.specs.recheck_merging.proofs.Unmoved.{kept_are_old}
 use Rattle.recheck_run.proofs.Planned.{places_low, numbers_here, many_numbers, kept_merged}
 
 -- ---- of the shared root
@@ -62,6 +64,11 @@ module _ (b : Base) (base : IsBase b) (listed : Listed) (root : Root) (from : Li
   pub touched_low : All (λ t. t < length listed.sources.root.modules) touched
   touched_low = subst (All (λ (t : ℕ). t < length listed.sources.root.modules)) (sym is_touched) (places_low listed.sources (Differs (view_in b.was.sources) (view_in listed.sources)) listed.touched differs)
 
+  pub flags_low : DiffersAreTouched → All (λ t. t < length from) touched
+  flags_low law =
+      let many : length from ≡ length listed.sources.root.modules = ap length is_from ∙ many_numbers b base listed.sources own_root sources listed.touched differs law in
+      subst (λ (n : ℕ). All (λ t. t < n) touched) (sym many) touched_low
+
   plan_here : (p : MergePlan) → IsPlanOf listed.sources touched p → IsPlanOf listed.sources listed.touched p
   plan_here p plan = subst (λ (l : List ℕ). IsPlanOf listed.sources l p) is_touched plan
 
@@ -80,18 +87,22 @@ module _ (b : Base) (base : IsBase b) (listed : Listed) (root : Root) (from : Li
   }
 
   pub is_merging : KeptAreRight → DiffersAreTouched → AreListed b listed.sources listed.relisted.items → IsRising listed.changed × ArePlaces (IsChanged b.was.sources listed.sources) (paths_in listed.sources) listed.changed
-      → (edges : Vec (List ℕ)) (plan : MergePlan) (slots : Vec (Option Sig)) (was : List Sig) → was ≡ b.was.signatures.items → IsPlanOf listed.sources touched plan → (touched ≡ []) ⊎ AreImports (view_in listed.sources) (paths_in listed.sources) edges.items
-      → keeping.AreKept was from plan.merged slots.items → IsMerging b (record { listed = listed; edges = edges; plan = plan; wave = 0; slots = slots })
-  is_merging right law are changed edges plan slots was is_was planned imports kept =
+      → (edges : Vec (List ℕ)) (flags : Vec Bool) (plan : MergePlan) (slots : Vec (Option Sig)) (same : Vec Bool) (was : List Sig) → was ≡ b.was.signatures.items → IsPlanOf listed.sources touched plan
+      → (touched ≡ []) ⊎ AreImports (view_in listed.sources) (paths_in listed.sources) edges.items → keeping.AreKept was from plan.merged slots.items → AreMarksOf (length from) touched flags.items → length same.items ≡ length from
+      → IsMerging b (record { listed = listed; edges = edges; touched = flags; plan = plan; wave = 0; slots = slots; same = same })
+  is_merging right law are changed edges flags plan slots same was is_was planned imports kept marks many =
       let mine : keeping.AreKept b.was.signatures.items b.from.items plan.merged slots.items =
       subst (λ (w : List Sig). keeping.AreKept w b.from.items plan.merged slots.items) is_was (subst (λ (f : List (Option ℕ)). keeping.AreKept was f plan.merged slots.items) is_from kept) in
-      let m : Merging = record { listed = listed; edges = edges; plan = plan; wave = 0; slots = slots } in
+      let m : Merging = record { listed = listed; edges = edges; touched = flags; plan = plan; wave = 0; slots = slots; same = same } in
+      let modules : length from ≡ length listed.sources.root.modules = ap length is_from ∙ many_numbers b base listed.sources own_root sources listed.touched differs law in
       record {
         listed = are;
         touched = differs;
         changed = changed;
+        marks = subst (λ (n : ℕ). AreMarksOf n listed.touched flags.items) modules (subst (λ (l : List ℕ). AreMarksOf (length from) l flags.items) is_touched marks);
         plan = plan_here plan planned;
         edges = subst (λ (l : List ℕ). (l ≡ []) ⊎ AreImports (view_in listed.sources) (paths_in listed.sources) edges.items) is_touched imports;
         merged = kept_merged b base listed.sources own_root sources listed.touched differs law right m (plan_here plan planned) mine refl;
+        same = kept_are_old b.was.signatures.items b.from.items plan.merged slots.items same.items mine (many ∙ (ap length is_from ∙ sym mine.many));
         low = omega arith;
       }

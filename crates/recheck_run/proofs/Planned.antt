@@ -52,7 +52,7 @@ pub numbers_here : (b : Base) (root : Root) → IsBase b → root ≡ b.root →
 numbers_here b root base same = base.from ∙ ap (numbers_from (old_of b)) (sym same)
 
 module _ (b : Base) (base : IsBase b) (s : Sources) (root : s.root ≡ b.root) (sources : AreSources s) (touched : List ℕ) (differs : ArePlaces (Differs (view_in b.was.sources) (view_in s)) (paths_in s) touched) (law : DiffersAreTouched) where
-  both : ComeFrom b.was.sources s b.from.items × AreTouched b.was.sources s b.from.items touched
+  pub both : ComeFrom b.was.sources s b.from.items × AreTouched b.was.sources s b.from.items touched
   both = law b.was.sources s b.from.items touched base.made.sources sources (numbers_here b s.root base root) differs
 
   pub many_numbers : length b.from.items ≡ length s.root.modules

@@ -10,7 +10,7 @@ use Rattle.committed_results.specs.full_law.specs.Law.{EachFull}
 use Rattle.heap_core.specs.Meaning.{Meaning, none_of}
 use Rattle.stops.specs.Asked.{StopSeen}
 use Rattle.check_values.specs.declared.root.RootRow.{RootRow}
-use Rattle.recheck_reach.specs.analyst.specs.Work.{Work, risen, RisesWithin, IsWithin, IsCounted}
+use Rattle.recheck_reach.specs.analyst.specs.Work.{Work, risen, RisesWithin, IsWithin}
 use Rattle.recheck_checking.specs.payloads.specs.State.{program_of}
 use Rattle.recheck_checking.specs.payloads.specs.declared.payload.Payload.{Payload}
 use Rattle.recheck_reach.specs.recheck_merging.specs.Plans.{MembersAddUp}
@@ -63,76 +63,52 @@ module _ (adds : MembersAddUp) (b : Base) (n : Extent) where
   before_last (stage.Checks c) poll before now holds reached = (let e = reached.0.3 in let k = reached.0.2 in (omega (arith, e), omega (arith, e, k)))
 
   -- so much work was done
-  pub worked : (s : Stage) (poll : ℕ) (before now : Work) → IsCounted before → Holds b s → Reaches n s poll before now → IsPast s poll → WorkedTo n poll before now
-  worked stage.Fronts poll before now low holds reached past =
+  pub worked : (s : Stage) (poll : ℕ) (before now : Work) → Holds b s → Reaches n s poll before now → IsPast s poll → WorkedTo n poll before now
+  worked stage.Fronts poll before now holds reached past =
       let is = reached.1 in
       let one : poll ≡ 1 = reached.0 in
-      let f = ap (λ (w : Work). w.fronts) is in
-      let m = ap (λ (w : Work). w.merges) is in
-      let c = ap (λ (w : Work). w.checks) is in
-      let lm = low.merges in
-      subst (λ (p : ℕ). WorkedTo n p before now) (sym one) (record {
-        fronts = f;
-        merges = (omega (arith, m, lm), omega (arith, m));
-        checks = c ∙ ap (risen before.checks) (let e : 0 ≡ min n.checked (64 * (1 - (3 + n.waves))) = omega arith in e);
-      })
-  worked (stage.Lists p) poll before now low holds reached past =
+      subst (λ (p : ℕ). WorkedTo n p before now) (sym one) (record { fronts = is.fronts; merges = is.merges; checks = is.checks ∙ ap (risen before.checks) (let e : 0 ≡ min n.checked (64 * (1 - (3 + n.waves))) = omega arith in e) })
+  worked (stage.Lists p) poll before now holds reached past =
       let is = reached.1 in
       let two : poll ≡ 2 = reached.0 in
-      let f = ap (λ (w : Work). w.fronts) is in
-      let m = ap (λ (w : Work). w.merges) is in
-      let c = ap (λ (w : Work). w.checks) is in
-      let lm = low.merges in
-      subst (λ (p : ℕ). WorkedTo n p before now) (sym two) (record {
-        fronts = f;
-        merges = (omega (arith, m, lm), omega (arith, m));
-        checks = c ∙ ap (risen before.checks) (let e : 0 ≡ min n.checked (64 * (2 - (3 + n.waves))) = omega arith in e);
-      })
-  worked (stage.Merges k) poll before now low holds reached past =
+      subst (λ (p : ℕ). WorkedTo n p before now) (sym two) (record { fronts = is.fronts; merges = is.merges; checks = is.checks ∙ ap (risen before.checks) (let e : 0 ≡ min n.checked (64 * (2 - (3 + n.waves))) = omega arith in e) })
+  worked (stage.Merges k) poll before now holds reached past =
       let is = reached.1 in
       let at = reached.0.2 in
-      let f = ap (λ (w : Work). w.fronts) is in
-      let m = ap (λ (w : Work). w.merges) is in
-      let c = ap (λ (w : Work). w.checks) is in
       let l = holds.low in
       let w = reached.0.1 in
       record {
-        fronts = f ∙ ap (risen before.fronts) (sym (ap (λ (t : Bool). cond t 0 n.parsed) (late poll 1 (omega (arith, at)))));
-        merges = merged_so k.wave refl at m;
-        checks = c ∙ ap (risen before.checks) (let e : 0 ≡ min n.checked (64 * (poll - (3 + n.waves))) = omega (arith, at, l, w) in e);
+        fronts = is.fronts ∙ ap (risen before.fronts) (sym (ap (λ (t : Bool). cond t 0 n.parsed) (late poll 1 (omega (arith, at)))));
+        merges = merged_so k.wave refl at is.merges;
+        checks = is.checks ∙ ap (risen before.checks) (let e : 0 ≡ min n.checked (64 * (poll - (3 + n.waves))) = omega (arith, at, l, w) in e);
       }
     where
       most : merged_to k.plan k.wave ≤ n.merged
       most = (let a = most_members adds b k holds k.wave in let e = reached.0.0 in omega (arith, a, e))
 
-      merged_so : (wave : ℕ) → k.wave ≡ wave → poll ≡ 3 + k.wave → now.merges ≡ risen before.merges (merged_to k.plan k.wave) → RisesWithin before.merges now.merges (cond (nat_le poll 3) 0 n.merged)
+      merged_so : (wave : ℕ) → k.wave ≡ wave → poll ≡ 3 + k.wave → RisesWithin before.merges now.merges (merged_to k.plan k.wave) → RisesWithin before.merges now.merges (cond (nat_le poll 3) 0 n.merged)
       merged_so zero none at m =
           let three = early poll 3 (omega (arith, at, none)) in
           let nothing : merged_to k.plan k.wave ≡ 0 = ap (merged_to k.plan) none in
-          let lm = low.merges in
-          subst (λ (t : Bool). RisesWithin before.merges now.merges (cond t 0 n.merged)) (sym three) (omega (arith, m, nothing, lm), omega (arith, m, nothing))
+          subst (λ (t : Bool). RisesWithin before.merges now.merges (cond t 0 n.merged)) (sym three) (subst (RisesWithin before.merges now.merges) nothing m)
       merged_so (suc wave) some at m =
           let past_three = late poll 3 (omega (arith, at, some)) in
           let mo = most in
-          let lm = low.merges in
-          subst (λ (t : Bool). RisesWithin before.merges now.merges (cond t 0 n.merged)) (sym past_three) (omega (arith, m, lm), omega (arith, m, mo))
-  worked (stage.Checks k) poll before now low holds reached past =
+          let u = m.1 in
+          subst (λ (t : Bool). RisesWithin before.merges now.merges (cond t 0 n.merged)) (sym past_three) (m.0, omega (arith, u, mo))
+  worked (stage.Checks k) poll before now holds reached past =
       let is = reached.1 in
-      let f = ap (λ (w : Work). w.fronts) is in
-      let m = ap (λ (w : Work). w.merges) is in
-      let c = ap (λ (w : Work). w.checks) is in
       let at = reached.0.3 in
       let so = reached.0.4 in
-      let lm = low.merges in
       record {
-        fronts = f ∙ ap (risen before.fronts) (sym (ap (λ (t : Bool). cond t 0 n.parsed) (late poll 1 (omega (arith, past)))));
-        merges = subst (λ (t : Bool). RisesWithin before.merges now.merges (cond t 0 n.merged)) (sym (late poll 3 (omega (arith, past)))) (omega (arith, m, lm), omega (arith, m));
-        checks = c ∙ ap (risen before.checks) (let e : k.done ≡ min n.checked (64 * (poll - (3 + n.waves))) = omega (arith, so, at) in e);
+        fronts = is.fronts ∙ ap (risen before.fronts) (sym (ap (λ (t : Bool). cond t 0 n.parsed) (late poll 1 (omega (arith, past)))));
+        merges = subst (λ (t : Bool). RisesWithin before.merges now.merges (cond t 0 n.merged)) (sym (late poll 3 (omega (arith, past)))) is.merges;
+        checks = is.checks ∙ ap (risen before.checks) (let e : k.done ≡ min n.checked (64 * (poll - (3 + n.waves))) = omega (arith, so, at) in e);
       }
 
   -- ---- the ends
 
-  module _ (a : AffectsIn b n) (before mid : Counted) (stop : StopSeen) (poll : ℕ) (low : IsCounted before.work) (some : 1 ≤ poll) (asked : mid.stop.questions ≡ min (before.stop.questions + (poll - 1)) (2 ^ 64 - 1)) (quiet : mid.stop.yes_answers ≡ before.stop.yes_answers)
+  module _ (a : AffectsIn b n) (before mid : Counted) (stop : StopSeen) (poll : ℕ) (some : 1 ≤ poll) (asked : mid.stop.questions ≡ min (before.stop.questions + (poll - 1)) (2 ^ 64 - 1)) (quiet : mid.stop.yes_answers ≡ before.stop.yes_answers)
       (rises : stop.questions ≡ raised mid.stop.questions) where
     abbrev now : Counted
     now = record { stop = stop; work = mid.work }
@@ -148,7 +124,7 @@ module _ (adds : MembersAddUp) (b : Base) (n : Extent) where
       questions = rose;
       yes = said ∙ ap raised quiet;
       at = told;
-      work = worked s poll before.work mid.work low holds.0 stands.0 stands.1;
+      work = worked s poll before.work mid.work holds.0 stands.0 stands.1;
     }
     stopped m m' (next.Ready s) holds stands said told = record {
       some = some;
@@ -156,7 +132,7 @@ module _ (adds : MembersAddUp) (b : Base) (n : Extent) where
       questions = rose;
       yes = said ∙ ap raised quiet;
       at = told;
-      work = subst (λ (p : ℕ). WorkedTo n p before.work mid.work) (sym stands.0) (worked_to_end n before.work mid.work low a.are_batches.enough stands.1);
+      work = subst (λ (p : ℕ). WorkedTo n p before.work mid.work) (sym stands.0) (worked_to_end n before.work mid.work a.are_batches.enough stands.1);
     }
 
     pub ended : (x : Next) (s : Staged) → x ≡ next.Ready s → Stands n x poll before.work mid.work → stop.yes_answers ≡ mid.stop.yes_answers → HasEnded n before now s

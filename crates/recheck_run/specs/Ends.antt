@@ -5,12 +5,12 @@ use Rattle.flow_base.specs.Causes.{raised, RoseBy}
 use Rattle.flow_base.specs.declared.outside.LastFault.TheVariants.{Reading}
 use Rattle.check_values.specs.declared.root.Root.{Root}
 use Rattle.stops.specs.Asked.{StopSeen}
-use Rattle.recheck_reach.specs.analyst.specs.Work.{Work, done, IsWithin}
+use Rattle.recheck_reach.specs.analyst.specs.Work.{Work, IsWithin}
 use Rattle.pending_edits.specs.Pending.{IsTouched}
 use Rattle.recheck_checking.specs.edited_root.specs.declared.halt.Halt as read
 use Rattle.recheck_checking.specs.edited_root.specs.declared.halt.Halt.TheVariants as unread
 use Rattle.recheck_run.specs.Extent.{Extent, polls}
-use Rattle.recheck_run.specs.Recheck.{RecheckState, Edits, WorkedTo, whole_work, IsUnasked}
+use Rattle.recheck_run.specs.Recheck.{RecheckState, Edits, WorkedTo, HasWorked, whole_work, IsUnasked}
 use Rattle.recheck_run.specs.Stages.{old_of, IsBaseIn}
 use Rattle.recheck_run.specs.Steps.{IsReady}
 use Rattle.recheck_run.specs.declared.stages.Base.{Base}
@@ -27,7 +27,7 @@ pub record Counted : Type 0 where
 pub record HasEnded (n : Extent) (before now : Counted) (staged : Staged) : Type 0 where
   pub questions : RoseBy (polls n) before.stop.questions now.stop.questions
   pub no_yes : now.stop.yes_answers ≡ before.stop.yes_answers
-  pub work : now.work ≡ done before.work (whole_work n)
+  pub work : HasWorked before.work now.work (whole_work n)
   pub counts : (staged.parsed ≡ n.parsed) × (staged.checked ≡ n.checked)
 
 -- a poll said yes, at no earlier one

@@ -11,7 +11,7 @@ use Rattle.stops.specs.Asked.{StopSeen}
 use Rattle.committed_results.specs.program_check.specs.Full.{Results, IsFull}
 use Rattle.committed_results.specs.program_check.specs.Status.{error_count}
 use Rattle.recheck_checking.specs.affected_law.specs.Affected.{results_at, Parsed, Merged, Checked}
-use Rattle.recheck_reach.specs.analyst.specs.Work.{Work, work_of, risen, done, RisesWithin, IsWithin}
+use Rattle.recheck_reach.specs.analyst.specs.Work.{Work, work_of, risen, RisesWithin, IsWithin}
 use Rattle.recheck_checking.specs.payloads.specs.Entities.{parse_entity, deps_entity, signature_entity, errors_entity}
 use Rattle.recheck_checking.specs.payloads.specs.State.{program_of}
 use Rattle.recheck_checking.specs.payloads.specs.declared.payload.Payload.{Payload}
@@ -53,6 +53,12 @@ pub record WorkedTo (n : Extent) (poll : ℕ) (before now : Work) : Type 0 where
   pub merges : RisesWithin before.merges now.merges (if nat_le poll 3 then 0 else n.merged)
   pub checks : now.checks ≡ risen before.checks (min n.checked (64 * (poll - (3 + n.waves))))
 
+-- exactly so many sources were read and so many modules checked, and at most so many were merged
+pub record HasWorked (before now more : Work) : Type 0 where
+  pub fronts : now.fronts ≡ risen before.fronts more.fronts
+  pub merges : RisesWithin before.merges now.merges more.merges
+  pub checks : now.checks ≡ risen before.checks more.checks
+
 -- no work is done beyond this
 abbrev pub whole_work : Extent → Work
 whole_work n = work_of n.parsed n.merged n.checked
@@ -84,7 +90,7 @@ pub record IsDone (before now : RecheckState) (version parsed checked errors : �
   pub results : List Results
   pub full : IsFull (program_of new) results
   pub counts : (parsed ≡ extent.parsed) × (checked ≡ extent.checked) × (errors ≡ error_count results)
-  pub work : now.work ≡ done before.work (whole_work extent)
+  pub work : HasWorked before.work now.work (whole_work extent)
   pub questions : RoseBy (polls extent) before.stop.questions now.stop.questions
   pub no_yes : now.stop.yes_answers ≡ before.stop.yes_answers
   pub next : (now.heap.version ≡ before.heap.version + 1) × (version ≡ now.heap.version)

@@ -23,6 +23,8 @@ use Rattle.recheck_reach.specs.check_phases.specs.declared.merging.Sources.{Sour
 use Rattle.recheck_checking.specs.edited_root.specs.From.{numbers_from, fresh_from, freed_from}
 use Rattle.recheck_reach.specs.recheck_merging.specs.Plans.{IsPlanOf}
 use Rattle.recheck_reach.specs.recheck_merging.specs.Merging.{AreMergedTo}
+use Rattle.recheck_reach.specs.recheck_merging.specs.Still.{AreOld}
+use Rattle.recheck_plan.specs.Marks.{AreMarksOf}
 use Rattle.committed_results.specs.recheck_staging.specs.Staging.{state_of, HasState}
 use Rattle.recheck_reach.specs.recheck_sources.specs.Parts.{AreKeptBy, TellsOthers}
 use Rattle.recheck_reach.specs.recheck_sources.specs.Changed.{IsChanged}
@@ -70,9 +72,11 @@ pub record IsMerging (b : Base) (m : Merging) : Type 0 where
   pub listed : AreListed b m.listed.sources m.listed.relisted.items
   pub touched : ArePlaces (Differs (view_in b.was.sources) (view_in m.listed.sources)) (paths_in m.listed.sources) m.listed.touched
   pub changed : IsRising m.listed.changed × ArePlaces (IsChanged b.was.sources m.listed.sources) (paths_in m.listed.sources) m.listed.changed
+  pub marks : AreMarksOf (length m.listed.sources.root.modules) m.listed.touched m.touched.items
   pub plan : IsPlanOf m.listed.sources m.listed.touched m.plan
   pub edges : (m.listed.touched ≡ []) ⊎ AreImports (view_in m.listed.sources) (paths_in m.listed.sources) m.edges.items
   pub merged : AreMergedTo m.listed.sources m.plan m.wave m.slots.items
+  pub same : AreOld b.was.signatures.items b.from.items m.slots.items m.same.items
   pub low : m.wave ≤ length m.plan.waves
 
 -- these are the numbers of the modules that are checked

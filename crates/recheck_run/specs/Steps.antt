@@ -6,7 +6,7 @@ use Rattle.heap_core.specs.Meaning.{Meaning, AllFit}
 use Rattle.heap_core.specs.Transactions.{all_staged}
 use Rattle.committed_results.specs.program_check.specs.Full.{Results, IsFull}
 use Rattle.recheck_checking.specs.affected_law.specs.Affected.{Checked}
-use Rattle.recheck_reach.specs.analyst.specs.Work.{Work, work_of, no_work, done, IsWithin, IsCounted}
+use Rattle.recheck_reach.specs.analyst.specs.Work.{Work, work_of, no_work, IsWithin, IsCounted}
 use Rattle.recheck_checking.specs.payloads.specs.State.{program_of, fits}
 use Rattle.recheck_checking.specs.payloads.specs.declared.payload.Payload.{Payload}
 use Rattle.recheck_reach.specs.check_phases.specs.Sourced.{program_in, paths_in}
@@ -19,7 +19,7 @@ use Rattle.committed_results.specs.recheck_staging.specs.Staging.{changes_of, st
 use Rattle.committed_results.specs.recheck_staging.specs.declared.staging.Anew.{Anew}
 use Rattle.recheck_reach.specs.recheck_sources.specs.Parts.{AreKeptBy, TellsOthers}
 use Rattle.recheck_run.specs.Extent.{Extent, Affects, polls}
-use Rattle.recheck_run.specs.Recheck.{whole_work}
+use Rattle.recheck_run.specs.Recheck.{HasWorked, whole_work}
 use Rattle.recheck_run.specs.Stages.{old_of, Holds}
 use Rattle.recheck_run.specs.declared.stages.Base.{Base}
 use Rattle.recheck_run.specs.declared.stages.Stage.{Stage}
@@ -46,7 +46,7 @@ IsAt n (Lists parses) poll = poll ≡ 2
 IsAt n (Merges m) poll = (n.merged ≡ length m.plan.merged) × (n.waves ≡ length m.plan.waves) × (poll ≡ 3 + m.wave)
 IsAt n (Checks c) poll = (n.checked ≡ length c.checked) × (k : ℕ) × (k ≤ n.batches) × (poll ≡ 3 + n.waves + k) × IsAfter n.checked k c.done
 
--- the work before a stage
+-- the work before a stage, with the most that may be merged by then
 abbrev pub so_far : Extent → Stage → Work
 so_far n Fronts = no_work
 so_far n (Lists parses) = work_of n.parsed 0 0
@@ -55,7 +55,7 @@ so_far n (Checks c) = work_of n.parsed n.merged c.done
 
 -- the recheck is at this stage before a poll, with so much work done since it began
 abbrev pub Reaches : Extent → Stage → ℕ → Work → Work → Type 0
-Reaches n stage poll before now = IsAt n stage poll × (now ≡ done before (so_far n stage))
+Reaches n stage poll before now = IsAt n stage poll × HasWorked before now (so_far n stage)
 
 -- no check stands before the fourth poll
 abbrev pub IsPast : Stage → ℕ → Type 0
@@ -67,7 +67,7 @@ IsPast (Checks c) poll = 4 ≤ poll
 -- it stands before a poll with what was done, where all may be staged
 abbrev pub Stands : Extent → Next → ℕ → Work → Work → Type 0
 Stands n (GoesTo stage) poll before now = Reaches n stage poll before now × IsPast stage poll
-Stands n (Ready staged) poll before now = (poll ≡ polls n) × (now ≡ done before (whole_work n)) × (staged.parsed ≡ n.parsed) × (staged.checked ≡ n.checked)
+Stands n (Ready staged) poll before now = (poll ≡ polls n) × HasWorked before now (whole_work n) × (staged.parsed ≡ n.parsed) × (staged.checked ≡ n.checked)
 
 -- Whatever poll the recheck is before, and whatever work was done since it began: of the edit that affects so much this is so.
 abbrev pub OfEach : Base → Stage → Work → (Extent → ℕ → Work → Type 0) → Type 0

@@ -76,16 +76,19 @@ pub(crate) fn begin_checks(
     let Merging {
         listed,
         edges,
+        touched: _,
         plan,
         wave: _,
         slots,
+        same,
     } = merging;
     let was = base.was.signatures.as_slice();
     let from = base.from.as_slice();
     let signatures = whole_signatures(alloc, slots)?;
     let all = signatures.as_slice();
     let merged = plan.merged.as_slice();
-    let moved = moved_signatures(alloc, was, from, merged, all)?;
+    let known = same.as_slice();
+    let moved = moved_signatures(alloc, was, from, merged, all, known)?;
     let flags = moved.as_slice();
     let imports = edges.as_slice();
     let checked = to_check(alloc, &listed, all, flags, merged, imports)?;

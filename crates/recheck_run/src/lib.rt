@@ -3,6 +3,7 @@
 #![tactic(auto)]
 
 mod checking;
+mod flags;
 mod laws;
 mod merging;
 mod outcome;

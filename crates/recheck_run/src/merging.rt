@@ -6,6 +6,7 @@ ghost use Rattle.recheck_reach.specs.recheck_merging.specs.Plans.{IsPlanOf};
 ghost use Rattle.recheck_run.specs.Stages.{Holds, IsBase, IsMerging};
 ghost use Rattle.recheck_run.specs.declared.stages.Stage.TheVariants as stage;
 
+use crate::flags::flags_of;
 use crate::laws::reach_laws;
 use crate::stages::{Base, Merging};
 use committed_results::source_front::Parse;
@@ -70,11 +71,15 @@ pub(crate) fn list_all(
     let Planned { edges, plan } = planned;
     let was = base.was.signatures.as_slice();
     let slots = kept_signatures(alloc, was, from, &plan)?;
+    let flags = flags_of(alloc, from.len(), touched)?;
+    let same = vec![in alloc; true; from.len()]?;
     Ok(Merging {
         listed,
         edges,
+        touched: flags,
         plan,
         wave: 0,
         slots,
+        same,
     })
 }

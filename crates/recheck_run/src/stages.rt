@@ -29,12 +29,16 @@ pub(crate) struct Merging {
     pub listed: Listed,
     /// For each the numbers of the modules that it imports, where any is touched.
     pub edges: Vec<List<u32>>,
+    /// For each module whether it is touched: it is new, or its local signature or its dependency list differs.
+    pub touched: Vec<bool>,
     /// Which modules are merged.
     pub plan: MergePlan,
     /// How many waves are.
     pub wave: usize,
     /// The signatures that are kept, and those that are merged.
     pub slots: Slots,
+    /// For each module whether the signature that is there is the old one.
+    pub same: Vec<bool>,
 }
 
 /// Some of the modules that are to be checked are.

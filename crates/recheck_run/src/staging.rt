@@ -1,12 +1,11 @@
 //! All results of the edited program, staged.
 ghost use Rattle.std.specs.Prelude.{◌≡◌, ◌<◌, ◌≤◌, ◌^◌, true, false, All, IfOk, OnOk, length, count_by, slice_get, Some};
-ghost use Rattle.graph_search.specs.Searching.{Marks};
 ghost use Rattle.heap_core.specs.Meaning.{none_of};
 ghost use Rattle.heap_core.specs.Transactions.{IsStaging};
-ghost use Rattle.recheck_plan.specs.Marks.{AreMarksOf};
 ghost use Rattle.recheck_run.specs.Stages.{IsBase, IsBaseIn, IsChecking};
 ghost use Rattle.recheck_run.specs.Steps.{AreAnew, IsReady};
 
+use crate::flags::flags_of;
 use crate::laws::error_laws;
 use crate::stages::{Base, Checking, Staged};
 use committed_results::recheck_staging::{Anew, stage_anew};
@@ -16,26 +15,6 @@ use recheck_checking::payloads::Payload;
 use recheck_checking::whole_errors;
 use recheck_reach::check_phases::{Made, count_errors};
 use std::alloc::Global;
-
-// Turns the flags of these numbers on.
-fn flag_all(flags: &mut [bool], numbers: &[u32])
-    requires { All (λ x. x < length flags.old) numbers.now }
-    ensures { Marks numbers.now flags.old flags.new }
-{
-    for number in numbers {
-        flags[*number as usize] = true;
-    }
-}
-
-// So many flags, on at exactly these numbers.
-fn flags_of(alloc: Global, count: usize, numbers: &[u32]) -> Result<Vec<bool>, NoMemory>
-    requires { All (λ x. x < count) numbers.now }
-    ensures { IfOk result (λ flags. AreMarksOf count numbers.now flags.items) }
-{
-    let mut flags = vec![in alloc; false; count]?;
-    flag_all(flags.as_mut_slice(), numbers);
-    Ok(flags)
-}
 
 // All results, and which of them were made anew.
 #[derive(Drop)]

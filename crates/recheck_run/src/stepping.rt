@@ -19,7 +19,7 @@ use heap_core::HeapWriter;
 use recheck_checking::check_batch;
 use recheck_checking::payloads::Payload;
 use recheck_reach::analyst::Analyst;
-use recheck_reach::recheck_merging::merge_wave;
+use recheck_reach::recheck_merging::{Edit, merge_wave};
 use recheck_reach::recheck_sources::edited_parses;
 use std::alloc::Global;
 use std::sync::Wait;
@@ -70,23 +70,31 @@ fn merge_next<R: Threads + Wait + Sync, A: Analyst + Send>(
     mut merging: Merging,
 ) -> Result<Stage, NoMemory>
     requires some { 0 < length analysts.old }
+    requires base { IsBase base.now }
     requires merging { IsMerging base.now merging }
     requires low { merging.wave < length merging.plan.waves }
     ensures holds { IfOk result (Holds base.now) }
     ensures steps { StepsOn base.now (stage.Merges merging) result (total (map A.work analysts.old)) (total (map A.work analysts.new)) }
     ensures many { length analysts.new ≡ length analysts.old }
 {
-    counted(&*analysts);
+    reach_laws();
     recheck_reach::recheck_merging::members_add_up();
     let wave = merging.wave;
+    let edit = Edit {
+        was: &base.was,
+        from: base.from.as_slice(),
+        touched: merging.touched.as_slice(),
+        sources: &merging.listed.sources,
+        plan: &merging.plan,
+    };
     merge_wave(
         rt,
         alloc,
         analysts,
-        &merging.listed.sources,
-        &merging.plan,
+        &edit,
         wave,
         &mut merging.slots,
+        merging.same.as_mut_slice(),
     )?;
     merging.wave = wave + 1;
     Ok(Stage::Merges(merging))

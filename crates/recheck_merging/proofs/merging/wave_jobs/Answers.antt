@@ -1,32 +1,31 @@
-use Rattle.std.proofs.Common.{[], length, get_or, ap, map, ◌∙◌, take, arith}
+use Rattle.std.proofs.Common.{◌<◌, [], ℕ, Some, length, get_or, map, ap, ◌∙◌, arith}
+use Rattle.heap_core.proofs.Lists.{get_index}
 use Rattle.job_ends.specs.Jobs.{job_view}
 use Rattle.job_ends.specs.declared.job.MergeJob.{MergeJob}
-use Rattle.graph_search.proofs.Lists.{take_whole}
 use Rattle.recheck_merging.specs.Plans.{size_of}
 use Rattle.recheck_merging.specs.Merging.{job_in}
-use Rattle.recheck_merging.proofs.Merged.{one_made}
+use Rattle.recheck_merging.proofs.Unmoved.{none_there, some_there, made_more, made_less}
 use Rattle.recheck_merging.proofs.merging.wave_jobs.Goals as goal
-
-pub component_job-requires-clause-within : goal.component_job-requires-clause-within
-component_job-requires-clause-within c = let many = ap length c.wave_at-numbers.ensures in omega arith
+use Rattle.recheck_merging.proofs.merging.wave_jobs.Goals.{then-is_none+in_ok-job+in_ok-push, else-is_none}
 
 pub loop-i-preserved : goal.loop-i-preserved
 loop-i-preserved c =
-    let many = ap length c.wave_at-numbers.ensures in
-    let wave = get_or c.args.plan.now.waves c.args.wave [] in
-    record {
-      jobs = one_made job_view (job_in c.args.sources.now c.args.plan.now c.args.slots.now) wave c.loop-i.i _ _ _ (omega arith) c.in_ok-job.ensures.job c.loop-i.invariant.jobs c.in_ok-push.ensures.ok;
-      many = one_made (λ (job : MergeJob). length job.members) (size_of c.args.plan.now) wave c.loop-i.i _ _ _ (omega arith) c.in_ok-job.ensures.many c.loop-i.invariant.many c.in_ok-push.ensures.ok;
-    }
-
-pub returns-clause-jobs : goal.returns-clause-jobs
-returns-clause-jobs c =
-    let many = ap length c.wave_at-numbers.ensures in
-    let wave = get_or c.args.plan.now.waves c.args.wave [] in
-    c.loop-i.invariant.jobs ∙ ap (map (job_in c.args.sources.now c.args.plan.now c.args.slots.now)) (take_whole wave c.loop-i.i (omega arith))
-
-pub returns-clause-many : goal.returns-clause-many
-returns-clause-many c =
-    let many = ap length c.wave_at-numbers.ensures in
-    let wave = get_or c.args.plan.now.waves c.args.wave [] in
-    c.loop-i.invariant.many ∙ ap (map (size_of c.args.plan.now)) (take_whole wave c.loop-i.i (omega arith))
+    let ks = get_or c.args.edit.now.plan.now.waves c.args.wave [] in
+    let at = get_index c.args.olds.now c.loop-i.i c.index-olds-i.result c.loop-i-test.true c.index-olds-i.is in
+    let low : c.loop-i.i < length ks = (let many = c.requires.many in omega (arith, many, c.loop-i-test.true)) in
+    let job = job_in c.args.edit.now.sources.now c.args.edit.now.plan.now c.args.slots.now in
+    let members : MergeJob → ℕ = λ k. length k.members in
+    elim c.if-is_none.branch [
+      | then-is_none+in_ok-job+in_ok-push w ↦
+          let none = at ∙ ap Some (none_there c.index-olds-i.result c.is_none.result c.is_none.ensures w.if-is_none.true) in
+          record {
+            jobs = ap (map job_view) w.jobs-is ∙ made_more job_view job ks c.args.olds.now c.loop-i.i w.in_ok-job.job c.loop-i.jobs w.push.new.self low none w.in_ok-job.ensures.job c.loop-i.invariant.jobs w.in_ok-push.ensures.ok;
+            many = ap (map members) w.jobs-is ∙ made_more members (size_of c.args.edit.now.plan.now) ks c.args.olds.now c.loop-i.i w.in_ok-job.job c.loop-i.jobs w.push.new.self low none w.in_ok-job.ensures.many c.loop-i.invariant.many w.in_ok-push.ensures.ok;
+          }
+      | else-is_none w ↦
+          let some = some_there c.index-olds-i.result c.is_none.result c.is_none.ensures w.if-is_none.false in
+          record {
+            jobs = ap (map job_view) w.jobs-is ∙ made_less job_view job ks c.args.olds.now c.loop-i.i some.0 c.loop-i.jobs low (at ∙ ap Some some.1) c.loop-i.invariant.jobs;
+            many = ap (map members) w.jobs-is ∙ made_less members (size_of c.args.edit.now.plan.now) ks c.args.olds.now c.loop-i.i some.0 c.loop-i.jobs low (at ∙ ap Some some.1) c.loop-i.invariant.many;
+          }
+    ]

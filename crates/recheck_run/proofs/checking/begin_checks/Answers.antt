@@ -1,7 +1,7 @@
 use Rattle.std.proofs.Common.{refl}
 use Rattle.recheck_run.proofs.Goes.{checks_begin}
 use Rattle.recheck_run.proofs.Planned.{filled}
-use Rattle.recheck_run.proofs.Begun.{few_modules, merged_all, changed_low, from_all, plan_low, leading_low, rest_here, many_moved, leads_here, edges_here, affected_here, checked_low, numbers_low, many_all, checking_is}
+use Rattle.recheck_run.proofs.Begun.{few_modules, merged_all, changed_low, from_all, plan_low, leading_low, rest_here, same_here, many_moved, leads_here, edges_here, affected_here, checked_low, numbers_low, many_all, checking_is}
 use Rattle.recheck_run.proofs.checking.begin_checks.Goals as goal
 
 pub whole_signatures-requires : goal.whole_signatures-requires
@@ -21,6 +21,11 @@ pub moved_signatures-requires-clause-rest : goal.moved_signatures-requires-claus
 moved_signatures-requires-clause-rest c =
     rest_here c.args.base.now c.args.merging c.requires.base c.requires.merging c.requires.all c.reach_laws.ensures.touched c.waves_make_all.ensures c.in_ok-signatures.signatures.items c.in_ok-signatures.ensures c.as_slice-all.result.now c.as_slice-all.ensures.value
     c.as_slice-from.result.now c.as_slice-from.ensures.value c.reach_laws.ensures.rest c.as_slice-was.result.now c.as_slice-merged.result.now c.as_slice-was.ensures.value c.as_slice-merged.ensures
+
+pub moved_signatures-requires-clause-same : goal.moved_signatures-requires-clause-same
+moved_signatures-requires-clause-same c =
+    same_here c.args.base.now c.args.merging c.requires.base c.requires.merging c.requires.all c.reach_laws.ensures.touched c.waves_make_all.ensures c.in_ok-signatures.signatures.items c.in_ok-signatures.ensures c.as_slice-all.result.now c.as_slice-all.ensures.value
+    c.as_slice-from.result.now c.as_slice-from.ensures.value c.as_slice-was.result.now c.as_slice-known.result.now c.as_slice-was.ensures.value c.as_slice-known.ensures.value
 
 pub to_check-requires-clause-few : goal.to_check-requires-clause-few
 to_check-requires-clause-few c =

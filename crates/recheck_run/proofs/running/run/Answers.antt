@@ -1,8 +1,8 @@
 use Rattle.std.proofs.Common.{◌≡◌, true, false, refl, sym, ◌∙◌, arith, map}
 use Rattle.std.proofs.lemmas.Result.{err_from_is_err_and}
-use Rattle.recheck_reach.specs.check_phases.proofs.Works.{worked_none}
 use Rattle.committed_results.specs.recheck_staging.proofs.Steps.{staging_none, staging_then}
 use Rattle.recheck_run.proofs.Questions.{yes_at}
+use Rattle.recheck_run.proofs.Works.{worked_none}
 use Rattle.recheck_run.proofs.Runs.{holds_stage, holds_ready, still_bare, still_based, still_next, stands_stage, stopped, ended, failed, next_fits}
 use Rattle.recheck_reach.specs.work_totals.specs.Totals.{total}
 use Rattle.recheck_run.proofs.running.run.Goals as goal
@@ -10,7 +10,7 @@ use Rattle.recheck_run.proofs.running.run.Goals as goal
 pub polls-init : goal.polls-init
 polls-init g c = record {
   holds = (tt, refl);
-  stands = λ n a. ((refl, worked_none _ _ c.counted.ensures refl), tt);
+  stands = λ n a. ((refl, worked_none _ c.counted.ensures), tt);
   some = omega arith;
   asked = (let b = c.bounded.ensures.0 in omega (arith, b));
   quiet = refl;
@@ -37,7 +37,7 @@ step-requires-clause-holds g c κs within = (holds_stage _ _ _ _ c.in-GoesTo.sta
 pub returns-then-stop-clause-halted : goal.returns-then-stop-clause-halted
 returns-then-stop-clause-halted g c = λ n a.
     stopped c.members_add_up.ensures c.args.base.now n a (record { stop = g.S.Stop.seen c.args.stop.now; work = total (map g.A.Analyst.work c.args.analysts.now) }) (record { stop = g.S.Stop.seen c.polls.stop; work = total (map g.A.Analyst.work c.polls.analysts) }) _ c.polls.poll
-    c.counted.ensures c.polls.invariant.some c.polls.invariant.asked c.polls.invariant.quiet c.stop.ensures.questions _ _ c.polls.next c.polls.invariant.holds (c.polls.invariant.stands n a) (c.stop.ensures.counts.rises c.if-stop.true)
+    c.polls.invariant.some c.polls.invariant.asked c.polls.invariant.quiet c.stop.ensures.questions _ _ c.polls.next c.polls.invariant.holds (c.polls.invariant.stands n a) (c.stop.ensures.counts.rises c.if-stop.true)
     (yes_at (g.S.Stop.seen c.args.stop.now).told (g.S.Stop.seen c.polls.stop) (g.S.Stop.seen c.stop.new.self) c.stop.result
     c.polls.invariant.told_stop (c.stop.ensures.told ∙ c.polls.invariant.told_stop)
     (g.met.S.Stop.keeps_word c.polls.stop) (g.met.S.Stop.keeps_word c.stop.new.self) c.stop.ensures.questions c.stop.ensures.counts c.if-stop.true)
@@ -56,7 +56,7 @@ returns-in_err-next-in-GoesTo-clause-halted g c =
     rw (p.1, p.2) (λ n a.
     let st = stands_stage n c.polls.next c.in-GoesTo.stage c.polls.poll _ _ c.in-GoesTo.is (c.polls.invariant.stands n a) in
     failed c.members_add_up.ensures c.args.base.now n a (record { stop = g.S.Stop.seen c.args.stop.now; work = total (map g.A.Analyst.work c.args.analysts.now) }) (record { stop = g.S.Stop.seen c.polls.stop; work = total (map g.A.Analyst.work c.polls.analysts) }) _ c.polls.poll
-    c.counted.ensures c.polls.invariant.some c.polls.invariant.asked c.polls.invariant.quiet c.stop.ensures.questions c.in-GoesTo.stage _ h.0 st.0 (c.stop.ensures.counts.stays (λ said. let z : true ≡ false = sym said ∙ c.if-stop.false in cc))
+    c.polls.invariant.some c.polls.invariant.asked c.polls.invariant.quiet c.stop.ensures.questions c.in-GoesTo.stage _ h.0 st.0 (c.stop.ensures.counts.stays (λ said. let z : true ≡ false = sym said ∙ c.if-stop.false in cc))
     (c.in_err-next-in-GoesTo.ensures.leads n c.polls.poll (total (map g.A.Analyst.work c.args.analysts.now)) a c.counted.ensures st.0))
 
 pub polls-preserved : goal.polls-preserved
@@ -87,5 +87,5 @@ returns-in-Ready-clause-ready g c = holds_ready _ _ _ _ c.in-Ready.staged c.in-R
 pub returns-in-Ready-clause-ended : goal.returns-in-Ready-clause-ended
 returns-in-Ready-clause-ended g c = λ n a.
     ended c.members_add_up.ensures c.args.base.now n a (record { stop = g.S.Stop.seen c.args.stop.now; work = total (map g.A.Analyst.work c.args.analysts.now) }) (record { stop = g.S.Stop.seen c.polls.stop; work = total (map g.A.Analyst.work c.polls.analysts) }) _ c.polls.poll
-    c.counted.ensures c.polls.invariant.some c.polls.invariant.asked c.polls.invariant.quiet c.stop.ensures.questions c.polls.next c.in-Ready.staged c.in-Ready.is (c.polls.invariant.stands n a)
+    c.polls.invariant.some c.polls.invariant.asked c.polls.invariant.quiet c.stop.ensures.questions c.polls.next c.in-Ready.staged c.in-Ready.is (c.polls.invariant.stands n a)
     (c.stop.ensures.counts.stays (λ said. let z : true ≡ false = sym said ∙ c.if-stop.false in cc))

@@ -1,6 +1,6 @@
 use Rattle.std.proofs.Common.{arith}
 use Rattle.graph_search.proofs.MarkLemmas.{marks_none, marks_next, marks_all}
-use Rattle.recheck_run.proofs.staging.flag_all.Goals as goal
+use Rattle.recheck_run.proofs.flags.flag_all.Goals as goal
 
 pub loop-number-init : goal.loop-number-init
 loop-number-init c = marks_none c.args.flags.now
