@@ -73,7 +73,7 @@ number_place s p plan k places at x has =
     (from.0, (has.0, from.1), place_at p.merged from.0 0 low ∙ ap Some (sym from.2))
 
 -- and a place of a component its number
-place_number : (p : MergePlan) (places : List ℕ) (i x : ℕ) → Has places i → slice_get p.merged i ≡ Some x → Has (numbers_at p.merged places) x
+pub place_number : (p : MergePlan) (places : List ℕ) (i x : ℕ) → Has places i → slice_get p.merged i ≡ Some x → Has (numbers_at p.merged places) x
 place_number p places i x has at =
     (has.0, get_mapped (λ (j : ℕ). get_or p.merged j 0) places has.0 i has.1 ∙ ap Some (sym (value_at p.merged i x 0 at)))
 

@@ -1,5 +1,5 @@
 -- Lists of which each element is made of one of another list, and rising lists of numbers.
-use Rattle.std.proofs.Common.{◌≡◌, ℕ, zero, suc, ◌+◌, ◌<◌, ◌≤◌, List, [], ◌∷◌, ◌++◌, All, map, length, take, get_or, slice_get, Some, None, refl, sym, ap, subst, inl, inr, arith, ◌^◌}
+use Rattle.std.proofs.Common.{◌≡◌, ℕ, zero, suc, ◌+◌, ◌<◌, ◌≤◌, List, [], ◌∷◌, ◌++◌, All, map, length, take, get_or, slice_get, Some, None, refl, sym, ap, ◌∙◌, subst, inl, inr, arith, ◌^◌}
 use Rattle.std.proofs.lemmas.Bool.{cases_lt}
 use Rattle.std.proofs.lemmas.List.Elements.{All-get_or, All-from_get_or}
 use Rattle.graph_search.specs.Cycles.{Has}
@@ -59,6 +59,30 @@ rising_few xs n rising all = go (length xs) refl
 
 pub rising_few_of : (xs : List ℕ) (n : ℕ) → IsRising xs → All (λ x. x < n) xs → n < 2 ^ 32 → length xs < 2 ^ 32
 rising_few_of xs n rising all few = let most = rising_few xs n rising all in omega arith
+
+-- a number of it is as far below that one as there are places behind it
+rising_most : (xs : List ℕ) (n d i x : ℕ) → IsRising xs → All (λ y. y < n) xs → i + d + 1 ≡ length xs → slice_get xs i ≡ Some x → x + length xs ≤ n + i
+rising_most xs n zero i x rising all many at = let low = all_has (λ (y : ℕ). y < n) xs all x (i, at) in omega (arith, many, low)
+rising_most xs n (suc d) i x rising all many at =
+    let y = get_there xs (i + 1) (omega (arith, many)) in
+    let less = rising i (i + 1) x y.0 (omega arith) at y.1 in
+    let most = rising_most xs n d (i + 1) y.0 rising all (omega (arith, many)) y.1 in
+    omega (arith, less, most)
+
+-- where it has as many as there are, it has each
+pub rising_all : (xs : List ℕ) (n x : ℕ) → IsRising xs → All (λ y. y < n) xs → length xs ≡ n → x < n → Has xs x
+rising_all xs n x rising all many low =
+    let y = get_there xs x (omega (arith, many, low)) in
+    let least = rising_least xs x y.0 rising y.1 in
+    let behind : (d : ℕ) × (x + d + 1 ≡ length xs) = rest x (length xs) (omega (arith, many, low)) in
+    let most = rising_most xs n behind.0 x y.0 rising all behind.1 y.1 in
+    let same : y.0 ≡ x = omega (arith, least, most, many) in
+    (x, y.1 ∙ ap Some same)
+  where
+    rest : (i m : ℕ) → i < m → (d : ℕ) × (i + d + 1 ≡ m)
+    rest i zero less = absurd (omega (arith, less))
+    rest zero (suc m) less = (m, omega arith)
+    rest (suc i) (suc m) less = let more = rest i m (omega (arith, less)) in (more.0, (let e = more.1 in omega (arith, e)))
 
 -- of two places of a rising list that have one number
 pub rising_place : (xs : List ℕ) (i j x : ℕ) → IsRising xs → slice_get xs i ≡ Some x → slice_get xs j ≡ Some x → i ≡ j

@@ -1,13 +1,15 @@
 -- Which components an edit leaves as they were, as the code finds them.
-use Rattle.std.proofs.Common.{◌≡◌, ◌≢◌, ℕ, zero, suc, ◌+◌, ◌<◌, ◌≤◌, Bool, true, false, not, List, [], ◌∷◌, ◌++◌, All, map, length, take, set, get_or, slice_get, Option, Some, None, refl, sym, ap, ◌∙◌, subst, arith, length-set}
+use Rattle.std.proofs.Common.{◌≡◌, ◌≢◌, ℕ, zero, suc, ◌+◌, ◌<◌, ◌≤◌, Bool, true, false, not, List, [], ◌∷◌, ◌++◌, All, IsTrue, ◌↔◌, map, length, take, set, replicate, get_or, slice_get, Option, Some, None, refl, sym, ap, ◌∙◌, subst, arith, length-set}
 use Rattle.std.specs.Prelude.{is_some, if◌then◌else◌}
 use Rattle.std.specs.List.{AllZip, list_all}
 use Rattle.std.proofs.lemmas.Bool.{and_parts}
+use Rattle.std.proofs.lemmas.List.{length-replicate}
 use Rattle.std.proofs.lemmas.List.Sums.{sum_by-cons}
 use mathlib.Core.Logic.{dite}
 use native.Mathlib.Decide.{ℕ_discrete}
 use Rattle.heap_core.specs.Meaning.{names}
-use Rattle.heap_core.proofs.Lists.{put_here, put_else}
+use Rattle.graph_search.proofs.Fills.{get-replicate}
+use Rattle.heap_core.proofs.Lists.{get_there, put_here, put_else}
 use Rattle.check_values.specs.declared.signatures.Sig.{Sig}
 use Rattle.graph_search.specs.Cycles.{Has}
 use Rattle.merged_signatures.specs.Settled.{AJobTellsTheProgram}
@@ -28,12 +30,12 @@ use Rattle.recheck_merging.proofs.OldJobs.{kept_signs}
 
 -- ---- flags
 
-list_each : {A : Type 0} (test : A → Bool) (xs : List A) (i : ℕ) (x : A) → list_all test xs ≡ true → slice_get xs i ≡ Some x → test x ≡ true
+pub list_each : {A : Type 0} (test : A → Bool) (xs : List A) (i : ℕ) (x : A) → list_all test xs ≡ true → slice_get xs i ≡ Some x → test x ≡ true
 list_each test [] i x all at = absurd (let z : None ≡ Some x = at in cc)
 list_each test (y ∷ xs) zero x all at = subst (λ z. test z ≡ true) (one_value y x at) (and_parts (test y) (list_all test xs) all).0
 list_each test (y ∷ xs) (suc i) x all at = list_each test xs i x (and_parts (test y) (list_all test xs) all).1 at
 
-on_at : (flags : List Bool) (y : ℕ) → get_or flags y false ≡ true → slice_get flags y ≡ Some true
+pub on_at : (flags : List Bool) (y : ℕ) → get_or flags y false ≡ true → slice_get flags y ≡ Some true
 on_at [] y on = absurd (let z : false ≡ true = on in cc)
 on_at (b ∷ flags) zero on = ap Some on
 on_at (b ∷ flags) (suc y) on = on_at flags y on
@@ -44,7 +46,7 @@ module _ (e : Edit) (is : IsEdit e) (same : List Bool) (k : ℕ) (places : List 
   abbrev p : MergePlan
   p = e.plan.now
 
-  at_place : (i : ℕ) → Has places i → (not (get_or e.touched.now (get_or p.merged i 0) true) ≡ true) × (list_all (λ y. get_or same y false) (get_or p.edges.items i []) ≡ true)
+  pub at_place : (i : ℕ) → Has places i → (not (get_or e.touched.now (get_or p.merged i 0) true) ≡ true) × (list_all (λ y. get_or same y false) (get_or p.edges.items i []) ≡ true)
   at_place i has = and_parts (not (get_or e.touched.now (get_or p.merged i 0) true)) (list_all (λ y. get_or same y false) (get_or p.edges.items i [])) (list_each (is_still e.touched.now same p) places has.0 i still has.1)
 
   -- none of its members is touched
@@ -64,7 +66,7 @@ module _ (e : Edit) (is : IsEdit e) (same : List Bool) (k : ℕ) (places : List 
   olds made old i j ys y sig at_i at_j there =
       let l = mapped_from (λ (n : ℕ). get_or p.edges.items n []) places i ys at_i in
       let on = (at_place l.0 (i, l.1)).1 in
-      old.old y sig (on_at same y (list_each (λ (n : ℕ). get_or same n false) (get_or p.edges.items l.0 []) j y on (ap (λ (zs : List ℕ). slice_get zs j) (sym l.2) ∙ at_j))) there
+      (old.old y sig true (on_at same y (list_each (λ (n : ℕ). get_or same n false) (get_or p.edges.items l.0 []) j y on (ap (λ (zs : List ℕ). slice_get zs j) (sym l.2) ∙ at_j))) there).0 refl
 
   pub has_old : (x : ℕ) → Has (numbers_at p.merged places) x → x < length e.sources.now.root.modules → HasOld e.was.now.signatures.items e.from.now x
   has_old x has low =
@@ -101,26 +103,41 @@ tells_kept touched same p k places o b at is tells = tells ∙ (is ∙ ap (are_s
 -- ---- which signatures are the old ones
 
 -- one more signature is made
-pub old_set : (was : List Sig) (from : List (Option ℕ)) (made : List (Option Sig)) (same : List Bool) (x : ℕ) (sig : Sig) (b : Bool) → AreOld was from made same → x < length made → (b ≡ true → kept_in was (get_or from x None) ≡ Some sig)
+pub old_set : (was : List Sig) (from : List (Option ℕ)) (made : List (Option Sig)) (same : List Bool) (x : ℕ) (sig : Sig) (b : Bool) → AreOld was from made same → x < length made → IsTrue b ↔ (kept_in was (get_or from x None) ≡ Some sig)
     → AreOld was from (set made x (Some sig)) (set same x b)
 old_set was from made same x sig b old low is_old = record {
   many = length-set same x b ∙ (old.many ∙ sym (length-set made x (Some sig)));
-  old = λ y other on there. dite (ℕ_discrete y x)
+  old = λ y other flag on there. dite (ℕ_discrete y x)
       (λ (here : y ≡ x).
-      let small : x < length same = (let many = old.many in omega arith) in
-      let flag : b ≡ true = one_value b true (sym (put_here same x b small) ∙ (ap (slice_get (set same x b)) (sym here) ∙ on)) in
+      let same_flag : b ≡ flag = one_value b flag (sym (put_here same x b small) ∙ (ap (slice_get (set same x b)) (sym here) ∙ on)) in
       let mine : Some sig ≡ Some other = one_value (Some sig) (Some other) (sym (put_here made x (Some sig) low) ∙ (ap (slice_get (set made x (Some sig))) (sym here) ∙ there)) in
-      ap (λ (n : ℕ). kept_in was (get_or from n None)) here ∙ (is_old flag ∙ mine))
-      (λ (ne : y ≢ x). old.old y other (sym (put_else same x y b ne) ∙ on) (sym (put_else made x y (Some sig) ne) ∙ there));
-}
-
--- at first all that are made are
-pub kept_are_old : (was : List Sig) (from : List (Option ℕ)) (merged : List ℕ) (made : List (Option Sig)) (same : List Bool) → AreKept was from merged made → length same ≡ length made → AreOld was from made same
-kept_are_old was from merged made same kept many = record {
-  many = many;
-  old = λ x sig on there. go x sig there (names merged x) refl;
+      let numbers : kept_in was (get_or from y None) ≡ kept_in was (get_or from x None) = ap (λ (n : ℕ). kept_in was (get_or from n None)) here in
+      (λ is_on. numbers ∙ (is_old.0 (same_flag ∙ is_on) ∙ mine), λ kept. sym same_flag ∙ is_old.1 (sym numbers ∙ (kept ∙ sym mine))))
+      (λ (ne : y ≢ x). old.old y other flag (sym (put_else same x y b ne) ∙ on) (sym (put_else made x y (Some sig) ne) ∙ there));
+  yet = λ y none. dite (ℕ_discrete y x)
+      (λ (here : y ≡ x).
+      let mine : Some sig ≡ None = one_value (Some sig) None (sym (put_here made x (Some sig) low) ∙ (ap (slice_get (set made x (Some sig))) (sym here) ∙ none)) in
+      absurd (let z : Some sig ≡ None = mine in cc))
+      (λ (ne : y ≢ x). put_else same x y b ne ∙ old.yet y (sym (put_else made x y (Some sig) ne) ∙ none));
 }
   where
+    small : x < length same
+    small = (let many = old.many in omega arith)
+
+-- at first all that are made are
+pub kept_are_old : (was : List Sig) (from : List (Option ℕ)) (merged : List ℕ) (made : List (Option Sig)) (same : List Bool) → AreKept was from merged made → same ≡ replicate (length made) true → AreOld was from made same
+kept_are_old was from merged made same kept all = record {
+  many = many;
+  old = λ x sig b on there. (λ is_on. go x sig there (names merged x) refl, λ is. is_true x b on);
+  yet = λ x none. let flag = get_there same x (let low = within_there made x None none in omega (arith, many, low)) in flag.1 ∙ ap Some (is_true x flag.0 flag.1);
+}
+  where
+    many : length same ≡ length made
+    many = ap length all ∙ length-replicate (length made) true
+
+    is_true : (x : ℕ) (b : Bool) → slice_get same x ≡ Some b → b ≡ true
+    is_true x b on = get-replicate (length made) x true b (ap (λ (l : List Bool). slice_get l x) (sym all) ∙ on)
+
     go : (x : ℕ) (sig : Sig) → slice_get made x ≡ Some (Some sig) → (b : Bool) → names merged x ≡ b → kept_in was (get_or from x None) ≡ Some sig
     go x sig there true named =
         let none = kept.anew x (let low = within_there made x (Some sig) there in let m = kept.many in omega arith) (named_has merged x named) in

@@ -3,6 +3,7 @@ ghost use Rattle.recheck_merging.specs.Affected.{PlansAreOfMerged};
 ghost use Rattle.recheck_merging.specs.Plans.{MembersAddUp};
 ghost use Rattle.recheck_merging.specs.Merging.{WavesMakeAll};
 ghost use Rattle.recheck_merging.specs.Keeping.{KeptAreRight};
+ghost use Rattle.recheck_merging.specs.Still.{KeptAreLeftAlone};
 
 /// The waves of a plan have as many members as the plan has modules.
 pub fn members_add_up()
@@ -25,3 +26,11 @@ pub fn waves_make_all()
 pub fn plans_are_of_merged()
     ensures { PlansAreOfMerged }
 {}
+
+/// A component of a wave has its old signatures, and is not merged, exactly where none of its members is touched and each module that they
+/// import has the signature that it had.
+pub fn kept_are_left_alone()
+    ensures { KeptAreLeftAlone }
+{
+    merged_signatures::a_job_tells_the_program();
+}

@@ -21,7 +21,7 @@ known_old was number sig b on known = (λ e. known on, λ old. refl)
 
 -- what a flag says of it
 pub said_old : (was : List Sig) (from : List (Option ℕ)) (now : List Sig) (same : List Bool) (x : ℕ) (sig mine : Sig) → AreOld was from (map Some now) same → x < length now → sig ≡ get_or now x sig → mine ≡ sig → get_or same x false ≡ true → IsOld was (get_or from x None) mine
-said_old was from now same x sig mine old low is_sig is on = go (get_or from x None) (old.old x mine (place_at same x false small ∙ ap Some on) (get_mapped Some now x mine (get_index now x sig low is_sig ∙ ap Some (sym is))))
+said_old was from now same x sig mine old low is_sig is on = go (get_or from x None) ((old.old x mine true (place_at same x false small ∙ ap Some on) (get_mapped Some now x mine (get_index now x sig low is_sig ∙ ap Some (sym is)))).0 refl)
   where
     small : x < length same
     small = (let many = old.many in let all = length_mapped Some now in omega arith)
