@@ -1,5 +1,5 @@
 -- The dependency lists are made, as the code has them.
-use Rattle.std.proofs.Common.{◌≡◌, ◌⊎◌, ℕ, ◌^◌, ◌<◌, Bool, List, [], All, length, Option, refl, sym, ap, ◌∙◌, subst, arith}
+use Rattle.std.proofs.Common.{◌≡◌, ◌⊎◌, ℕ, ◌^◌, ◌<◌, Bool, true, List, [], All, length, replicate, Option, refl, sym, ap, ◌∙◌, subst, arith}
 use Rattle.std.specs.Global.{Vec}
 use Rattle.flow_values.specs.Path as paths
 use Rattle.check_values.specs.Roots.{paths_of}
@@ -88,9 +88,9 @@ module _ (b : Base) (base : IsBase b) (listed : Listed) (root : Root) (from : Li
 
   pub is_merging : KeptAreRight → DiffersAreTouched → AreListed b listed.sources listed.relisted.items → IsRising listed.changed × ArePlaces (IsChanged b.was.sources listed.sources) (paths_in listed.sources) listed.changed
       → (edges : Vec (List ℕ)) (flags : Vec Bool) (plan : MergePlan) (slots : Vec (Option Sig)) (same : Vec Bool) (was : List Sig) → was ≡ b.was.signatures.items → IsPlanOf listed.sources touched plan
-      → (touched ≡ []) ⊎ AreImports (view_in listed.sources) (paths_in listed.sources) edges.items → keeping.AreKept was from plan.merged slots.items → AreMarksOf (length from) touched flags.items → length same.items ≡ length from
+      → (touched ≡ []) ⊎ AreImports (view_in listed.sources) (paths_in listed.sources) edges.items → keeping.AreKept was from plan.merged slots.items → AreMarksOf (length from) touched flags.items → same.items ≡ replicate (length from) true
       → IsMerging b (record { listed = listed; edges = edges; touched = flags; plan = plan; wave = 0; slots = slots; same = same })
-  is_merging right law are changed edges flags plan slots same was is_was planned imports kept marks many =
+  is_merging right law are changed edges flags plan slots same was is_was planned imports kept marks all =
       let mine : keeping.AreKept b.was.signatures.items b.from.items plan.merged slots.items =
       subst (λ (w : List Sig). keeping.AreKept w b.from.items plan.merged slots.items) is_was (subst (λ (f : List (Option ℕ)). keeping.AreKept was f plan.merged slots.items) is_from kept) in
       let m : Merging = record { listed = listed; edges = edges; touched = flags; plan = plan; wave = 0; slots = slots; same = same } in
@@ -103,6 +103,6 @@ module _ (b : Base) (base : IsBase b) (listed : Listed) (root : Root) (from : Li
         plan = plan_here plan planned;
         edges = subst (λ (l : List ℕ). (l ≡ []) ⊎ AreImports (view_in listed.sources) (paths_in listed.sources) edges.items) is_touched imports;
         merged = kept_merged b base listed.sources own_root sources listed.touched differs law right m (plan_here plan planned) mine refl;
-        same = kept_are_old b.was.signatures.items b.from.items plan.merged slots.items same.items mine (many ∙ (ap length is_from ∙ sym mine.many));
+        same = kept_are_old b.was.signatures.items b.from.items plan.merged slots.items same.items mine (all ∙ ap (λ (n : ℕ). replicate n true) (ap length is_from ∙ sym mine.many));
         low = omega arith;
       }

@@ -28,7 +28,7 @@ use Rattle.recheck_reach.specs.recheck_merging.specs.Plans.{IsPlanOf, IsPlanOfNo
 use Rattle.recheck_reach.specs.recheck_merging.specs.declared.planning.MergePlan.{MergePlan}
 use Rattle.recheck_reach.specs.recheck_merging.specs.Merging.{AreMergedTo, IsFilled, WavesMakeAll}
 use Rattle.recheck_reach.specs.recheck_merging.proofs.Imported.{low_path}
-use Rattle.recheck_reach.specs.recheck_merging.proofs.Mapped.{has_all, all_has}
+use Rattle.recheck_reach.specs.recheck_merging.proofs.Mapped.{has_all, all_has, rising_all}
 use Rattle.recheck_reach.specs.recheck_sources.specs.Parts.{TellsOthers}
 use Rattle.recheck_reach.specs.recheck_sources.specs.Changed.{IsChanged}
 use Rattle.recheck_reach.specs.Moved.{IsSameOutside}
@@ -183,3 +183,12 @@ nothing_touched touched t is on = empty touched t is on
 pub unmoved : UnmovedAreChanged → (s : Sources) (sigs : List Sig) (moved : List Bool) (changed all : List ℕ) (t : Bool) → (IsTrue t ↔ ((x : ℕ) × IsOn moved x)) → t ≡ false → IsRising changed → all ≡ changed → AreExactly (IsToCheckIn s sigs moved changed) all
 unmoved law s sigs moved changed all t tells off rising same =
     subst (AreExactly (IsToCheckIn s sigs moved changed)) (sym same) (law s sigs moved changed (λ x on. let z : true ≡ false = sym (tells.1 (x, on)) ∙ off in cc) rising)
+
+-- where as many changed as there are, all are to be checked
+pub all_changed : (s : Sources) (sigs : List Sig) (moved : List Bool) (changed view all : List ℕ) → IsRising changed → All (λ x. x < length s.root.modules) changed → view ≡ changed → length view ≡ length moved → length moved ≡ length s.root.modules → all ≡ view
+    → AreExactly (IsToCheckIn s sigs moved changed) all
+all_changed s sigs moved changed view all rising within same many modules copied = subst (AreExactly (IsToCheckIn s sigs moved changed)) (sym (copied ∙ same)) (record {
+  rising = rising;
+  sound = λ x has. inl has;
+  complete = λ x is. elim is [ inl has ↦ has | inr finds ↦ rising_all changed (length s.root.modules) x rising within (ap length (sym same) ∙ (many ∙ modules)) (low_path s x finds.1.path finds.1.at_path) ];
+})

@@ -22,7 +22,7 @@ use recheck_reach::{any_moved, checked_modules, moved_signatures};
 use std::alloc::Global;
 
 // Which modules are to be checked: those that changed, and where any signature moved, those that reach it. These are found among `leading`,
-// which has each module from which imports lead to one whose signature moved.
+// which has each module from which imports lead to one whose signature moved. Where all changed, as in a load, none is looked for.
 fn to_check(
     alloc: Global,
     listed: &Listed,
@@ -44,6 +44,10 @@ fn to_check(
 {
     reach_laws();
     let changed = listed.changed.as_slice();
+    if changed.len() == moved.len() {
+        let all = List::from_slice(alloc, changed)?;
+        return Ok(all);
+    }
     if any_moved(moved) {
         let sources = &listed.sources;
         return checked_modules(alloc, sources, signatures, moved, leading, edges, changed);

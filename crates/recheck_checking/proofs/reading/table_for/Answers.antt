@@ -8,14 +8,14 @@ use Rattle.recheck_merging.specs.check_phases.proofs.Merges.{many_lists}
 use Rattle.recheck_checking.proofs.Signed.{table_tells}
 use Rattle.recheck_checking.proofs.reading.table_for.Goals as goal
 
-pub reached_signatures-requires-clause-rising : goal.reached_signatures-requires-clause-rising
-reached_signatures-requires-clause-rising c = subst (λ (ms : List RootRow). IsRising (paths_of_rows ms)) (sym c.modules_of-modules.ensures) c.requires.sources.rising
+pub signatures_for-requires-clause-rising : goal.signatures_for-requires-clause-rising
+signatures_for-requires-clause-rising c = subst (λ (ms : List RootRow). IsRising (paths_of_rows ms)) (sym c.modules_of-modules.ensures) c.requires.sources.rising
 
-pub reached_signatures-requires-clause-many : goal.reached_signatures-requires-clause-many
-reached_signatures-requires-clause-many c = c.requires.many ∙ ap length (sym c.modules_of-modules.ensures)
+pub signatures_for-requires-clause-many : goal.signatures_for-requires-clause-many
+signatures_for-requires-clause-many c = c.requires.many ∙ ap length (sym c.modules_of-modules.ensures)
 
-pub reached_signatures-requires-clause-within : goal.reached_signatures-requires-clause-within
-reached_signatures-requires-clause-within c =
+pub signatures_for-requires-clause-within : goal.signatures_for-requires-clause-within
+signatures_for-requires-clause-within c =
     let many = ap length c.as_slice-lists.ensures.value ∙ many_lists c.args.sources.now c.requires.sources in
     subst (λ (n : ℕ). All (λ x. x < n) c.args.checked.now) (sym many) c.requires.within
 

@@ -1,4 +1,3 @@
-use Rattle.std.proofs.Common.{sym, ◌∙◌}
 use Rattle.recheck_run.proofs.Listing.{rising_here, few_here, from_here, fresh_here, parsed_here, kept_here, listed_few, touched_low, flags_low, plan_low, are_listed, is_merging}
 use Rattle.recheck_run.proofs.merging.list_all.Goals as goal
 
@@ -49,4 +48,4 @@ returns-clause-merging c =
     c.in_ok-listed.ensures.touched.1 c.args.parses.items c.in_ok-listed.ensures.parses c.requires.holds.1 c.in_ok-listed.ensures.relisted in
     is_merging c.args.base.now c.requires.base c.in_ok-listed.listed _ c.as_slice-from.result.now c.as_slice-touched.result.now c.in_ok-root.ensures c.as_slice-from.ensures.value c.as_slice-touched.ensures c.in_ok-listed.ensures.root c.in_ok-listed.ensures.sources
     c.in_ok-listed.ensures.touched.1 c.kept_are_right.ensures c.reach_laws.ensures.touched are c.in_ok-listed.ensures.changed _ _ _ _ _ c.as_slice-was.result.now c.as_slice-was.ensures.value c.in_ok-planned.ensures.plan c.in_ok-planned.ensures.edges
-    c.in_ok-slots.ensures c.in_ok-flags.ensures (sym c.in_ok-same.same.ok.0 ∙ c.in_ok-same.ensures.len)
+    c.in_ok-slots.ensures c.in_ok-flags.ensures (c.in_ok-same.ensures.items_if_clones_equal (λ y e. e))
