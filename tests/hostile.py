@@ -25,8 +25,8 @@ MORE = "--more" in sys.argv
 sys.argv = [word for word in sys.argv if word != "--more"]
 THREADS = 4 if MORE else 1  # which work at once, each with a stack and an arena of its own
 STACK, ARENA = 1 << 30, 128 << 20
-SECONDS = 20  # of a processor, for each time that the sources are checked
-MODULES, MANY, FEW_SECONDS = 1024, 4000, 12  # that the program takes where no word says more; that a case has; and what such a case takes at the most
+SECONDS = 60  # of a processor, for each time that the sources are checked: five times what it takes on a slow one
+MODULES, MANY, FEW_SECONDS = 1024, 4000, 20  # that the program takes where no word says more; that a case has; and what such a case takes at the most
 START, EACH = 32 << 20, 300  # bytes of memory at the most: those at the start, and those for each byte
 CASES = real_folders.CASES = []
 
